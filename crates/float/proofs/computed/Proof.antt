@@ -1,0 +1,20 @@
+-- `computed` meets its contract: 0 / 0 is the NaN.
+use mathlib.Core.Path.{_≡_, refl, sym, _∙_}
+use borrow.Author.Needs.{needs}
+use lib.Ieee.{nan, div, ofBits, binary64}
+use Rattle.float.proofs.Nan.{only-nan}
+use Rattle.float.proofs.computed.Statement.{statement}
+use Rattle.float.proofs.computed.Tie as tie
+
+zero-by-zero : div binary64 (ofBits binary64 0) (ofBits binary64 0) ≡ nan
+unfolding div ofBits
+zero-by-zero = refl
+
+returns : tie.Need-returns
+returns c = zero-by-zero ∙ sym (only-nan _ (c .if1 .taken))
+
+returns-2 : tie.Need-returns-2
+returns-2 c = search needs
+
+pub computed-spec : {M : Type 1} → statement M
+computed-spec = tie.close (tie.spec returns returns-2)
