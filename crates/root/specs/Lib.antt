@@ -1,1 +1,4 @@
+-- The definitions that the square root's contracts cite: the nearest whole number to a root, and the root of a float.
+pub mod Nearest
 pub mod Root
+pub mod Guesses

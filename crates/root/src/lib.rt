@@ -1,15 +1,34 @@
+// The square root of an f64, correctly rounded, worked out from bits: an estimate by float
+// arithmetic, and an exact test on whole numbers that steps the estimate until it holds.
 ghost use mathlib.Core.Path.{_≡_};
 ghost use mathlib.Core.List.{map};
 ghost use Rattle.root.specs.Root.{squareRoot};
 
-// The correctly rounded square root.
+// An estimate of a root's 53 digits, by float arithmetic.
+mod seed;
+// The exact test on whole numbers.
+mod whole;
+// From a float's bits to its root's.
+mod bits;
+// A row of at most 64 roots.
+mod row;
+
+// The correctly rounded square root: NaN for NaN or a negative number, -0 for -0, +infinity for
+// itself.
 pub fn sqrt(x: f64) -> f64
     ensures { λ r. ⌜ r ≡ squareRoot x ⌝ }
 {
-    x
+    bits::root_from(x, seed::seed(x))
 }
 
 // Each element becomes its correctly rounded square root.
 pub fn sqrt_row(xs: &mut [f64])
     ensures { λ _. ⌜ now (xs .exit) ≡ map squareRoot (now (xs .entry)) ⌝ }
-{}
+{
+    let mut at = 0;
+    while at < xs.len() {
+        let end = row::end_from(at, xs.len());
+        row::roots(&mut xs[at..end]);
+        at = end;
+    }
+}

@@ -1,0 +1,9 @@
+pub mod Squares
+pub mod NearestLaws
+pub mod WholeTests
+pub mod Patterns
+pub mod RootLaws
+pub mod Subnormal
+pub mod BitsRoots
+pub mod RowLaws
+pub mod GuessLaws
