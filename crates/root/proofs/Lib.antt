@@ -1,5 +1,6 @@
 pub mod Squares
 pub mod NearestLaws
+pub mod Neighbours
 pub mod WholeTests
 pub mod Patterns
 pub mod RootLaws
