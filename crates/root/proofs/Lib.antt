@@ -8,3 +8,4 @@ pub mod Subnormal
 pub mod BitsRoots
 pub mod RowLaws
 pub mod GuessLaws
+pub mod OnlyRoot
