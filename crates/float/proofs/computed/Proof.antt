@@ -1,14 +1,9 @@
 -- `computed` meets its contract: 0 / 0 is the NaN.
-use mathlib.Core.Path.{_≡_, refl, sym, _∙_}
+use mathlib.Core.Path.{_≡_, sym, _∙_}
 use borrow.Author.Needs.{needs}
-use lib.Ieee.{nan, div, ofBits, binary64}
-use Rattle.float.proofs.Nan.{only-nan}
+use Rattle.float.proofs.Nan.{only-nan, zero-by-zero}
 use Rattle.float.proofs.computed.Statement.{statement}
 use Rattle.float.proofs.computed.Tie as tie
-
-zero-by-zero : div binary64 (ofBits binary64 0) (ofBits binary64 0) ≡ nan
-unfolding div ofBits
-zero-by-zero = refl
 
 returns : tie.Need-returns
 returns c = zero-by-zero ∙ sym (only-nan _ (c .if1 .taken))
