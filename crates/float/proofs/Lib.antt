@@ -4,3 +4,4 @@ pub mod Sign
 pub mod Bits
 pub mod Count
 pub mod Whole
+pub mod Exact

@@ -86,7 +86,7 @@ above-most m e = by (eqb (m * up e % down e) 0)
 below-few : (f : Format) (s : Bool) (m k : ℕ) → T (fits f (fin s m (negsuc k))) → wholeBelow m (negsuc k) < 2 ^ prec f
 below-few f s m k fit = omega (arith, div-le-self (m * 1) (2 ^ suc k), digits f s m (negsuc k) fit .few)
 
-exact-below : (f : Format) (s t : Bool) (m : ℕ) (e : ℤ) → T (fits f (fin s m e)) → HasValue (round f t (wholeBelow m e) 1) t (wholeBelow m e) 1
+pub exact-below : (f : Format) (s t : Bool) (m : ℕ) (e : ℤ) → T (fits f (fin s m e)) → HasValue (round f t (wholeBelow m e) 1) t (wholeBelow m e) 1
 exact-below f s t m (pos k) fit =
     round-exact f t (wholeBelow m (pos k)) 1 m (k + low f) (omega arith) (digits f s m (pos k) fit .few)
     (rw (pow-add 2 k (low f), ← mul-assoc m (2 ^ k) (2 ^ low f), add-comm (low f) (suc (emax f))) (shl-lt (suc (emax f)) (low f) reach))
@@ -96,7 +96,7 @@ exact-below f s t m (pos k) fit =
     reach = rw mul-one at (digits f s m (pos k) fit .most)
 exact-below f s t m (negsuc k) fit = round-whole f t (wholeBelow m (negsuc k)) (omega (arith, below-few f s m k fit))
 
-exact-above : (f : Format) (s t : Bool) (m : ℕ) (e : ℤ) → T (fits f (fin s m e)) → HasValue (round f t (wholeAbove m e) 1) t (wholeAbove m e) 1
+pub exact-above : (f : Format) (s t : Bool) (m : ℕ) (e : ℤ) → T (fits f (fin s m e)) → HasValue (round f t (wholeAbove m e) 1) t (wholeAbove m e) 1
 exact-above f s t m (pos k) fit = rw (above-whole m (pos k) (omega arith)) (exact-below f s t m (pos k) fit)
 exact-above f s t m (negsuc k) fit = round-whole f t (wholeAbove m (negsuc k)) (omega (arith, below-few f s m k fit, above-most m (negsuc k)))
 
@@ -191,7 +191,7 @@ whole-test (fin false m' e') n m e value =
     let same : m' * up e' ≡ n * down e' = sym (mul-one (m' * up e')) ∙ value .1 in
     rw (same, mul-right-comm n (down e') (down e)) (scaled-test (n * down e) (m * up e) (down e') (down-pos e'))
 
-above-zero : (n : ℕ) → (n ≡ 0 → ⊥) → 0 < n
+pub above-zero : (n : ℕ) → (n ≡ 0 → ⊥) → 0 < n
 above-zero zero other = absurd (other refl)
 above-zero (suc n) other = omega arith
 

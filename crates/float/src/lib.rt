@@ -67,10 +67,7 @@ pub fn min(a: f64, b: f64) -> f64
     if b != b {
         return a;
     }
-    if a != a {
-        return b;
-    }
-    if b < a { b } else { a }
+    if a != a || b < a { b } else { a }
 }
 
 pub fn max(a: f64, b: f64) -> f64
@@ -79,10 +76,7 @@ pub fn max(a: f64, b: f64) -> f64
     if b != b {
         return a;
     }
-    if a != a {
-        return b;
-    }
-    if b > a { b } else { a }
+    if a != a || b > a { b } else { a }
 }
 
 // ---- bits
