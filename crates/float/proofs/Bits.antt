@@ -1,6 +1,6 @@
 -- Bit patterns: there and back, and the test for a NaN's.
 use mathlib.Core.Path.{_≡_, refl, sym, ap, _∙_, subst}
-use Prim.Native.Nat.{ℕ, _-_, _%_, _^_, _<_}
+use Prim.Native.Nat.{ℕ, _-_, _^_, _<_}
 use mathlib.Core.Bool.{true, not, false≢true}
 use lib.Bits.{bitAnd, and-mask}
 use lib.Dec.{T, ltb}

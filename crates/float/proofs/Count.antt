@@ -1,5 +1,4 @@
 -- A count is its float exactly, up to 2 ^ 53.
-use mathlib.Core.Path.{_≡_}
 use Prim.Native.Nat.{ℕ, _^_, _≤_}
 use mathlib.Core.Bool.{false}
 use lib.IntN.{pos}

@@ -2,7 +2,7 @@
 -- number's own, the fraction m * up e / down e: n ≤ size < n + 1 (`Below`) where the result lies toward zero, n - 1 < size ≤ n (`Above`) where it lies away.
 -- So the floor is not above the number, which is below the floor plus 1, and the ceiling the other way round.
 use mathlib.Core.Path.{_≡_, refl, sym, ap, _∙_}
-use Prim.Native.Nat.{ℕ, suc, _+_, _*_, _/_, _%_, _≤_, _<_}
+use Prim.Native.Nat.{ℕ, suc, _+_, _*_, _%_, _≤_, _<_}
 use native.Mathlib.Nat.{div-add-mod', mod-lt}
 use native.Mathlib.Omega.{arith}
 use mathlib.Core.Bool.{Bool, true, false, cond, Bool·not-not}

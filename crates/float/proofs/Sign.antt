@@ -1,14 +1,13 @@
 -- The sign is the bit of weight 2 ^ 63, and the bits below it are those of the size.
-use mathlib.Core.Path.{_≡_, refl, sym, ap, _∙_, subst}
-use Prim.Native.Nat.{ℕ, _+_, _-_, _%_, _^_, _<_}
+use mathlib.Core.Path.{_≡_, refl, sym, ap, _∙_}
+use Prim.Native.Nat.{_+_, _-_, _%_, _^_, _<_}
 use native.Mathlib.Omega.{arith}
-use mathlib.Core.Bool.{Bool, true, false, not, cond}
+use mathlib.Core.Bool.{Bool, true, false, cond}
 use borrow.Author.Tests.{le-leb, lt-leb}
-use lib.IntN.{ℤ}
 use lib.Bits.{bitAnd, and-mask}
 use lib.Dec.{T, leb}
-use lib.Ieee.{Float, nan, inf, fin, binary64, fits, isNan, nanBits, neg, ofBits, toBits}
-use lib.Ieee.Bits.{ofBits-toBits, toBits-lt, nanBits-is}
+use lib.Ieee.{Float, nan, inf, fin, binary64, fits, neg, ofBits, toBits}
+use lib.Ieee.Bits.{ofBits-toBits, toBits-lt}
 use lib.Ieee.Fits.{inf-fits, neg-fits}
 use Rattle.float.specs.Sign.{absOf, negative}
 
@@ -25,12 +24,6 @@ abs-positive nan = refl
 abs-positive (inf s) = refl
 abs-positive (fin s m e) = refl
 
-pub abs-number : (x : Float) → isNan (absOf x) ≡ isNan x
-unfolding absOf isNan
-abs-number nan = refl
-abs-number (inf s) = refl
-abs-number (fin s m e) = refl
-
 pub abs-plus : (x : Float) → negative x ≡ false → absOf x ≡ x
 unfolding absOf negative
 abs-plus nan plus = refl
@@ -43,40 +36,33 @@ neg-abs nan minus = refl
 neg-abs (inf s) minus = ap inf (sym minus)
 neg-abs (fin s m e) minus = ap (λ t. fin t m e) (sym minus)
 
--- a number's bits: the sign's, and those of the size below it
+-- the bits are the sign's, and below it those of the size
 pub record SignBit (x : Float) : Type 0 where
   pub split : toBits binary64 x ≡ cond (negative x) (2 ^ 63) 0 + toBits binary64 (absOf x)
   pub low : toBits binary64 (absOf x) < 2 ^ 63
 
-pub sign-bit : (x : Float) → T (fits binary64 x) → T (not (isNan x)) → SignBit x
-unfolding absOf negative isNan toBits neg
-sign-bit nan f number = absurd number
-sign-bit (inf false) f number = record { split = refl; low = omega arith }
-sign-bit (inf true) f number = record { split = refl; low = omega arith }
-sign-bit (fin false m e) f number = record { split = omega arith; low = omega (arith, toBits-lt binary64 (fin true m e) (neg-fits binary64 (fin false m e) f)) }
-sign-bit (fin true m e) f number = record { split = omega arith; low = omega (arith, toBits-lt binary64 (fin true m e) f) }
+pub sign-bit : (x : Float) → T (fits binary64 x) → SignBit x
+unfolding absOf negative toBits neg
+sign-bit nan f = record { split = refl; low = omega arith }
+sign-bit (inf false) f = record { split = refl; low = omega arith }
+sign-bit (inf true) f = record { split = refl; low = omega arith }
+sign-bit (fin false m e) f = record { split = omega arith; low = omega (arith, toBits-lt binary64 (fin true m e) (neg-fits binary64 (fin false m e) f)) }
+sign-bit (fin true m e) f = record { split = omega arith; low = omega (arith, toBits-lt binary64 (fin true m e) f) }
 
-pub negative-test : (x : Float) → T (fits binary64 x) → T (not (isNan x)) → leb (2 ^ 63) (toBits binary64 x) ≡ negative x
-negative-test x f number = by (negative x) (sign-bit x f number .split)
+pub negative-test : (x : Float) → T (fits binary64 x) → leb (2 ^ 63) (toBits binary64 x) ≡ negative x
+negative-test x f = by (negative x) (sign-bit x f .split)
   where
     by : (s : Bool) → toBits binary64 x ≡ cond s (2 ^ 63) 0 + toBits binary64 (absOf x) → leb (2 ^ 63) (toBits binary64 x) ≡ s
     by true e = le-leb (2 ^ 63) (toBits binary64 x) (omega arith)
-    by false e = lt-leb (2 ^ 63) (toBits binary64 x) (omega (arith, sign-bit x f number .low))
+    by false e = lt-leb (2 ^ 63) (toBits binary64 x) (omega (arith, sign-bit x f .low))
 
-pub cleared : (x : Float) → T (fits binary64 x) → T (not (isNan x)) → bitAnd (toBits binary64 x) (2 ^ 63 - 1) ≡ toBits binary64 (absOf x)
-cleared x f number = and-mask (toBits binary64 x) 63 ∙ by (negative x) (sign-bit x f number .split)
+pub cleared : (x : Float) → T (fits binary64 x) → bitAnd (toBits binary64 x) (2 ^ 63 - 1) ≡ toBits binary64 (absOf x)
+cleared x f = and-mask (toBits binary64 x) 63 ∙ by (negative x) (sign-bit x f .split)
   where
     by : (s : Bool) → toBits binary64 x ≡ cond s (2 ^ 63) 0 + toBits binary64 (absOf x) → toBits binary64 x % 2 ^ 63 ≡ toBits binary64 (absOf x)
-    by true e = omega (arith, sign-bit x f number .low)
-    by false e = omega (arith, sign-bit x f number .low)
+    by true e = omega (arith, sign-bit x f .low)
+    by false e = omega (arith, sign-bit x f .low)
 
--- a number with the sign's bit cleared is its size
-module _ (x : Float) (f : T (fits binary64 x)) (number : T (not (isNan x))) where
-  back : ofBits binary64 (toBits binary64 (absOf x)) ≡ absOf x
-  back = ofBits-toBits binary64 (absOf x) (abs-fits x f)
-
-  pub cleared-abs : ofBits binary64 (bitAnd (toBits binary64 x) (2 ^ 63 - 1)) ≡ absOf x
-  cleared-abs = rw (cleared x f number) back
-
-  pub cleared-number : T (not (nanBits binary64 (bitAnd (toBits binary64 x) (2 ^ 63 - 1))))
-  cleared-number = rw (cleared x f number, nanBits-is binary64 (toBits binary64 (absOf x)), back, abs-number x) number
+-- a value with the sign's bit cleared is its size
+pub cleared-abs : (x : Float) → T (fits binary64 x) → ofBits binary64 (bitAnd (toBits binary64 x) (2 ^ 63 - 1)) ≡ absOf x
+cleared-abs x f = rw (cleared x f) (ofBits-toBits binary64 (absOf x) (abs-fits x f))

@@ -1,18 +1,18 @@
 -- Floor and ceiling: exact, and what their code computes.
-use mathlib.Core.Path.{_≡_, refl, sym, ap, _∙_, subst}
-use Prim.Native.Nat.{ℕ, zero, suc, _+_, _*_, _/_, _%_, _^_, _≤_, _<_, min}
+use mathlib.Core.Path.{_≡_, refl, sym, ap, _∙_}
+use Prim.Native.Nat.{ℕ, zero, suc, _+_, _*_, _%_, _^_, _≤_, _<_}
 use native.Mathlib.Nat.{min-eq-left, mul-le-mul-right, mul-lt-mul-of-pos-right, mul-right-comm, add-comm, div-one, div-le-self, mul-one, zero-mul, mul-pos, mul-assoc, pow-succ', div-add-mod', div-lt-iff-lt-mul}
 use native.Mathlib.Numerals.{add-one}
 use native.Mathlib.Omega.{arith}
-use mathlib.Core.Bool.{Bool, true, false, not, cond, _&&_, true≢false, false≢true}
-use borrow.Author.Tests.{ltb-true, ltb-false, lt-ltb, le-ltb, eq-eqb, ne-eqb, eqb-true, eqb-false}
+use mathlib.Core.Bool.{Bool, true, false, not, cond, _&&_, true≢false}
+use borrow.Author.Tests.{ltb-true, ltb-false, lt-ltb, le-ltb, eq-eqb, eqb-true, eqb-false}
 use lib.IntN.{ℤ, pos, negsuc}
 use lib.Dec.{T, leb, ltb, eqb, ltb→lt, lt→ltb}
 use lib.Pow.{pow-add, pow-pos, shl-lt}
 use lib.Ieee.{Float, nan, inf, fin, Format, binary64, prec, emax, low, up, down, odd, units, round, neg, lt, fits, ofInt, toUnsigned}
 use lib.Ieee.Back.{round-whole, whole-unique}
 use lib.Ieee.Exact.{HasValue, round-exact}
-use lib.Ieee.Fits.{up-pos, down-pos, and-l, and-r, round-fits, nan-fits, inf-fits}
+use lib.Ieee.Fits.{down-pos, and-l, and-r, round-fits}
 use Rattle.float.proofs.Count.{count-exact}
 use Rattle.float.proofs.Sign.{neg-abs}
 use Rattle.float.specs.Sign.{absOf, negative}

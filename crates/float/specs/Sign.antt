@@ -1,5 +1,5 @@
 -- The sign of a value, and the value without it. A zero has a sign, a NaN has none.
-use mathlib.Core.Bool.{Bool, true, false}
+use mathlib.Core.Bool.{Bool, false}
 use lib.Ieee.{Float, nan, inf, fin}
 
 -- |x|: document 01's "|v| < limit". |-0| is +0, and a NaN stays one.

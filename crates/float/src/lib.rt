@@ -39,10 +39,7 @@ pub fn is_finite(x: f64) -> bool
 pub fn is_negative(x: f64) -> bool
     ensures { λ r. ⌜ r ≡ negative x ⌝ }
 {
-    if x != x {
-        return false;
-    }
-    f64::to_bits(x) >= 0x8000_0000_0000_0000
+    to_bits(x) >= 0x8000_0000_0000_0000
 }
 
 // a < b. -0 and +0 are equal, and a NaN is in no order.
@@ -107,10 +104,7 @@ pub fn to_bits(x: f64) -> u64
 pub fn abs(x: f64) -> f64
     ensures { λ r. ⌜ r ≡ absOf x ⌝ }
 {
-    if x != x {
-        return 0.0 / 0.0;
-    }
-    f64::from_bits(f64::to_bits(x) & 0x7fff_ffff_ffff_ffff)
+    from_bits(to_bits(x) & 0x7fff_ffff_ffff_ffff)
 }
 
 // The float nearest to n. It is n itself up to 2^53.

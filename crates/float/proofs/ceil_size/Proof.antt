@@ -1,5 +1,5 @@
 -- `ceil_size` meets its contract: one more than the whole part where that is below the size.
-use mathlib.Core.Path.{_≡_, _∙_}
+use mathlib.Core.Path.{_∙_}
 use mathlib.Core.Bool.{true, false}
 use native.Mathlib.Omega.{arith}
 use borrow.Author.Needs.{needs}

@@ -1,5 +1,5 @@
 -- `computed` meets its contract: 0 / 0 is the NaN.
-use mathlib.Core.Path.{_≡_, sym, _∙_}
+use mathlib.Core.Path.{sym, _∙_}
 use borrow.Author.Needs.{needs}
 use Rattle.float.proofs.Nan.{only-nan, zero-by-zero}
 use Rattle.float.proofs.computed.Statement.{statement}

@@ -1,5 +1,5 @@
 -- `floor` meets its contract: by the sign below 2 ^ 52, and the value as it is from there on.
-use mathlib.Core.Path.{_≡_, sym, ap, _∙_, subst}
+use mathlib.Core.Path.{sym, ap, _∙_, subst}
 use borrow.Author.Needs.{needs}
 use lib.Dec.{T}
 use lib.Ieee.{neg, ofBits}

@@ -1,5 +1,5 @@
 -- `floor_size` meets its contract: the whole part, as a float again.
-use mathlib.Core.Path.{_≡_, ap, _∙_}
+use mathlib.Core.Path.{ap, _∙_}
 use borrow.Author.Needs.{needs}
 use lib.IntN.{pos}
 use lib.Ieee.{binary64, ofInt}

@@ -1,5 +1,5 @@
 -- `is_finite` meets its contract: 1 / 0 and -1 / 0 are the infinities.
-use mathlib.Core.Path.{_≡_, _∙_}
+use mathlib.Core.Path.{_∙_}
 use lib.Ieee.{div, neg, ofBits}
 use Rattle.float.proofs.Finite.{above-lowest, lowest}
 use Rattle.float.proofs.is_finite.Statement.{statement}

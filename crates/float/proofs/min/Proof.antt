@@ -1,5 +1,5 @@
 -- `min` meets its contract: each return is the operand that its tests pick.
-use mathlib.Core.Path.{_≡_, sym, _∙_}
+use mathlib.Core.Path.{sym, _∙_}
 use mathlib.Core.Bool.{true≢false}
 use mathlib.Core.Logic.{⊎-elim}
 use Rattle.float.specs.Select.{minOf}

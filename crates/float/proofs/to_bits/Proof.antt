@@ -1,5 +1,5 @@
 -- `to_bits` meets its contract.
-use mathlib.Core.Path.{_≡_, sym, ap, _∙_}
+use mathlib.Core.Path.{sym, ap, _∙_}
 use borrow.Author.Needs.{needs}
 use lib.Ieee.{binary64, toBits}
 use Rattle.float.proofs.Bits.{nan-pattern}
