@@ -6,8 +6,8 @@ use borrow.Author.Tests.{lt-ltb, le-ltb}
 use lib.Dec.{T}
 use Rattle.float.proofs.Bits.{nan-test, nan-value}
 use Rattle.float.proofs.Nan.{zero-by-zero}
-use Rattle.float.proofs.from_bits.Statement.{statement}
-use Rattle.float.proofs.from_bits.Tie as tie
+use Rattle.float.proofs.pattern.from_bits.Statement.{statement}
+use Rattle.float.proofs.pattern.from_bits.Tie as tie
 
 returns : tie.Need-returns
 returns c = zero-by-zero ∙ sym (nan-value _ (sym (nan-test _) ∙ lt-ltb _ _ (c .if1 .taken)))

@@ -7,8 +7,8 @@ use Rattle.float.specs.Sign.{negative}
 use Rattle.float.specs.Whole.{floorOf, ceilOf}
 use Rattle.float.proofs.Sign.{abs-positive, abs-plus}
 use Rattle.float.proofs.Whole.{ceil-minus, ceil-large}
-use Rattle.float.proofs.ceil.Statement.{statement}
-use Rattle.float.proofs.ceil.Tie as tie
+use Rattle.float.proofs.rounding.ceil.Statement.{statement}
+use Rattle.float.proofs.rounding.ceil.Tie as tie
 
 abs-requires : tie.Need-abs-requires
 abs-requires c κs = search needs

@@ -4,8 +4,8 @@ use borrow.Author.Needs.{needs}
 use lib.Ieee.{binary64, toBits}
 use Rattle.float.proofs.Bits.{nan-pattern}
 use Rattle.float.proofs.Nan.{only-nan, no-nan}
-use Rattle.float.proofs.to_bits.Statement.{statement}
-use Rattle.float.proofs.to_bits.Tie as tie
+use Rattle.float.proofs.pattern.to_bits.Statement.{statement}
+use Rattle.float.proofs.pattern.to_bits.Tie as tie
 
 returns : tie.Need-returns
 returns c = sym (ap (toBits binary64) (only-nan _ (c .if1 .taken)) ∙ nan-pattern)

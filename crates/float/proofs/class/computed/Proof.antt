@@ -2,8 +2,8 @@
 use mathlib.Core.Path.{sym, _∙_}
 use borrow.Author.Needs.{needs}
 use Rattle.float.proofs.Nan.{only-nan, zero-by-zero}
-use Rattle.float.proofs.computed.Statement.{statement}
-use Rattle.float.proofs.computed.Tie as tie
+use Rattle.float.proofs.class.computed.Statement.{statement}
+use Rattle.float.proofs.class.computed.Tie as tie
 
 returns : tie.Need-returns
 returns c = zero-by-zero ∙ sym (only-nan _ (c .if1 .taken))

@@ -5,8 +5,8 @@ use borrow.Author.Needs.{needs}
 use lib.Bits.{bitAnd}
 use lib.Ieee.{binary64, ofBits}
 use Rattle.float.proofs.Sign.{cleared-abs}
-use Rattle.float.proofs.abs.Statement.{statement}
-use Rattle.float.proofs.abs.Tie as tie
+use Rattle.float.proofs.pattern.abs.Statement.{statement}
+use Rattle.float.proofs.pattern.abs.Tie as tie
 
 to-bits-requires : tie.Need-to-bits-requires
 to-bits-requires c κs = search needs

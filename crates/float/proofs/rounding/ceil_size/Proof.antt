@@ -4,8 +4,8 @@ use mathlib.Core.Bool.{true, false}
 use native.Mathlib.Omega.{arith}
 use borrow.Author.Needs.{needs}
 use Rattle.float.proofs.Whole.{in-range, whole-small, ceil-by-test}
-use Rattle.float.proofs.ceil_size.Statement.{statement}
-use Rattle.float.proofs.ceil_size.Tie as tie
+use Rattle.float.proofs.rounding.ceil_size.Statement.{statement}
+use Rattle.float.proofs.rounding.ceil_size.Tie as tie
 
 truncating-f64-to-u64-requires : tie.Need-truncating-f64-to-u64-requires
 truncating-f64-to-u64-requires c κs = in-range _ (c .pre .0) (c .pre .1)

@@ -4,8 +4,8 @@ use Prim.Native.Nat.{_^_}
 use borrow.Author.Needs.{needs}
 use lib.Dec.{leb}
 use Rattle.float.proofs.Sign.{negative-test}
-use Rattle.float.proofs.is_negative.Statement.{statement}
-use Rattle.float.proofs.is_negative.Tie as tie
+use Rattle.float.proofs.class.is_negative.Statement.{statement}
+use Rattle.float.proofs.class.is_negative.Tie as tie
 
 to-bits-requires : tie.Need-to-bits-requires
 to-bits-requires c κs = search needs

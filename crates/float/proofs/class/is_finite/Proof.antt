@@ -2,8 +2,8 @@
 use mathlib.Core.Path.{_∙_}
 use lib.Ieee.{div, neg, ofBits}
 use Rattle.float.proofs.Finite.{above-lowest, lowest}
-use Rattle.float.proofs.is_finite.Statement.{statement}
-use Rattle.float.proofs.is_finite.Tie as tie
+use Rattle.float.proofs.class.is_finite.Statement.{statement}
+use Rattle.float.proofs.class.is_finite.Tie as tie
 
 returns : tie.Need-returns
 unfolding div neg ofBits

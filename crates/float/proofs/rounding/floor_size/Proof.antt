@@ -4,8 +4,8 @@ use borrow.Author.Needs.{needs}
 use lib.IntN.{pos}
 use lib.Ieee.{binary64, ofInt}
 use Rattle.float.proofs.Whole.{in-range, floor-size}
-use Rattle.float.proofs.floor_size.Statement.{statement}
-use Rattle.float.proofs.floor_size.Tie as tie
+use Rattle.float.proofs.rounding.floor_size.Statement.{statement}
+use Rattle.float.proofs.rounding.floor_size.Tie as tie
 
 truncating-f64-to-u64-requires : tie.Need-truncating-f64-to-u64-requires
 truncating-f64-to-u64-requires c κs = in-range _ (c .pre .0) (c .pre .1)
