@@ -1,0 +1,11 @@
+-- Document 01, cause 2: "block size not 2, 4, 8, 16, 32 or 64".
+use Prim.Native.Nat.{ℕ, _*_}
+use mathlib.Core.Bool.{Bool, _||_}
+use lib.Dec.{eqb}
+
+unfoldable pub isBlock : ℕ → Bool
+isBlock n = eqb n 2 || eqb n 4 || eqb n 8 || eqb n 16 || eqb n 32 || eqb n 64
+
+-- n³
+abbrev pub cube : ℕ → ℕ
+cube n = n * n * n

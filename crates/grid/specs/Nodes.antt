@@ -1,0 +1,35 @@
+-- Document 01, "Sparse field": how large a node is, and how many there are.
+use Prim.Native.Nat.{ℕ, _-_, _*_, max}
+use lib.IntN.{pos}
+use lib.Ieee.{Float, binary64, sub, mul, div, ofInt, toUnsigned}
+use Rattle.float.specs.Whole.{ceilOf}
+use Rattle.geometry.specs.declared.Vec3i.{Vec3i}
+use Rattle.geometry.specs.Values.{vec3i}
+use Rattle.grid.specs.declared.Grid.{Grid}
+
+-- a count as a float
+abbrev pub asFloat : ℕ → Float
+asFloat n = ofInt binary64 (pos n)
+
+-- "Node size s = cell × (n × (L - 1))."
+unfoldable pub nodeSize : (cell : Float) (n l : ℕ) → Float
+nodeSize cell n l = mul binary64 cell (asFloat (n * (l - 1)))
+
+-- "Nodes per axis: ceiling(extent / s), at least 1." A quotient past 64 bits counts as 2 ^ 64 - 1.
+unfoldable pub nodesAlong : (least most s : Float) → ℕ
+nodesAlong least most s = max 1 (toUnsigned 64 (ceilOf (div binary64 (sub binary64 most least) s)))
+
+-- the grid's node size, and its nodes along each axis
+abbrev pub sizeOf : Grid → Float
+sizeOf g = nodeSize (g .cell) (g .inner) (g .leaf)
+
+unfoldable pub nodeCounts : Grid → Vec3i
+nodeCounts g =
+    vec3i
+    (nodesAlong (g .bounds .min .x) (g .bounds .max .x) (sizeOf g))
+    (nodesAlong (g .bounds .min .y) (g .bounds .max .y) (sizeOf g))
+    (nodesAlong (g .bounds .min .z) (g .bounds .max .z) (sizeOf g))
+
+-- all of them
+unfoldable pub nodesOf : Grid → ℕ
+nodesOf g = let n = nodeCounts g in n .i * n .j * n .k

@@ -1,0 +1,39 @@
+-- Document 01, "Sparse field": which active children become constants, and which number a constant is.
+use Prim.Native.Nat.{ℕ}
+use mathlib.Core.Bool.{Bool, _||_}
+use mathlib.Core.List.{List, [], _∷_}
+use lib.IntN.{pos}
+use lib.Ieee.{Float, binary64, add, sub, div, lt, ofBits}
+use Rattle.float.specs.Select.{minOf, maxOf}
+use Rattle.geometry.specs.declared.BoundingBox.{BoundingBox}
+use Rattle.geometry.specs.Distance.{distanceOf}
+use Rattle.grid.specs.Nodes.{asFloat}
+
+abbrev pub plusZero : Float
+plusZero = ofBits binary64 0
+
+-- "h = distance(child min, child max) / 2."
+unfoldable pub halfDiagonal : BoundingBox → Float
+halfDiagonal b = div binary64 (distanceOf (b .min) (b .max .x) (b .max .y) (b .max .z)) (asFloat 2)
+
+-- a value of each element in turn, from the left
+unfoldable pub folded : (Float → Float → Float) → Float → List Float → Float
+folded f a [] = a
+folded f a (x ∷ l) = folded f (f a x) l
+
+-- "lo and hi the min and max over the octet from its first value"
+unfoldable pub lowest : List Float → Float
+lowest [] = plusZero
+lowest (c0 ∷ rest) = folded minOf c0 rest
+
+unfoldable pub highest : List Float → Float
+highest [] = plusZero
+highest (c0 ∷ rest) = folded maxOf c0 rest
+
+-- "constant exactly when hi + h < min_val or lo - h > max_val, else a leaf": one band, lo, hi and h
+unfoldable pub pruned : (least most lo hi h : Float) → Bool
+pruned least most lo hi h = lt (add binary64 hi h) least || lt most (sub binary64 lo h)
+
+-- "A constant is (0 + c0 + .. + c7) / 8, added in that order."
+unfoldable pub average : List Float → Float
+average octet = div binary64 (folded (add binary64) plusZero octet) (asFloat 8)
