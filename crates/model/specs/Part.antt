@@ -4,9 +4,7 @@ use mathlib.Core.Bool.{Bool, true, _&&_}
 use mathlib.Core.List.{List}
 use lib.ListN.{getD}
 use lib.Dec.{ltb}
-use lib.IntN.{pos}
-use lib.Ieee.{Float, fin, binary64, add, sub, mul, neg}
-use mathlib.Core.Bool.{false}
+use lib.Ieee.{Float, binary64, ofBits, add, sub, mul, neg}
 use Rattle.float.specs.Select.{minOf, maxOf}
 use Rattle.geometry.specs.declared.Vec3.{Vec3}
 use Rattle.geometry.specs.Distance.{distanceOf}
@@ -14,9 +12,9 @@ use Rattle.model.specs.declared.Part.{Part}
 use Rattle.model.specs.declared.Part.the-variants.{Constant, Sphere, Plane, Min, Max, Add, Sub, Neg}
 use Rattle.model.specs.declared.ModelComponent.{ModelComponent}
 
--- +0
+-- +0, the float whose bits are all 0
 abbrev pub plusZero : Float
-plusZero = fin false 0 (pos 0)
+plusZero = ofBits binary64 0
 
 -- the part that an element of a model's array wraps
 abbrev pub partIn : ModelComponent → Part

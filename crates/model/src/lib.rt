@@ -6,8 +6,11 @@ ghost use mathlib.Core.List.{map};
 ghost use Prim.Native.Nat.{_≤_};
 ghost use lib.Dec.{ltb};
 ghost use Rattle.model.specs.Part.{partIn, inputsBelow};
+ghost use Rattle.model.specs.Flat.{flat, layoutOf};
 ghost use Rattle.model.specs.Model.{orderedTo, refusedByFour};
 use geometry::Vec3;
+
+mod laid; // laid.rt: a part's places in the flat arrays
 
 // The most parts that a model has.
 pub const MOST_PARTS: usize = 64;
@@ -93,4 +96,21 @@ pub fn cause_four(model: ImplicitModel) -> bool
     }
     let parts = model.parts;
     !ordered(parts, count)
+}
+
+// Lays a model's parts out in seven arrays, whole: for each part its code, its inputs and its numbers.
+pub fn lay_out(
+    model: ImplicitModel,
+    codes: &mut [u32; 64],
+    firsts: &mut [u32; 64],
+    seconds: &mut [u32; 64],
+    xs: &mut [f64; 64],
+    ys: &mut [f64; 64],
+    zs: &mut [f64; 64],
+    ws: &mut [f64; 64],
+)
+    ensures { λ _. ⌜ flat (now (codes .exit)) (now (firsts .exit)) (now (seconds .exit)) (now (xs .exit)) (now (ys .exit)) (now (zs .exit)) (now (ws .exit)) ≡ layoutOf (map partIn (model .parts)) ⌝ }
+{
+    let parts = model.parts;
+    laid::lay_parts(parts, codes, firsts, seconds, xs, ys, zs, ws);
 }
