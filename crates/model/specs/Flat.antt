@@ -6,7 +6,7 @@ use lib.ListN.{getD}
 use lib.Ieee.{Float}
 use Rattle.geometry.specs.declared.Vec3.{Vec3}
 use Rattle.geometry.specs.Values.{vec3}
-use Rattle.model.specs.Part.{plusZero, inputsBelow}
+use Rattle.model.specs.Part.{plusZero, past, inputsBelow}
 use Rattle.model.specs.Tabulate.{tabulate}
 use Rattle.model.specs.declared.Part.{Part}
 use Rattle.model.specs.declared.Part.the-variants.{Constant, Sphere, Plane, Min, Max, Add, Sub, Neg}
@@ -99,8 +99,8 @@ unfoldable pub partAt : Flat → ℕ → Part
 partAt l p =
     placed p
     (partFrom (getD (l .codes) p 0)
-    (vec3 (getD (l .xs) p plusZero) (getD (l .ys) p plusZero) (getD (l .zs) p plusZero))
-    (getD (l .ws) p plusZero)
+    (vec3 (getD (l .xs) p past) (getD (l .ys) p past) (getD (l .zs) p past))
+    (getD (l .ws) p past)
     (getD (l .firsts) p 0)
     (getD (l .seconds) p 0))
 

@@ -4,7 +4,7 @@ use mathlib.Core.Bool.{Bool, true, _&&_}
 use mathlib.Core.List.{List}
 use lib.ListN.{getD}
 use lib.Dec.{ltb}
-use lib.Ieee.{Float, binary64, ofBits, add, sub, mul, neg}
+use lib.Ieee.{Float, nan, binary64, ofBits, add, sub, mul, neg}
 use Rattle.float.specs.Select.{minOf, maxOf}
 use Rattle.geometry.specs.declared.Vec3.{Vec3}
 use Rattle.geometry.specs.Distance.{distanceOf}
@@ -15,6 +15,10 @@ use Rattle.model.specs.declared.ModelComponent.{ModelComponent}
 -- +0, the float whose bits are all 0
 abbrev pub plusZero : Float
 plusZero = ofBits binary64 0
+
+-- what is read past the end of a list, where no input of a model in order reads
+abbrev pub past : Float
+past = nan
 
 -- the part that an element of a model's array wraps
 abbrev pub partIn : ModelComponent → Part
@@ -37,11 +41,11 @@ unfoldable pub partValue : Part → (x y z : Float) → List Float → Float
 partValue (Constant w) x y z values = w
 partValue (Sphere centre r) x y z values = sphereValue centre r x y z
 partValue (Plane n d) x y z values = planeValue n d x y z
-partValue (Min a b) x y z values = minOf (getD values a plusZero) (getD values b plusZero)
-partValue (Max a b) x y z values = maxOf (getD values a plusZero) (getD values b plusZero)
-partValue (Add a b) x y z values = add binary64 (getD values a plusZero) (getD values b plusZero)
-partValue (Sub a b) x y z values = sub binary64 (getD values a plusZero) (getD values b plusZero)
-partValue (Neg a) x y z values = neg (getD values a plusZero)
+partValue (Min a b) x y z values = minOf (getD values a past) (getD values b past)
+partValue (Max a b) x y z values = maxOf (getD values a past) (getD values b past)
+partValue (Add a b) x y z values = add binary64 (getD values a past) (getD values b past)
+partValue (Sub a b) x y z values = sub binary64 (getD values a past) (getD values b past)
+partValue (Neg a) x y z values = neg (getD values a past)
 
 -- whether a part's inputs all stand below the place p
 unfoldable pub inputsBelow : ℕ → Part → Bool
