@@ -1,0 +1,5 @@
+pub mod Lists
+pub mod InOrder
+pub mod Tables
+pub mod Values
+pub mod ReadBack

@@ -1,0 +1,4 @@
+pub mod Part
+pub mod Model
+pub mod Tabulate
+pub mod Flat

@@ -1,0 +1,116 @@
+// A model: parts in a list, each a shape or an operation on earlier parts, after computation_graph.rs and
+// model_component.rs.
+ghost use mathlib.Core.Path.{_≡_};
+ghost use mathlib.Core.Bool.{_&&_};
+ghost use mathlib.Core.List.{map};
+ghost use Prim.Native.Nat.{_≤_};
+ghost use lib.Dec.{ltb};
+ghost use Rattle.model.specs.Part.{partIn, inputsBelow};
+ghost use Rattle.model.specs.Flat.{flat, layoutOf};
+ghost use Rattle.model.specs.Model.{orderedTo, refusedByFour};
+use geometry::Vec3;
+
+mod laid; // laid.rt: a part's places in the flat arrays
+
+// The most parts that a model has.
+pub const MOST_PARTS: usize = 64;
+
+// One part of a model. An operation names its inputs by their places in the list.
+pub enum Part {
+    Constant(f64),
+    Sphere(Vec3, f64),
+    Plane(Vec3, f64),
+    Min(u32, u32),
+    Max(u32, u32),
+    Add(u32, u32),
+    Sub(u32, u32),
+    Neg(u32),
+}
+
+// A part as a model holds it.
+pub struct ModelComponent {
+    pub part: Part,
+}
+
+// A model is its first `count` parts.
+pub struct ImplicitModel {
+    pub parts: [ModelComponent; 64],
+    pub count: u32,
+}
+
+fn below(a: u32, p: usize) -> bool
+    ensures { λ r. ⌜ r ≡ ltb a p ⌝ }
+{
+    (a as usize) < p
+}
+
+fn both_below(a: u32, b: u32, p: usize) -> bool
+    ensures { λ r. ⌜ r ≡ (ltb a p && ltb b p) ⌝ }
+{
+    if below(a, p) { below(b, p) } else { false }
+}
+
+// Whether each input of a part stands below the place p.
+pub fn inputs_below(part: Part, p: usize) -> bool
+    ensures { λ r. ⌜ r ≡ inputsBelow p part ⌝ }
+{
+    match part {
+        Part::Constant(_) => true,
+        Part::Sphere(_, _) => true,
+        Part::Plane(_, _) => true,
+        Part::Min(a, b) => both_below(a, b, p),
+        Part::Max(a, b) => both_below(a, b, p),
+        Part::Add(a, b) => both_below(a, b, p),
+        Part::Sub(a, b) => both_below(a, b, p),
+        Part::Neg(a) => below(a, p),
+    }
+}
+
+// Whether each of the first `count` parts has its inputs before it.
+fn ordered(parts: [ModelComponent; 64], count: usize) -> bool
+    requires { ⌜ count ≤ 64 ⌝ }
+    ensures { λ r. ⌜ r ≡ orderedTo (map partIn parts) count ⌝ }
+{
+    let mut p: usize = 0;
+    while p < count {
+        let component = parts[p];
+        let part = component.part;
+        if !inputs_below(part, p) {
+            return false;
+        }
+        p += 1;
+    }
+    true
+}
+
+// Whether cause 4 refuses a model: no parts, too many, or a part with an input that does not stand before it.
+pub fn cause_four(model: ImplicitModel) -> bool
+    ensures { λ r. ⌜ r ≡ refusedByFour model ⌝ }
+{
+    let count = model.count as usize;
+    if count == 0 {
+        return true;
+    }
+    if count > MOST_PARTS {
+        return true;
+    }
+    let parts = model.parts;
+    !ordered(parts, count)
+}
+
+// Lays a model's parts out in seven arrays, whole: for each part its code, its inputs and its numbers.
+pub fn lay_out(
+    model: ImplicitModel,
+    codes: &mut [u32; 64],
+    firsts: &mut [u32; 64],
+    seconds: &mut [u32; 64],
+    xs: &mut [f64; 64],
+    ys: &mut [f64; 64],
+    zs: &mut [f64; 64],
+    ws: &mut [f64; 64],
+)
+    ensures { λ _. ⌜ flat (now (codes .exit)) (now (firsts .exit)) (now (seconds .exit)) (now (xs .exit)) (now (ys .exit)) (now (zs .exit)) (now (ws .exit)) ≡ layoutOf (map partIn (model .parts)) ⌝ }
+{
+    let parts = model.parts;
+    laid::lay_parts(parts, codes, firsts, seconds, xs, ys, zs, ws);
+}
