@@ -1,0 +1,14 @@
+-- Document 01: "Padding sets every point with an index 0 or last to a given value."
+use Prim.Native.Nat.{ℕ}
+use mathlib.Core.Bool.{cond}
+use mathlib.Core.List.{List}
+use lib.ListN.{getD}
+use lib.Ieee.{Float}
+use Rattle.geometry.specs.declared.Vec3i.{Vec3i}
+use Rattle.geometry.specs.Index.{indicesOf}
+use Rattle.model.specs.Part.{plusZero}
+use Rattle.model.specs.Tabulate.{tabulate}
+use Rattle.dense_field.specs.Field.{pointsOf, outside}
+
+unfoldable pub padded : Vec3i → Float → List Float → List Float
+padded n value vs = tabulate (pointsOf n) (λ p. cond (outside n (indicesOf p (n .i) (n .j))) value (getD vs p plusZero))

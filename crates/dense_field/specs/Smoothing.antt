@@ -1,0 +1,38 @@
+-- Document 01: "Smoothing, per round from the old values: interior value (1 - f) × v + f × (sum / 6), sum in order i+1, i-1, j+1, j-1, k+1, k-1; others stay."
+use Prim.Native.Nat.{ℕ, zero, suc, _+_, _-_, _*_}
+use mathlib.Core.Bool.{cond}
+use mathlib.Core.List.{List}
+use lib.ListN.{getD}
+use lib.Ieee.{Float, binary64, add, sub, mul, div}
+use Rattle.geometry.specs.declared.Vec3i.{Vec3i}
+use Rattle.geometry.specs.Index.{indicesOf}
+use Rattle.model.specs.Part.{plusZero}
+use Rattle.model.specs.Tabulate.{tabulate}
+use Rattle.dense_field.specs.Points.{asFloat}
+use Rattle.dense_field.specs.Field.{pointsOf, outside}
+
+-- the sum of the six neighbours of an interior point, which stands at p: a row is n.i and a slab n.i * n.j long
+unfoldable pub neighbourSum : Vec3i → List Float → ℕ → Float
+neighbourSum n vs p =
+    let at : ℕ → Float = λ q. getD vs q plusZero in
+    let row = n .i in
+    let slab = n .i * n .j in
+    add binary64 (add binary64 (add binary64 (add binary64 (add binary64 (at (p + 1)) (at (p - 1))) (at (p + row))) (at (p - row))) (at (p + slab))) (at (p - slab))
+
+-- (1 - f) × v + f × (sum / 6)
+unfoldable pub blended : (f v sum : Float) → Float
+blended f v sum =
+    add binary64 (mul binary64 (sub binary64 (asFloat 1) f) v) (mul binary64 f (div binary64 sum (asFloat 6)))
+
+-- the new value at p, from the old values
+unfoldable pub smoothedAt : Vec3i → Float → List Float → ℕ → Float
+smoothedAt n f vs p =
+    cond (outside n (indicesOf p (n .i) (n .j))) (getD vs p plusZero) (blended f (getD vs p plusZero) (neighbourSum n vs p))
+
+-- one round, and any number of them
+unfoldable pub smoothedOnce : Vec3i → Float → List Float → List Float
+smoothedOnce n f vs = tabulate (pointsOf n) (smoothedAt n f vs)
+
+unfoldable pub smoothed : Vec3i → Float → ℕ → List Float → List Float
+smoothed n f zero vs = vs
+smoothed n f (suc rounds) vs = smoothedOnce n f (smoothed n f rounds vs)

@@ -1,0 +1,12 @@
+-- Document 01: "Threshold: |v| < limit becomes +0."
+use mathlib.Core.Bool.{cond}
+use mathlib.Core.List.{List, map}
+use lib.Ieee.{Float, lt}
+use Rattle.float.specs.Sign.{absOf}
+use Rattle.model.specs.Part.{plusZero}
+
+unfoldable pub cut : Float → Float → Float
+cut limit v = cond (lt (absOf v) limit) plusZero v
+
+abbrev pub thresholded : Float → List Float → List Float
+thresholded limit vs = map (cut limit) vs

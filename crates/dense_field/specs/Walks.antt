@@ -1,0 +1,81 @@
+-- Document 01: walks over the points and the cells of a grid in a box, and over a field's octets.
+use Prim.Native.Nat.{ℕ, suc, _+_, _-_, _*_}
+use mathlib.Core.Bool.{Bool, not, cond, _&&_, _||_}
+use mathlib.Core.List.{List, [], _∷_}
+use lib.Dec.{ltb, leb, eqb}
+use lib.Ieee.{Float, binary64, add, sub, mul, div}
+use Rattle.geometry.specs.declared.Vec3.{Vec3}
+use Rattle.geometry.specs.declared.Vec3i.{Vec3i}
+use Rattle.geometry.specs.declared.BoundingBox.{BoundingBox}
+use Rattle.geometry.specs.Values.{vec3, vec3i, box}
+use Rattle.geometry.specs.Causes.{cause, firstOf}
+use Rattle.dense_field.specs.Points.{asFloat, boxRefused}
+use Rattle.dense_field.specs.Field.{valuesRefused}
+use Rattle.dense_field.specs.declared.PointStep.{PointStep}
+use Rattle.dense_field.specs.declared.PointStep.the-variants as point
+use Rattle.dense_field.specs.declared.CellStep.{CellStep}
+use Rattle.dense_field.specs.declared.CellStep.the-variants as cell
+use Rattle.dense_field.specs.declared.OctetStep.{OctetStep}
+use Rattle.dense_field.specs.declared.OctetStep.the-variants as octet
+
+-- the cursor after one at (i, j, k), i fastest, in a grid of n.i by n.j
+unfoldable pub nextIn : Vec3i → Vec3i → Vec3i
+nextIn n c =
+    cond (ltb (c .i + 1) (n .i)) (vec3i (c .i + 1) (c .j) (c .k))
+    (cond (ltb (c .j + 1) (n .j)) (vec3i 0 (c .j + 1) (c .k)) (vec3i 0 0 (c .k + 1)))
+
+-- cause 11: "a grid walk with a count below 2 (points) or 1 (cells), or above 16,777,216, on an axis, or a cursor's i or j not below its count"
+unfoldable pub countRefused : (least n : ℕ) → Bool
+countRefused least n = ltb n least || ltb 16777216 n
+
+unfoldable pub walkRefused : (least : ℕ) → Vec3i → Vec3i → Bool
+walkRefused least n c =
+    countRefused least (n .i) || countRefused least (n .j) || countRefused least (n .k) || not (ltb (c .i) (n .i)) || not (ltb (c .j) (n .j))
+
+-- an axis from least to most in so many steps: one step, and where number i stands
+unfoldable pub stepAlong : (least most : Float) → (steps : ℕ) → Float
+stepAlong least most steps = div binary64 (sub binary64 most least) (asFloat steps)
+
+unfoldable pub along : (least most : Float) → (steps i : ℕ) → Float
+along least most steps i = add binary64 least (mul binary64 (asFloat i) (stepAlong least most steps))
+
+-- the point at a cursor, as `PointGridIter` has it
+unfoldable pub walkPoint : BoundingBox → Vec3i → Vec3i → Vec3
+walkPoint b n c =
+    vec3
+    (along (b .min .x) (b .max .x) (n .i - 1) (c .i))
+    (along (b .min .y) (b .max .y) (n .j - 1) (c .j))
+    (along (b .min .z) (b .max .z) (n .k - 1) (c .k))
+
+-- the cell at a cursor, as `CellGridIter` has it: its max is its min and one step more
+unfoldable pub walkCell : BoundingBox → Vec3i → Vec3i → BoundingBox
+walkCell b n c =
+    let x = along (b .min .x) (b .max .x) (n .i) (c .i) in
+    let y = along (b .min .y) (b .max .y) (n .j) (c .j) in
+    let z = along (b .min .z) (b .max .z) (n .k) (c .k) in
+    box (vec3 x y z)
+    (vec3
+    (add binary64 x (stepAlong (b .min .x) (b .max .x) (n .i)))
+    (add binary64 y (stepAlong (b .min .y) (b .max .y) (n .j)))
+    (add binary64 z (stepAlong (b .min .z) (b .max .z) (n .k))))
+
+-- "past the last one the answer is done, with the cursor unchanged"
+unfoldable pub pointStep : BoundingBox → Vec3i → Vec3i → PointStep
+pointStep b n c =
+    firstOf (cause (boxRefused b) 1 ∷ cause (walkRefused 2 n c) 11 ∷ [])
+    point.Refused
+    (cond (ltb (c .k) (n .k)) (point.Point (walkPoint b n c) (nextIn n c)) (point.Done c))
+
+unfoldable pub cellStep : BoundingBox → Vec3i → Vec3i → CellStep
+cellStep b n c =
+    firstOf (cause (boxRefused b) 1 ∷ cause (walkRefused 1 n c) 11 ∷ [])
+    cell.Refused
+    (cond (ltb (c .k) (n .k)) (cell.Cell (walkCell b n c) (nextIn n c)) (cell.Done c))
+
+-- "A field with a dimension of 1 has no cells: the walker is done from the start .. Otherwise a cell with k past the last is done, and with i or j past the last 10." After 9.
+unfoldable pub octetStep : Vec3i → (len : ℕ) → Vec3i → OctetStep
+octetStep n len c =
+    let cells = vec3i (n .i - 1) (n .j - 1) (n .k - 1) in
+    cond (valuesRefused n len) (octet.Refused 9)
+    (cond (eqb (cells .i) 0 || eqb (cells .j) 0 || not (ltb (c .k) (cells .k))) (octet.Done c)
+    (cond (not (ltb (c .i) (cells .i)) || not (ltb (c .j) (cells .j))) (octet.Refused 10) (octet.Cell (nextIn cells c))))
