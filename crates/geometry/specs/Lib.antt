@@ -3,3 +3,6 @@ pub mod Distance
 pub mod Box
 pub mod Causes
 pub mod Index
+pub mod Axis
+pub mod Octet
+pub mod Bounds

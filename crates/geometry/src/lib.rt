@@ -4,6 +4,8 @@ ghost use Rattle.geometry.specs.Values.{vec3, vec3i, box};
 ghost use Rattle.geometry.specs.Distance.{distanceSquaredOf, distanceOf};
 ghost use Rattle.geometry.specs.Box.{dimensionsOf, intersectsOf};
 ghost use Rattle.geometry.specs.Index.{dimensionsRefused, index1dOf, index3dOf};
+ghost use Rattle.geometry.specs.Axis.{stepAlong, along, alongEnd};
+ghost use Rattle.geometry.specs.Bounds.{pointRefused, boxRefused, cellRefused};
 
 // The largest number of points or cells that a field may have.
 pub const LARGEST_PRODUCT: usize = 16_777_216;
@@ -177,4 +179,72 @@ pub fn index3d_from_index1d(index: usize, nx: usize, ny: usize, nz: usize) -> In
     }
     let rest = index % (nx * ny);
     Index3d::At(Vec3i::new(rest % nx, rest / nx, index / (nx * ny)))
+}
+
+// One step of an axis from `least` to `most` that is cut into so many.
+pub fn step_along(least: f64, most: f64, steps: u64) -> f64
+    ensures { λ r. ⌜ r ≡ stepAlong least most steps ⌝ }
+{
+    float::computed((most - least) / float::from_count(steps))
+}
+
+// Where number i of the steps begins.
+pub fn along(least: f64, most: f64, steps: u64, i: u64) -> f64
+    ensures { λ r. ⌜ r ≡ along least most steps i ⌝ }
+{
+    float::computed(least + float::from_count(i) * step_along(least, most, steps))
+}
+
+// Where number i of the steps ends.
+pub fn along_end(least: f64, most: f64, steps: u64, i: u64) -> f64
+    ensures { λ r. ⌜ r ≡ alongEnd least most steps i ⌝ }
+{
+    float::computed(along(least, most, steps, i) + step_along(least, most, steps))
+}
+
+// Whether a coordinate of a point is not finite: cause 1.
+pub fn point_refused(p: Vec3) -> bool
+    ensures { λ r. ⌜ r ≡ pointRefused p ⌝ }
+{
+    if float::is_finite(p.x) {
+        if float::is_finite(p.y) {
+            if float::is_finite(p.z) {
+                return false;
+            }
+        }
+    }
+    true
+}
+
+// Whether bounds are not finite, or end below their beginning on an axis: cause 1.
+pub fn box_refused(b: BoundingBox) -> bool
+    ensures { λ r. ⌜ r ≡ boxRefused b ⌝ }
+{
+    let min = b.min;
+    let max = b.max;
+    if point_refused(min) {
+        return true;
+    }
+    if point_refused(max) {
+        return true;
+    }
+    if max.x < min.x {
+        return true;
+    }
+    if max.y < min.y {
+        return true;
+    }
+    max.z < min.z
+}
+
+// Whether a cell's size is not finite or not above 0: cause 1.
+pub fn cell_refused(cell: f64) -> bool
+    ensures { λ r. ⌜ r ≡ cellRefused cell ⌝ }
+{
+    if float::is_finite(cell) {
+        if 0.0 < cell {
+            return false;
+        }
+    }
+    true
 }

@@ -2,11 +2,11 @@
 use mathlib.Core.Path.{_≡_, refl, sym, _∙_}
 use Prim.Native.Nat.{_+_, _*_, _^_, _<_}
 use native.Mathlib.Omega.{arith}
+use borrow.Author.Needs.{needs}
 use borrow.Author.Tests.{lt-ltb, le-ltb}
 use Rattle.geometry.specs.Causes.{firstOf}
 use Rattle.geometry.specs.Index.{index1dOf, placeOf}
 use Rattle.geometry.proofs.Grid.{Accepted, accepted, slab-fits, place-fits}
-use borrow.Author.Needs.{needs}
 use Rattle.geometry.proofs.index1d_from_index3d.Statement.{statement}
 use Rattle.geometry.proofs.index1d_from_index3d.Tie as tie
 

@@ -2,12 +2,12 @@
 use mathlib.Core.Path.{_≡_, refl, sym, _∙_, ap}
 use native.Mathlib.Nat.{mul-pos}
 use native.Mathlib.Omega.{arith}
+use borrow.Author.Needs.{needs}
 use borrow.Author.Tests.{lt-ltb, le-ltb}
 use Rattle.geometry.specs.Causes.{firstOf}
 use Rattle.geometry.specs.Index.{index3dOf, indicesOf}
 use Rattle.geometry.specs.declared.Index3d.the-variants.{At}
 use Rattle.geometry.proofs.Grid.{Accepted, accepted, area-le}
-use borrow.Author.Needs.{needs}
 use Rattle.geometry.proofs.index3d_from_index1d.Statement.{statement}
 use Rattle.geometry.proofs.index3d_from_index1d.Tie as tie
 

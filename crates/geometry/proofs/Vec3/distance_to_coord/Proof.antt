@@ -1,8 +1,8 @@
 -- `Vec3::distance_to_coord` meets its contract: the root of the square that it calls for.
 use mathlib.Core.Path.{_∙_, ap}
 use borrow.Author.Needs.{needs}
-use Rattle.root.specs.Root.{squareRoot}
 use Rattle.geometry.specs.Distance.{distanceOf}
+use Rattle.root.specs.Root.{squareRoot}
 use Rattle.geometry.proofs.Vec3.distance_to_coord.Statement.{statement}
 use Rattle.geometry.proofs.Vec3.distance_to_coord.Tie as tie
 

@@ -1,0 +1,14 @@
+-- Document 01: "Octet order: (0,0,0) (1,0,0) (1,1,0) (0,1,0), then the same with k+1."
+use Prim.Native.Nat.{ℕ, _+_}
+use mathlib.Core.List.{List, [], _∷_, map}
+use Rattle.geometry.specs.declared.Vec3i.{Vec3i}
+use Rattle.geometry.specs.Values.{vec3i}
+use Rattle.geometry.specs.Index.{placeOf}
+
+unfoldable pub octetOrder : List Vec3i
+octetOrder =
+    vec3i 0 0 0 ∷ vec3i 1 0 0 ∷ vec3i 1 1 0 ∷ vec3i 0 1 0 ∷ vec3i 0 0 1 ∷ vec3i 1 0 1 ∷ vec3i 1 1 1 ∷ vec3i 0 1 1 ∷ []
+
+-- the places of a cell's eight corners in a grid of nx by ny points
+unfoldable pub octetPlaces : (nx ny : ℕ) → Vec3i → List ℕ
+octetPlaces nx ny c = map (λ o. placeOf (c .i + o .i) (c .j + o .j) (c .k + o .k) nx ny) octetOrder
