@@ -1,21 +1,16 @@
 -- Document 01: the corners of a cell and the values there, in octet order.
 use Prim.Native.Nat.{ℕ, zero, suc, _+_}
-use mathlib.Core.Bool.{Bool, not, _&&_}
-use mathlib.Core.List.{List, [], _∷_, map}
+use mathlib.Core.Bool.{Bool, _&&_}
+use mathlib.Core.List.{List, map}
 use lib.Dec.{ltb}
 use lib.ListN.{getD}
 use lib.Ieee.{Float, binary64, add, mul}
 use Rattle.geometry.specs.declared.Vec3.{Vec3}
 use Rattle.geometry.specs.declared.Vec3i.{Vec3i}
-use Rattle.geometry.specs.Values.{vec3, vec3i}
-use Rattle.geometry.specs.Index.{placeOf}
+use Rattle.geometry.specs.Values.{vec3}
+use Rattle.geometry.specs.Axis.{asFloat}
+use Rattle.geometry.specs.Octet.{octetOrder, octetPlaces}
 use Rattle.model.specs.Part.{plusZero}
-use Rattle.dense_field.specs.Points.{asFloat}
-
--- "Octet order: (0,0,0) (1,0,0) (1,1,0) (0,1,0), then the same with k+1."
-unfoldable pub octetOrder : List Vec3i
-octetOrder =
-    vec3i 0 0 0 ∷ vec3i 1 0 0 ∷ vec3i 1 1 0 ∷ vec3i 0 1 0 ∷ vec3i 0 0 1 ∷ vec3i 1 0 1 ∷ vec3i 1 1 1 ∷ vec3i 0 1 1 ∷ []
 
 -- cause 10: a cell is inside where the point after it on each axis is one of the field
 unfoldable pub cellInside : Vec3i → Vec3i → Bool
@@ -38,4 +33,4 @@ cornersOf origin cell c = map (cornerAt origin cell c) octetOrder
 
 -- the eight values at a cell's corners
 unfoldable pub octetOf : Vec3i → List Float → Vec3i → List Float
-octetOf n vs c = map (λ o. getD vs (placeOf (c .i + o .i) (c .j + o .j) (c .k + o .k) (n .i) (n .j)) plusZero) octetOrder
+octetOf n vs c = map (λ p. getD vs p plusZero) (octetPlaces (n .i) (n .j) c)

@@ -1,10 +1,8 @@
--- Document 01: cause 1, and the point count from bounds.
-use Prim.Native.Nat.{ℕ, suc, _+_, _*_}
-use mathlib.Core.Bool.{Bool, not, _||_}
+-- Document 01: the point count from bounds, and where a field's points stand.
+use Prim.Native.Nat.{ℕ, suc}
+use mathlib.Core.Bool.{_||_}
 use mathlib.Core.List.{List, [], _∷_}
-use lib.IntN.{pos}
-use lib.Ieee.{Float, binary64, add, sub, mul, div, lt, ofInt, ofBits, toUnsigned}
-use lib.Ieee.Scale.{finite}
+use lib.Ieee.{Float, binary64, add, sub, mul, div, toUnsigned}
 use Rattle.float.specs.Whole.{floorOf}
 use Rattle.geometry.specs.declared.Vec3.{Vec3}
 use Rattle.geometry.specs.declared.Vec3i.{Vec3i}
@@ -12,22 +10,10 @@ use Rattle.geometry.specs.declared.BoundingBox.{BoundingBox}
 use Rattle.geometry.specs.Values.{vec3, vec3i}
 use Rattle.geometry.specs.Causes.{cause, firstOf}
 use Rattle.geometry.specs.Index.{dimensionsRefused}
+use Rattle.geometry.specs.Axis.{asFloat}
+use Rattle.geometry.specs.Bounds.{boxRefused, cellRefused}
 use Rattle.dense_field.specs.declared.PointCount.{PointCount}
 use Rattle.dense_field.specs.declared.PointCount.the-variants as answer
-
-abbrev pub asFloat : ℕ → Float
-asFloat n = ofInt binary64 (pos n)
-
--- cause 1: "a bound or origin not finite, max below min on an axis, cell size not finite or not above 0"
-unfoldable pub pointRefused : Vec3 → Bool
-pointRefused p = not (finite (p .x)) || not (finite (p .y)) || not (finite (p .z))
-
-unfoldable pub boxRefused : BoundingBox → Bool
-boxRefused b =
-    pointRefused (b .min) || pointRefused (b .max) || lt (b .max .x) (b .min .x) || lt (b .max .y) (b .min .y) || lt (b .max .z) (b .min .z)
-
-unfoldable pub cellRefused : Float → Bool
-cellRefused cell = not (finite cell) || not (lt (ofBits binary64 0) cell)
 
 -- "Point count from bounds: floor(extent / cell) + 1 per axis". A quotient past 64 bits counts as 2 ^ 64 - 1.
 unfoldable pub pointsAlong : (least most cell : Float) → ℕ

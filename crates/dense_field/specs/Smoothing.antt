@@ -6,9 +6,9 @@ use lib.ListN.{getD}
 use lib.Ieee.{Float, binary64, add, sub, mul, div}
 use Rattle.geometry.specs.declared.Vec3i.{Vec3i}
 use Rattle.geometry.specs.Index.{indicesOf}
+use Rattle.geometry.specs.Axis.{asFloat}
 use Rattle.model.specs.Part.{plusZero}
 use Rattle.model.specs.Tabulate.{tabulate}
-use Rattle.dense_field.specs.Points.{asFloat}
 use Rattle.dense_field.specs.Field.{pointsOf, outside}
 
 -- the sum of the six neighbours of an interior point, which stands at p: a row is n.i and a slab n.i * n.j long

@@ -1,15 +1,15 @@
 -- Document 01: walks over the points and the cells of a grid in a box, and over a field's octets.
-use Prim.Native.Nat.{ℕ, suc, _+_, _-_, _*_}
-use mathlib.Core.Bool.{Bool, not, cond, _&&_, _||_}
+use Prim.Native.Nat.{ℕ, _+_, _-_}
+use mathlib.Core.Bool.{Bool, not, cond, _||_}
 use mathlib.Core.List.{List, [], _∷_}
-use lib.Dec.{ltb, leb, eqb}
-use lib.Ieee.{Float, binary64, add, sub, mul, div}
+use lib.Dec.{ltb, eqb}
 use Rattle.geometry.specs.declared.Vec3.{Vec3}
 use Rattle.geometry.specs.declared.Vec3i.{Vec3i}
 use Rattle.geometry.specs.declared.BoundingBox.{BoundingBox}
 use Rattle.geometry.specs.Values.{vec3, vec3i, box}
 use Rattle.geometry.specs.Causes.{cause, firstOf}
-use Rattle.dense_field.specs.Points.{asFloat, boxRefused}
+use Rattle.geometry.specs.Axis.{along, alongEnd}
+use Rattle.geometry.specs.Bounds.{boxRefused}
 use Rattle.dense_field.specs.Field.{valuesRefused}
 use Rattle.dense_field.specs.declared.PointStep.{PointStep}
 use Rattle.dense_field.specs.declared.PointStep.the-variants as point
@@ -32,13 +32,6 @@ unfoldable pub walkRefused : (least : ℕ) → Vec3i → Vec3i → Bool
 walkRefused least n c =
     countRefused least (n .i) || countRefused least (n .j) || countRefused least (n .k) || not (ltb (c .i) (n .i)) || not (ltb (c .j) (n .j))
 
--- an axis from least to most in so many steps: one step, and where number i stands
-unfoldable pub stepAlong : (least most : Float) → (steps : ℕ) → Float
-stepAlong least most steps = div binary64 (sub binary64 most least) (asFloat steps)
-
-unfoldable pub along : (least most : Float) → (steps i : ℕ) → Float
-along least most steps i = add binary64 least (mul binary64 (asFloat i) (stepAlong least most steps))
-
 -- the point at a cursor, as `PointGridIter` has it
 unfoldable pub walkPoint : BoundingBox → Vec3i → Vec3i → Vec3
 walkPoint b n c =
@@ -50,14 +43,9 @@ walkPoint b n c =
 -- the cell at a cursor, as `CellGridIter` has it: its max is its min and one step more
 unfoldable pub walkCell : BoundingBox → Vec3i → Vec3i → BoundingBox
 walkCell b n c =
-    let x = along (b .min .x) (b .max .x) (n .i) (c .i) in
-    let y = along (b .min .y) (b .max .y) (n .j) (c .j) in
-    let z = along (b .min .z) (b .max .z) (n .k) (c .k) in
-    box (vec3 x y z)
-    (vec3
-    (add binary64 x (stepAlong (b .min .x) (b .max .x) (n .i)))
-    (add binary64 y (stepAlong (b .min .y) (b .max .y) (n .j)))
-    (add binary64 z (stepAlong (b .min .z) (b .max .z) (n .k))))
+    box
+    (vec3 (along (b .min .x) (b .max .x) (n .i) (c .i)) (along (b .min .y) (b .max .y) (n .j) (c .j)) (along (b .min .z) (b .max .z) (n .k) (c .k)))
+    (vec3 (alongEnd (b .min .x) (b .max .x) (n .i) (c .i)) (alongEnd (b .min .y) (b .max .y) (n .j) (c .j)) (alongEnd (b .min .z) (b .max .z) (n .k) (c .k)))
 
 -- "past the last one the answer is done, with the cursor unchanged"
 unfoldable pub pointStep : BoundingBox → Vec3i → Vec3i → PointStep

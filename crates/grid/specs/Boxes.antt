@@ -1,14 +1,15 @@
 -- Document 01, "Sparse field": where nodes and children lie, and which children are active.
 use Prim.Native.Nat.{ℕ}
 use mathlib.Core.Bool.{Bool}
-use lib.Ieee.{Float, binary64, add, sub, mul, div}
+use lib.Ieee.{Float, binary64, add, mul}
 use Rattle.geometry.specs.declared.Vec3i.{Vec3i}
 use Rattle.geometry.specs.declared.BoundingBox.{BoundingBox}
 use Rattle.geometry.specs.Values.{vec3, box}
 use Rattle.geometry.specs.Box.{intersectsOf}
 use Rattle.geometry.specs.Index.{indicesOf}
+use Rattle.geometry.specs.Axis.{asFloat, along, alongEnd}
 use Rattle.grid.specs.declared.Grid.{Grid}
-use Rattle.grid.specs.Nodes.{asFloat, sizeOf, nodeCounts}
+use Rattle.grid.specs.Nodes.{sizeOf, nodeCounts}
 
 -- "Node min is bounds.min + i × s, max is min + s.", on one axis
 unfoldable pub nodeLeast : (least s : Float) → ℕ → Float
@@ -36,22 +37,12 @@ childIndices n c = indicesOf c n n
 unfoldable pub nodeBox : Grid → ℕ → BoundingBox
 nodeBox g v = nodeBoxAt g (nodeIndices g v)
 
--- "A child's step d is the node's dimension on that axis / n; its min is node min + i × d, its max min + d.", on one axis
-unfoldable pub stepOf : (least most : Float) → ℕ → Float
-stepOf least most n = div binary64 (sub binary64 most least) (asFloat n)
-
-unfoldable pub childLeast : (least most : Float) → (n i : ℕ) → Float
-childLeast least most n i = add binary64 least (mul binary64 (asFloat i) (stepOf least most n))
-
-unfoldable pub childMost : (least most : Float) → (n i : ℕ) → Float
-childMost least most n i = add binary64 (childLeast least most n i) (stepOf least most n)
-
--- the box of the child at (i, j, k) of a node that has the box b
+-- "A child's step d is the node's dimension on that axis / n; its min is node min + i × d, its max min + d.": the child at (i, j, k) of a node that has the box b
 unfoldable pub childBoxAt : BoundingBox → ℕ → Vec3i → BoundingBox
 childBoxAt b n c =
     box
-    (vec3 (childLeast (b .min .x) (b .max .x) n (c .i)) (childLeast (b .min .y) (b .max .y) n (c .j)) (childLeast (b .min .z) (b .max .z) n (c .k)))
-    (vec3 (childMost (b .min .x) (b .max .x) n (c .i)) (childMost (b .min .y) (b .max .y) n (c .j)) (childMost (b .min .z) (b .max .z) n (c .k)))
+    (vec3 (along (b .min .x) (b .max .x) n (c .i)) (along (b .min .y) (b .max .y) n (c .j)) (along (b .min .z) (b .max .z) n (c .k)))
+    (vec3 (alongEnd (b .min .x) (b .max .x) n (c .i)) (alongEnd (b .min .y) (b .max .y) n (c .j)) (alongEnd (b .min .z) (b .max .z) n (c .k)))
 
 unfoldable pub childBox : BoundingBox → (n c : ℕ) → BoundingBox
 childBox b n c = childBoxAt b n (childIndices n c)

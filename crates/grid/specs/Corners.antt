@@ -1,41 +1,32 @@
 -- Document 01, "Sparse field": the corners of a node, and those that its active children need.
-use Prim.Native.Nat.{ℕ, suc, _+_, _*_}
+use Prim.Native.Nat.{ℕ, _+_}
 use mathlib.Core.Bool.{Bool, false, _&&_, _||_}
-use mathlib.Core.List.{List, [], _∷_, map}
+use mathlib.Core.List.{List, [], _∷_}
 use lib.Dec.{eqb}
 use lib.Ieee.{Float, binary64, add, mul}
 use Rattle.geometry.specs.declared.Vec3.{Vec3}
-use Rattle.geometry.specs.declared.Vec3i.{Vec3i}
 use Rattle.geometry.specs.declared.BoundingBox.{BoundingBox}
-use Rattle.geometry.specs.Values.{vec3, vec3i}
-use Rattle.geometry.specs.Index.{indicesOf, placeOf}
+use Rattle.geometry.specs.Values.{vec3}
+use Rattle.geometry.specs.Index.{indicesOf}
+use Rattle.geometry.specs.Axis.{asFloat, stepAlong}
+use Rattle.geometry.specs.Octet.{octetPlaces}
 use Rattle.grid.specs.Ranges.{anyBelow, listBelow}
 use Rattle.grid.specs.Blocks.{cube}
-use Rattle.grid.specs.Nodes.{asFloat}
-use Rattle.grid.specs.Boxes.{stepOf, childIndices}
+use Rattle.grid.specs.Boxes.{childIndices}
 
 -- "Corners of a node: (n+1)³ points, origin + c × i, where c is the x dimension / n for all three axes."
 unfoldable pub cornerPoint : BoundingBox → (n corner : ℕ) → Vec3
 cornerPoint b n corner =
-    let c = stepOf (b .min .x) (b .max .x) n in
+    let c = stepAlong (b .min .x) (b .max .x) n in
     let at = indicesOf corner (n + 1) (n + 1) in
     vec3
     (add binary64 (b .min .x) (mul binary64 c (asFloat (at .i))))
     (add binary64 (b .min .y) (mul binary64 c (asFloat (at .j))))
     (add binary64 (b .min .z) (mul binary64 c (asFloat (at .k))))
 
--- "Octet order: (0,0,0) (1,0,0) (1,1,0) (0,1,0), then the same with k+1."
-unfoldable pub octetOrder : List Vec3i
-octetOrder =
-    vec3i 0 0 0 ∷ vec3i 1 0 0 ∷ vec3i 1 1 0 ∷ vec3i 0 1 0 ∷ vec3i 0 0 1 ∷ vec3i 1 0 1 ∷ vec3i 1 1 1 ∷ vec3i 0 1 1 ∷ []
-
--- the corner of child c that stands at an offset of the octet
-unfoldable pub cornerOf : (n c : ℕ) → Vec3i → ℕ
-cornerOf n c o = let at = childIndices n c in placeOf (at .i + o .i) (at .j + o .j) (at .k + o .k) (n + 1) (n + 1)
-
--- the eight corners of child c
+-- the eight corners of child c, in octet order
 unfoldable pub octet : (n c : ℕ) → List ℕ
-octet n c = map (cornerOf n c) octetOrder
+octet n c = octetPlaces (n + 1) (n + 1) (childIndices n c)
 
 -- whether a number is in a list
 unfoldable pub among : ℕ → List ℕ → Bool

@@ -1,15 +1,11 @@
 -- Document 01, "Sparse field": how large a node is, and how many there are.
 use Prim.Native.Nat.{ℕ, _-_, _*_, max}
-use lib.IntN.{pos}
-use lib.Ieee.{Float, binary64, sub, mul, div, ofInt, toUnsigned}
+use lib.Ieee.{Float, binary64, sub, mul, div, toUnsigned}
 use Rattle.float.specs.Whole.{ceilOf}
 use Rattle.geometry.specs.declared.Vec3i.{Vec3i}
 use Rattle.geometry.specs.Values.{vec3i}
+use Rattle.geometry.specs.Axis.{asFloat}
 use Rattle.grid.specs.declared.Grid.{Grid}
-
--- a count as a float
-abbrev pub asFloat : ℕ → Float
-asFloat n = ofInt binary64 (pos n)
 
 -- "Node size s = cell × (n × (L - 1))."
 unfoldable pub nodeSize : (cell : Float) (n l : ℕ) → Float

@@ -1,16 +1,12 @@
 -- Document 01, "Sparse field": which active children become constants, and which number a constant is.
-use Prim.Native.Nat.{ℕ}
 use mathlib.Core.Bool.{Bool, _||_}
 use mathlib.Core.List.{List, [], _∷_}
-use lib.IntN.{pos}
-use lib.Ieee.{Float, binary64, add, sub, div, lt, ofBits}
+use lib.Ieee.{Float, binary64, add, sub, div, lt}
 use Rattle.float.specs.Select.{minOf, maxOf}
 use Rattle.geometry.specs.declared.BoundingBox.{BoundingBox}
 use Rattle.geometry.specs.Distance.{distanceOf}
-use Rattle.grid.specs.Nodes.{asFloat}
-
-abbrev pub plusZero : Float
-plusZero = ofBits binary64 0
+use Rattle.geometry.specs.Axis.{asFloat}
+use Rattle.model.specs.Part.{plusZero}
 
 -- "h = distance(child min, child max) / 2."
 unfoldable pub halfDiagonal : BoundingBox → Float
