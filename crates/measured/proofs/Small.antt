@@ -1,0 +1,118 @@
+-- Small cases of the rules, computed.
+use mathlib.Core.Path.{_≡_, refl, sym, ap, _∙_}
+use mathlib.Core.Bool.{Bool, true, false}
+use mathlib.Core.List.{List, [], _∷_}
+use Prim.Native.Nat.{ℕ, _+_}
+use lib.ListN.{length, getD, replicate}
+use lib.IntN.{pos, negsuc}
+use lib.Dec.{lit<}
+use lib.Ieee.{Float, nan, inf, fin, binary64, ofBits, ofInt, add, sub, mul, div, lt, le, toUnsigned, isNan, size, odd}
+use Rattle.root.specs.Nearest.{nearestRoot}
+use Rattle.root.specs.Root.{squareRoot, rootOf, scale}
+use Rattle.float.specs.Select.{minOf, maxOf}
+use Rattle.float.specs.Sign.{absOf}
+use Rattle.float.specs.Whole.{ceilOf}
+use Rattle.geometry.specs.declared.Vec3i.{Vec3i}
+use Rattle.geometry.specs.Values.{vec3, vec3i, box}
+use Rattle.geometry.specs.Box.{intersectsOf}
+use Rattle.geometry.specs.Index.{indicesOf, placeOf}
+use Rattle.geometry.specs.Axis.{asFloat, stepAlong, along, alongEnd}
+use Rattle.geometry.specs.Octet.{octetOrder, octetPlaces}
+use Rattle.model.specs.Part.{plusZero}
+use Rattle.model.proofs.Tables.{getD-tabulate}
+use Rattle.grid.specs.Ranges.{anyBelow, countBelow, listBelow}
+use Rattle.grid.specs.Nodes.{nodeSize, nodesAlong, nodeCounts}
+use Rattle.grid.specs.Boxes.{nodeLeast, nodeMost, nodeBoxAt, nodeBox, childBoxAt, childBox, active}
+use Rattle.grid.specs.Corners.{octet, among, needed, neededCorners}
+use Rattle.grid.specs.Pruning.{folded, lowest, highest, pruned, average}
+use Rattle.dense_field.specs.Field.{onEdge, outside}
+use Rattle.dense_field.specs.Threshold.{cut}
+use Rattle.measured.specs.Measured.{minusZero, minusOne, half, aboveTwo, cubic, activeIn, cornersIn, CentreOfSixes}
+use Rattle.dense_field.specs.Smoothing.{neighbourSum, blended, smoothedAt, smoothedOnce, smoothed}
+
+pub eight-of-eight : activeIn (cubic (asFloat 1) 2 2) ≡ 8
+unfolding countBelow active nodeBox nodeBoxAt nodeLeast nodeMost nodeSize nodeCounts nodesAlong ceilOf childBox childBoxAt stepAlong along alongEnd indicesOf intersectsOf ofInt add sub mul div le toUnsigned
+eight-of-eight = refl
+
+pub eight-of-64 : activeIn (cubic (asFloat 1) 4 2) ≡ 8
+unfolding countBelow active nodeBox nodeBoxAt nodeLeast nodeMost nodeSize nodeCounts nodesAlong ceilOf childBox childBoxAt stepAlong along alongEnd indicesOf intersectsOf ofInt add sub mul div le toUnsigned
+eight-of-64 = refl
+
+pub corners-27 : cornersIn (cubic (asFloat 1) 4 2) ≡ 27
+unfolding neededCorners listBelow needed anyBelow among octet octetPlaces octetOrder placeOf countBelow active nodeBox nodeBoxAt nodeLeast nodeMost nodeSize nodeCounts nodesAlong ceilOf childBox childBoxAt stepAlong along alongEnd indicesOf intersectsOf ofInt add sub mul div le toUnsigned
+corners-27 = refl
+
+pub one-of-eight : activeIn (cubic (asFloat 0) 2 2) ≡ 1
+unfolding countBelow active nodeBox nodeBoxAt nodeLeast nodeMost nodeSize nodeCounts nodesAlong ceilOf childBox childBoxAt stepAlong along alongEnd indicesOf intersectsOf ofInt add sub mul div le toUnsigned
+one-of-eight = refl
+
+pub corners-8 : cornersIn (cubic (asFloat 0) 2 2) ≡ 8
+unfolding neededCorners listBelow needed anyBelow among octet octetPlaces octetOrder placeOf countBelow active nodeBox nodeBoxAt nodeLeast nodeMost nodeSize nodeCounts nodesAlong ceilOf childBox childBoxAt stepAlong along alongEnd indicesOf intersectsOf ofInt add sub mul div le toUnsigned
+corners-8 = refl
+
+pub two-in-one : nodesAlong (asFloat 0) (asFloat 2) (asFloat 2) ≡ 1
+unfolding nodesAlong ceilOf ofInt sub div toUnsigned
+two-in-one = refl
+
+pub above-two-in-two : nodesAlong (asFloat 0) aboveTwo (asFloat 2) ≡ 2
+unfolding nodesAlong ceilOf ofInt ofBits sub div toUnsigned
+above-two-in-two = refl
+
+pub minus-zeros : average (replicate 8 minusZero) ≡ plusZero
+unfolding average folded ofInt ofBits add div
+minus-zeros = refl
+
+abbrev threes : Vec3i
+threes = vec3i 3 3 3
+
+-- a sum of six, in the rule's order
+abbrev sum : (a b c d e f : Float) → Float
+sum a b c d e f = add binary64 (add binary64 (add binary64 (add binary64 (add binary64 a b) c) d) e) f
+
+centre-rule : (vs : List Float) → smoothedAt threes half vs 13
+    ≡ blended half (getD vs 13 plusZero)
+    (sum (getD vs 14 plusZero) (getD vs 12 plusZero) (getD vs 16 plusZero) (getD vs 10 plusZero) (getD vs 22 plusZero) (getD vs 4 plusZero))
+unfolding smoothedAt neighbourSum outside onEdge indicesOf
+centre-rule vs = refl
+
+sixes : blended half (asFloat 0) (sum (asFloat 6) (asFloat 6) (asFloat 6) (asFloat 6) (asFloat 6) (asFloat 6)) ≡ asFloat 3
+unfolding blended ofInt add sub mul div
+sixes = refl
+
+pub centre-three : (vs : List Float) → CentreOfSixes vs → getD (smoothed threes half 1 vs) 13 plusZero ≡ asFloat 3
+unfolding smoothed smoothedOnce
+centre-three vs c =
+    getD-tabulate 27 (smoothedAt threes half vs) 13 plusZero (lit< tt)
+    ∙ centre-rule vs
+    ∙ rw (c .centre, c .right, c .left, c .behind, c .before, c .above, c .below) sixes
+
+pub padding-56 : countBelow 64 (λ p. outside (vec3i 4 4 4) (indicesOf p 4 4)) ≡ 56
+unfolding countBelow outside onEdge indicesOf
+padding-56 = refl
+
+pub minus-one-stays : cut (asFloat 1) minusOne ≡ minusOne
+unfolding cut absOf lt ofInt
+minus-one-stays = refl
+
+pub minus-zero-goes : cut (asFloat 1) minusZero ≡ plusZero
+unfolding cut absOf lt ofInt ofBits
+minus-zero-goes = refl
+
+pub root-of-four : squareRoot (asFloat 4) ≡ asFloat 2
+unfolding squareRoot rootOf scale nearestRoot size odd ofInt
+root-of-four = refl
+
+-- where every corner is a NaN, so are lo and hi, and neither test holds
+lt-nan : (x : Float) → lt x nan ≡ false
+unfolding lt
+lt-nan nan = refl
+lt-nan (inf s) = refl
+lt-nan (fin s m e) = refl
+
+nan-lt : (x : Float) → lt nan x ≡ false
+unfolding lt
+nan-lt x = refl
+
+pub nan-corners : (least most h : Float) → pruned least most (lowest (replicate 8 nan)) (highest (replicate 8 nan)) h ≡ false
+unfolding pruned lowest highest folded minOf maxOf isNan add sub
+nan-corners least most h = rw (nan-lt, lt-nan) refl

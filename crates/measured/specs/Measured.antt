@@ -1,0 +1,90 @@
+-- Document 01, "Measured on the bench": the facts marked with * there, in the paragraph's order, as one statement about the rules.
+-- Each sentence of the paragraph stands above its field.
+use mathlib.Core.Path.{_≡_}
+use mathlib.Core.Bool.{Bool, true, false}
+use mathlib.Core.List.{List, [], _∷_}
+use Prim.Native.Nat.{ℕ}
+use lib.ListN.{length, getD, replicate}
+use lib.IntN.{pos, negsuc}
+use lib.Ieee.{Float, nan, fin, binary64, ofBits}
+use Rattle.root.specs.Root.{squareRoot}
+use Rattle.geometry.specs.declared.Vec3i.{Vec3i}
+use Rattle.geometry.specs.Values.{vec3, vec3i, box}
+use Rattle.geometry.specs.Index.{indicesOf}
+use Rattle.geometry.specs.Axis.{asFloat}
+use Rattle.model.specs.Part.{plusZero}
+use Rattle.grid.specs.declared.Grid.{Grid}
+use Rattle.grid.specs.Ranges.{countBelow}
+use Rattle.grid.specs.Blocks.{cube}
+use Rattle.grid.specs.Nodes.{nodeSize, nodesAlong}
+use Rattle.grid.specs.Boxes.{active}
+use Rattle.grid.specs.Corners.{neededCorners}
+use Rattle.grid.specs.Pruning.{lowest, highest, pruned, average}
+use Rattle.dense_field.specs.Field.{pointsOf, outside}
+use Rattle.dense_field.specs.Threshold.{cut}
+use Rattle.dense_field.specs.Smoothing.{smoothed}
+
+-- floats by name: -0, -1, 1/2, and the next float above 2
+abbrev pub minusZero : Float
+minusZero = fin true 0 (pos 0)
+
+abbrev pub minusOne : Float
+minusOne = fin true 1 (pos 0)
+
+abbrev pub half : Float
+half = fin false 1 (negsuc 0)
+
+abbrev pub aboveTwo : Float
+aboveTwo = ofBits binary64 0x4000_0000_0000_0001
+
+-- bounds from 0 to an end on each axis, with cell 1 and the blocks given
+abbrev pub cubic : (end : Float) (inner leaf : ℕ) → Grid
+cubic end inner leaf =
+    record { bounds = box (vec3 (asFloat 0) (asFloat 0) (asFloat 0)) (vec3 end end end); cell = asFloat 1; inner = inner; leaf = leaf }
+
+-- the active children of its first node, and how many corners they need
+abbrev pub activeIn : Grid → ℕ
+activeIn g = countBelow (cube (g .inner)) (active g 0)
+
+abbrev pub cornersIn : Grid → ℕ
+cornersIn g = length (neededCorners (g .inner) (active g 0))
+
+-- an axis of 2 points
+pub data OfTwo (n : Vec3i) : Type 0 where
+  along-x : n .i ≡ 2 → OfTwo n
+  along-y : n .j ≡ 2 → OfTwo n
+  along-z : n .k ≡ 2 → OfTwo n
+
+-- the centre of 3 × 3 × 3 stands at 13, and its neighbours at 14, 12, 16, 10, 22 and 4
+pub record CentreOfSixes (vs : List Float) : Type 0 where
+  pub centre : getD vs 13 plusZero ≡ asFloat 0
+  pub right : getD vs 14 plusZero ≡ asFloat 6
+  pub left : getD vs 12 plusZero ≡ asFloat 6
+  pub behind : getD vs 16 plusZero ≡ asFloat 6
+  pub before : getD vs 10 plusZero ≡ asFloat 6
+  pub above : getD vs 22 plusZero ≡ asFloat 6
+  pub below : getD vs 4 plusZero ≡ asFloat 6
+
+pub record Measured : Type 0 where
+  -- "Bounds 0..1, cell 1, blocks 2 2: 8 active."
+  pub blocks-2-2 : activeIn (cubic (asFloat 1) 2 2) ≡ 8
+  -- "Blocks 4 2: 8 active of 64, 27 corners needed of 125."
+  pub blocks-4-2 : (activeIn (cubic (asFloat 1) 4 2) ≡ 8) × (cube 4 ≡ 64) × (cornersIn (cubic (asFloat 1) 4 2) ≡ 27) × (cube 5 ≡ 125)
+  -- "Bounds 0..0, blocks 2 2: 1 active, 8 corners."
+  pub bounds-0-0 : (activeIn (cubic (asFloat 0) 2 2) ≡ 1) × (cornersIn (cubic (asFloat 0) 2 2) ≡ 8)
+  -- "Extent 2, s = 2: 1 node; next float above 2: 2."
+  pub extent-2 : (nodesAlong (asFloat 0) (asFloat 2) (asFloat 2) ≡ 1) × (nodesAlong (asFloat 0) aboveTwo (asFloat 2) ≡ 2)
+  -- "Eight NaN corners: leaf."
+  pub nan-corners : (least most h : Float) → pruned least most (lowest (replicate 8 nan)) (highest (replicate 8 nan)) h ≡ false
+  -- "Eight -0 corners, pruned: constant +0."
+  pub minus-zeros : average (replicate 8 minusZero) ≡ plusZero
+  -- "3×3×3, centre 0, its six neighbours 6, f = 0.5, one round: 3."
+  pub sixes : (vs : List Float) → CentreOfSixes vs → getD (smoothed (vec3i 3 3 3) half 1 vs) 13 plusZero ≡ asFloat 3
+  -- "Dimension 2: smoothing changes nothing."
+  pub dimension-2 : (n : Vec3i) (f : Float) (rounds : ℕ) (vs : List Float) → OfTwo n → length vs ≡ pointsOf n → smoothed n f rounds vs ≡ vs
+  -- "Padding 4×4×4 writes 56."
+  pub padding-56 : countBelow 64 (λ p. outside (vec3i 4 4 4) (indicesOf p 4 4)) ≡ 56
+  -- "Threshold 1: -1 stays, -0 becomes +0."
+  pub threshold-1 : (cut (asFloat 1) minusOne ≡ minusOne) × (cut (asFloat 1) minusZero ≡ plusZero)
+  -- "sqrt 4 = 2."
+  pub root-4 : squareRoot (asFloat 4) ≡ asFloat 2
