@@ -1,5 +1,5 @@
 -- The order of lib.Ieee's values, over both signs, both zeros and the infinities: `le` is transitive, it is total where no NaN stands, and `lt` excludes it the other way round.
--- Rounding keeps it, so a difference x - h is at most the sum y + h, for x at most y and an h that is not negative. No value has to fit its format. Assumes nothing.
+-- No value has to fit a format. Assumes nothing.
 use mathlib.Core.Path.{_≡_, refl, sym, ap, _∙_, subst}
 use mathlib.Core.Logic.{_⊎_, inl, inr}
 use Prim.Native.Nat.{ℕ, suc, _+_, _-_, _*_, _^_, _≤_, _<_}
@@ -20,11 +20,11 @@ abbrev pub minusPart : Bool → ℕ → ℕ
 minusPart false a = 0
 minusPart true a = a
 
-plus-mul : (s : Bool) (a c : ℕ) → plusPart s (a * c) ≡ plusPart s a * c
+pub plus-mul : (s : Bool) (a c : ℕ) → plusPart s (a * c) ≡ plusPart s a * c
 plus-mul false a c = refl
 plus-mul true a c = sym (zero-mul c)
 
-minus-mul : (s : Bool) (a c : ℕ) → minusPart s (a * c) ≡ minusPart s a * c
+pub minus-mul : (s : Bool) (a c : ℕ) → minusPart s (a * c) ≡ minusPart s a * c
 minus-mul false a c = sym (zero-mul c)
 minus-mul true a c = refl
 
@@ -64,7 +64,7 @@ or-split : (a b : Bool) → T (a || b) → T a ⊎ T b
 or-split true b t = inl tt
 or-split false b t = inr t
 
-at-most : (s : Bool) (a : ℕ) (t : Bool) (b : ℕ) → T (below s a t b || level s a t b) → AtMost s a t b
+pub at-most : (s : Bool) (a : ℕ) (t : Bool) (b : ℕ) → T (below s a t b || level s a t b) → AtMost s a t b
 at-most s a t b h = elim (or-split (below s a t b) (level s a t b) h) [ inl u ↦ below-at-most s a t b u | inr u ↦ level-at-most s a t b u .0 ]
 
 not-below : (s : Bool) (a : ℕ) (t : Bool) (b : ℕ) → T (not (below s a t b)) → AtMost t b s a
@@ -77,7 +77,7 @@ or-else : (a b : Bool) → (T (not a) → T b) → T (a || b)
 or-else true b f = tt
 or-else false b f = f tt
 
-at-most-test : (s : Bool) (a : ℕ) (t : Bool) (b : ℕ) → AtMost s a t b → T (below s a t b || level s a t b)
+pub at-most-test : (s : Bool) (a : ℕ) (t : Bool) (b : ℕ) → AtMost s a t b → T (below s a t b || level s a t b)
 at-most-test s a t b = go s t
   where
     same : a ≡ b → T (eqb a b && true)
@@ -126,7 +126,7 @@ le-infinity (inf false) h = tt
 le-infinity (fin s m e) h = tt
 
 -- ±x / p ≤ ±y / q ≤ ±z / r
-at-most-chain : (s : Bool) (x p : ℕ) (t : Bool) (y q : ℕ) (u : Bool) (z r : ℕ) → 0 < q → AtMost s (x * q) t (y * p) → AtMost t (y * r) u (z * q) → AtMost s (x * r) u (z * p)
+pub at-most-chain : (s : Bool) (x p : ℕ) (t : Bool) (y q : ℕ) (u : Bool) (z r : ℕ) → 0 < q → AtMost s (x * q) t (y * p) → AtMost t (y * r) u (z * q) → AtMost s (x * r) u (z * p)
 at-most-chain s x p t y q u z r Q h k =
     let h' : plusPart s x * q + minusPart t y * p ≤ plusPart t y * p + minusPart s x * q = omega (arith, plus-mul s x q, minus-mul t y p, plus-mul t y p, minus-mul s x q) in
     let k' : plusPart t y * r + minusPart u z * q ≤ plusPart u z * q + minusPart t y * r = omega (arith, plus-mul t y r, minus-mul u z q, plus-mul u z q, minus-mul t y r) in
