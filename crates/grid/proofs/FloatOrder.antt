@@ -7,7 +7,7 @@ use native.Mathlib.Nat.{zero-mul, mul-right-comm, mul-le-mul-right, le-of-mul-le
 use native.Mathlib.Omega.{arith}
 use mathlib.Core.Bool.{Bool, true, false, not, _&&_, _||_, Bool·beq, cond}
 use lib.IntN.{ℤ}
-use lib.Dec.{T, ltb, eqb, ltb→lt, nltb→le, lt→ltb, eqb→eq}
+use lib.Dec.{T, T-not, ltb, eqb, ltb→lt, nltb→le, lt→ltb, eqb→eq}
 use lib.Ieee.{Float, nan, inf, fin, Format, prec, low, up, down, below, level, odd, units, round, neg, sum, add, sub, lt, eq, le, isNan}
 use lib.Ieee.Fits.{down-pos, and-i, and-l, and-r, eq→eqb}
 
@@ -82,8 +82,10 @@ at-most-test s a t b = go s t
   where
     same : a ≡ b → T (eqb a b && true)
     same e = and-i (eqb a b) true (eq→eqb e) tt
+
     zeros : a ≡ b → a ≡ 0 → T (eqb a b && eqb a 0)
     zeros e z = and-i (eqb a b) (eqb a 0) (eq→eqb e) (eq→eqb z)
+
     go : (s t : Bool) → AtMost s a t b → T (below s a t b || level s a t b)
     go false false h = or-else (ltb a b) (level false a false b) (λ n. same (omega (arith, nltb→le a b n)))
     go false true h = zeros (omega arith) (omega arith)
@@ -185,6 +187,10 @@ le-of-not-lt (fin s m e) nan p q h = absurd q
 le-of-not-lt (fin s m e) (inf true) p q h = tt
 le-of-not-lt (fin s m e) (inf false) p q h = absurd h
 le-of-not-lt (fin s m e) (fin t n d) p q h = at-most-test t (n * up d * down e) s (m * up e * down d) (not-below s (m * up e * down d) t (n * up d * down e) h)
+
+pub le-of-lt : (x y : Float) → T (lt x y) → T (le x y)
+unfolding le
+le-of-lt x y h = or-else (lt x y) (eq x y) (λ n. absurd (T-not (lt x y) n h))
 
 -- equal values are at most each other
 pub le-of-eq : (x y : Float) → T (eq x y) → T (le x y) × T (le y x)

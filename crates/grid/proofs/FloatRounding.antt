@@ -24,7 +24,7 @@ same-sign : (s : Bool) → T (Bool·beq s s)
 same-sign false = tt
 same-sign true = tt
 
-odd-has-sign : (d : ℕ) (s : Bool) (q k l : ℕ) → T (hasSign s (odd d s q k l))
+pub odd-has-sign : (d : ℕ) (s : Bool) (q k l : ℕ) → T (hasSign s (odd d s q k l))
 unfolding odd
 odd-has-sign d s zero k l = same-sign s
 odd-has-sign d s (suc q) k l = same-sign s
@@ -179,7 +179,7 @@ sums-le f s x p t y q w r P Q R h =
     let (v, k, e', d') = exact-sum f t (y * r) false (w * q) (q * r) in
     let h' : plusPart s x * q + minusPart t y * p ≤ plusPart t y * p + minusPart s x * q = omega (arith, plus-mul s x q, minus-mul t y p, plus-mul t y p, minus-mul s x q) in
     let z = spread (plusPart s x) (minusPart s x) (plusPart t y) (minusPart t y) w p q r (plusPart u g) (minusPart u g) (plusPart v k) (minusPart v k) h'
-        (omega (arith, plus-mul s x r, minus-mul s x r)) (omega (arith, plus-mul t y r, minus-mul t y r)) in
+    (omega (arith, plus-mul s x r, minus-mul s x r)) (omega (arith, plus-mul t y r, minus-mul t y r)) in
     rw (e, e')
     (round-at-most f u g (p * r) v k (q * r) (mul-pos P R) (mul-pos Q R)
     (omega (arith, z, plus-mul u g (q * r), minus-mul u g (q * r), plus-mul v k (p * r), minus-mul v k (p * r))))
