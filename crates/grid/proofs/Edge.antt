@@ -1,6 +1,6 @@
 -- The pruning rule at the band's edge. Document 01: "hi + h equal to min_val, min_val not above max_val: leaf." "Eight NaN corners: leaf."
--- Both hold for every float, whether a format holds it or not, and the first for octets of any length. Assumes nothing.
-use mathlib.Core.Path.{_≡_, refl, sym, ap, subst}
+-- Both hold for any floats, whether a format holds them or not, and for octets of any length above none, the first also for none. Assumes nothing.
+use mathlib.Core.Path.{_≡_, refl}
 use mathlib.Core.List.{List, [], _∷_}
 use mathlib.Core.Logic.{_⊎_, inl, inr}
 use Prim.Native.Nat.{ℕ, zero, suc, _+_, _*_, _/_, _^_}
@@ -8,7 +8,7 @@ use mathlib.Core.Bool.{Bool, true, false, not, _&&_, _||_, cond}
 use lib.IntN.{pos}
 use lib.Dec.{T, T-not, eqb}
 use lib.ListN.{replicate}
-use lib.Ieee.{Float, nan, inf, fin, Format, binary64, up, down, odd, round, sum, add, sub, mul, div, neg, ofInt, lt, eq, le, isNan}
+use lib.Ieee.{Float, nan, inf, fin, Format, binary64, up, down, odd, round, sum, add, sub, mul, div, ofInt, lt, eq, le, isNan}
 use lib.Ieee.Fits.{and-r}
 use Rattle.float.specs.Select.{minOf, maxOf}
 use Rattle.geometry.specs.declared.BoundingBox.{BoundingBox}
@@ -191,29 +191,28 @@ neither false false f g = refl
 holds : {b : Bool} → b ≡ true → T b
 holds e = rw e tt
 
+-- lo - h ≤ hi + h ≤ least ≤ most, unless lo - h is a NaN; neither comparison of the rule holds then
+edge-apart : (lo hi h least most : Float) → Spans lo hi → T (unsigned h) → T (eq (add binary64 hi h) least) → T (le least most) → pruned least most lo hi h ≡ false
+unfolding pruned
+edge-apart lo hi h least most s u e l =
+    let upper = add binary64 hi h in
+    let lower = sub binary64 lo h in
+    let equal = le-of-eq upper least e in
+    let n = number-left upper least (equal .0) in
+    let both = add-numbers binary64 hi h n in
+    let under = difference-le-sum binary64 lo hi h (ordered lo hi s (both .0)) (sign-of h u (both .1)) in
+    let reach = le-trans upper least most (equal .0) l in
+    neither (lt upper least) (lt most lower)
+    (λ x. lt-excludes upper least x (equal .1))
+    (λ x. lt-excludes most lower x (le-trans lower upper most (under (number-right most lower (le-of-lt most lower x)) n) reach))
+
 -- "hi + h equal to min_val, min_val not above max_val: leaf."
 pub edge-is-leaf : (octet : List Float) (b : BoundingBox) (least most : Float)
     → eq (add binary64 (highest octet) (halfDiagonal b)) least ≡ true
     → le least most ≡ true
     → pruned least most (lowest octet) (highest octet) (halfDiagonal b) ≡ false
-unfolding pruned
 edge-is-leaf octet b least most e l =
-    let lo = lowest octet in
-    let hi = highest octet in
-    let h = halfDiagonal b in
-    let upper = add binary64 hi h in
-    let lower = sub binary64 lo h in
-    let equal = le-of-eq upper least (holds e) in
-    let sum-number = number-left upper least (equal .0) in
-    let both = add-numbers binary64 hi h sum-number in
-    let span = ordered lo hi (octet-spans octet) (both .0) in
-    let within : T (number lower) → T (le lower most) = λ n.
-    le-trans lower upper most
-    (difference-le-sum binary64 lo hi h span (sign-of h (half-unsigned b) (both .1)) n sum-number)
-    (le-trans upper least most (equal .0) (holds l)) in
-    neither (lt upper least) (lt most lower)
-    (λ u. lt-excludes upper least u (equal .1))
-    (λ u. lt-excludes most lower u (within (number-right most lower (le-of-lt most lower u))))
+    edge-apart (lowest octet) (highest octet) (halfDiagonal b) least most (octet-spans octet) (half-unsigned b) (holds e) (holds l)
 
 -- of NaN corners, any number above none, the lowest and the highest are NaN
 nan-low : (n : ℕ) → folded minOf nan (replicate n nan) ≡ nan

@@ -1,18 +1,17 @@
 -- Rounding keeps the order of signed fractions, so a difference x - h is at most the sum y + h, for x at most y and an h that is not negative. Assumes nothing.
-use mathlib.Core.Path.{_≡_, refl, sym, ap, _∙_, subst}
+use mathlib.Core.Path.{_≡_, refl, sym, ap, _∙_}
 use mathlib.Core.Logic.{inl, inr}
 use Prim.Native.Nat.{ℕ, zero, suc, _+_, _-_, _*_, _/_, _%_, _^_, _≤_, _<_, compare}
 use native.Mathlib.Nat.{eq-zero-or-pos, mul-le-mul-right, mul-pos, zero-mul}
 use native.Mathlib.Omega.{arith}
-use mathlib.Core.Bool.{Bool, true, false, not, _&&_, _||_, Bool·beq, cond}
-use lib.IntN.{ℤ}
+use mathlib.Core.Bool.{Bool, true, false, not, Bool·beq, cond}
 use lib.Dec.{T, ltb, ltb→lt, nltb→le}
 use lib.Pow.{pow-pos}
 use lib.Ieee.{Float, nan, inf, fin, Format, prec, emax, low, up, down, size, nearest, odd, units, round, neg, sum, add, sub, le, isNan}
-use lib.Ieee.Fits.{down-pos, core, round-is}
+use lib.Ieee.Fits.{down-pos}
 use lib.Ieee.Exact.{HasValue, round-exact}
 use lib.Ieee.Order.{round-mono}
-use Rattle.grid.proofs.FloatOrder.{plusPart, minusPart, AtMost, number, plus-mul, minus-mul, at-most, at-most-test, at-most-chain, minus-infinity-le, le-infinity, number-right}
+use Rattle.grid.proofs.FloatOrder.{plusPart, minusPart, AtMost, number, plus-mul, minus-mul, at-most, at-most-test, minus-infinity-le, le-infinity}
 
 -- ---- the sign of a rounded value
 abbrev pub hasSign : Bool → Float → Bool
