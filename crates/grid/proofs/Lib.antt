@@ -1,0 +1,3 @@
+pub mod FloatOrder
+pub mod FloatRounding
+pub mod Edge
