@@ -1,5 +1,6 @@
 -- THE MEASURED FACTS: what document 01 marks with * under "Measured on the bench", as one theorem.
 use mathlib.Core.Path.{refl}
+use Rattle.grid.proofs.Edge.{edge-is-leaf, nan-is-leaf}
 use Rattle.measured.specs.Measured.{Measured}
 use Rattle.measured.proofs.Flat.{two-stays}
 use Rattle.measured.proofs.Small as small
@@ -10,7 +11,8 @@ measured = record {
   blocks-4-2 = (small.eight-of-64, refl, small.corners-27, refl);
   bounds-0-0 = (small.one-of-eight, small.corners-8);
   extent-2 = (small.two-in-one, small.above-two-in-two);
-  nan-corners = small.nan-corners;
+  at-the-edge = edge-is-leaf;
+  nan-corners = nan-is-leaf;
   minus-zeros = small.minus-zeros;
   sixes = small.centre-three;
   dimension-2 = two-stays;

@@ -6,10 +6,9 @@ use Prim.Native.Nat.{ℕ, _+_}
 use lib.ListN.{length, getD, replicate}
 use lib.IntN.{pos, negsuc}
 use lib.Dec.{lit<}
-use lib.Ieee.{Float, nan, inf, fin, binary64, ofBits, ofInt, add, sub, mul, div, lt, le, toUnsigned, isNan, size, odd}
+use lib.Ieee.{Float, fin, binary64, ofBits, ofInt, add, sub, mul, div, lt, le, toUnsigned, size, odd}
 use Rattle.root.specs.Nearest.{nearestRoot}
 use Rattle.root.specs.Root.{squareRoot, rootOf, scale}
-use Rattle.float.specs.Select.{minOf, maxOf}
 use Rattle.float.specs.Sign.{absOf}
 use Rattle.float.specs.Whole.{ceilOf}
 use Rattle.geometry.specs.declared.Vec3i.{Vec3i}
@@ -24,7 +23,7 @@ use Rattle.grid.specs.Ranges.{anyBelow, countBelow, listBelow}
 use Rattle.grid.specs.Nodes.{nodeSize, nodesAlong, nodeCounts}
 use Rattle.grid.specs.Boxes.{nodeLeast, nodeMost, nodeBoxAt, nodeBox, childBoxAt, childBox, active}
 use Rattle.grid.specs.Corners.{octet, among, needed, neededCorners}
-use Rattle.grid.specs.Pruning.{folded, lowest, highest, pruned, average}
+use Rattle.grid.specs.Pruning.{folded, average}
 use Rattle.dense_field.specs.Field.{onEdge, outside}
 use Rattle.dense_field.specs.Threshold.{cut}
 use Rattle.measured.specs.Measured.{minusZero, minusOne, half, aboveTwo, cubic, activeIn, cornersIn, CentreOfSixes}
@@ -101,18 +100,3 @@ minus-zero-goes = refl
 pub root-of-four : squareRoot (asFloat 4) ≡ asFloat 2
 unfolding squareRoot rootOf scale nearestRoot size odd ofInt
 root-of-four = refl
-
--- where every corner is a NaN, so are lo and hi, and neither test holds
-lt-nan : (x : Float) → lt x nan ≡ false
-unfolding lt
-lt-nan nan = refl
-lt-nan (inf s) = refl
-lt-nan (fin s m e) = refl
-
-nan-lt : (x : Float) → lt nan x ≡ false
-unfolding lt
-nan-lt x = refl
-
-pub nan-corners : (least most h : Float) → pruned least most (lowest (replicate 8 nan)) (highest (replicate 8 nan)) h ≡ false
-unfolding pruned lowest highest folded minOf maxOf isNan add sub
-nan-corners least most h = rw (nan-lt, lt-nan) refl

@@ -6,9 +6,10 @@ use mathlib.Core.List.{List, [], _∷_}
 use Prim.Native.Nat.{ℕ}
 use lib.ListN.{length, getD, replicate}
 use lib.IntN.{pos, negsuc}
-use lib.Ieee.{Float, nan, fin, binary64, ofBits}
+use lib.Ieee.{Float, nan, fin, binary64, ofBits, add, eq, le}
 use Rattle.root.specs.Root.{squareRoot}
 use Rattle.geometry.specs.declared.Vec3i.{Vec3i}
+use Rattle.geometry.specs.declared.BoundingBox.{BoundingBox}
 use Rattle.geometry.specs.Values.{vec3, vec3i, box}
 use Rattle.geometry.specs.Index.{indicesOf}
 use Rattle.geometry.specs.Axis.{asFloat}
@@ -19,7 +20,7 @@ use Rattle.grid.specs.Blocks.{cube}
 use Rattle.grid.specs.Nodes.{nodeSize, nodesAlong}
 use Rattle.grid.specs.Boxes.{active}
 use Rattle.grid.specs.Corners.{neededCorners}
-use Rattle.grid.specs.Pruning.{lowest, highest, pruned, average}
+use Rattle.grid.specs.Pruning.{halfDiagonal, lowest, highest, pruned, average}
 use Rattle.dense_field.specs.Field.{pointsOf, outside}
 use Rattle.dense_field.specs.Threshold.{cut}
 use Rattle.dense_field.specs.Smoothing.{smoothed}
@@ -74,6 +75,9 @@ pub record Measured : Type 0 where
   pub bounds-0-0 : (activeIn (cubic (asFloat 0) 2 2) ≡ 1) × (cornersIn (cubic (asFloat 0) 2 2) ≡ 8)
   -- "Extent 2, s = 2: 1 node; next float above 2: 2."
   pub extent-2 : (nodesAlong (asFloat 0) (asFloat 2) (asFloat 2) ≡ 1) × (nodesAlong (asFloat 0) aboveTwo (asFloat 2) ≡ 2)
+  -- "hi + h equal to min_val, min_val not above max_val: leaf." For every octet and every child's box
+  pub at-the-edge : (octet : List Float) (b : BoundingBox) (least most : Float) → eq (add binary64 (highest octet) (halfDiagonal b)) least ≡ true
+      → le least most ≡ true → pruned least most (lowest octet) (highest octet) (halfDiagonal b) ≡ false
   -- "Eight NaN corners: leaf."
   pub nan-corners : (least most h : Float) → pruned least most (lowest (replicate 8 nan)) (highest (replicate 8 nan)) h ≡ false
   -- "Eight -0 corners, pruned: constant +0."
