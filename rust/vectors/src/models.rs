@@ -168,7 +168,8 @@ fn spheres(text: &mut String, random: &mut Random) {
             &[Part::Sphere(centre, coordinate(random))],
         );
     }
-    for _ in 0..30 {
+    // All digits: the order of the sums shows.
+    for _ in 0..90 {
         let centre = point_of(random, full);
         case(
             text,
@@ -199,7 +200,7 @@ fn planes(text: &mut String, random: &mut Random) {
         );
     }
     // All digits: the order of the sums shows.
-    for _ in 0..30 {
+    for _ in 0..60 {
         let normal = point_of(random, full);
         case(
             text,
@@ -339,7 +340,7 @@ fn any_parts(random: &mut Random, count: u32) -> Vec<Part> {
 }
 
 fn mixed(text: &mut String, random: &mut Random) {
-    for round in 0..130 {
+    for round in 0..169 {
         let count = match round % 13 {
             12 => random.between(20, 64),
             _ => random.between(2, 12),
