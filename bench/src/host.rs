@@ -119,11 +119,7 @@ mod model {
     }
 
     /// The values of the parts at a row of points, part by part.
-    pub fn evaluate_row(
-        l: &Layout,
-        [px, py, pz]: [&[f64; ROW]; 3],
-        values: &mut [f64; ROW * ROW],
-    ) {
+    pub fn evaluate_row(l: &Layout, [px, py, pz]: [&[f64; ROW]; 3], values: &mut [f64; ROW * ROW]) {
         unsafe {
             bench_evaluate_row(
                 &l.codes, &l.firsts, &l.seconds, &l.xs, &l.ys, &l.zs, &l.ws, l.count, px, py, pz,

@@ -27,7 +27,13 @@ pub fn rows() {
 const PLANE: Part = Part::Plane([0.6, -0.64, 0.48], 0.125);
 
 fn union() -> Vec<Part> {
-    let centre = |n: u32| [(n % 4) as f64, (n / 4 % 4) as f64 * 1.25, (n / 16) as f64 * 1.5];
+    let centre = |n: u32| {
+        [
+            (n % 4) as f64,
+            (n / 4 % 4) as f64 * 1.25,
+            (n / 16) as f64 * 1.5,
+        ]
+    };
     let mut parts: Vec<Part> = (0..32).map(|n| Part::Sphere(centre(n), 0.75)).collect();
     parts.push(Part::Min(0, 1));
     for next in 2..32 {
@@ -63,7 +69,11 @@ fn points() -> Points {
     for (i, place) in x.iter_mut().enumerate() {
         *place = 0.05 + 0.1 * i as f64;
     }
-    Points { x, y: [1.3; ROW], z: [0.7; ROW] }
+    Points {
+        x,
+        y: [1.3; ROW],
+        z: [0.7; ROW],
+    }
 }
 
 /// Two rows of the table for one model.

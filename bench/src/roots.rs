@@ -5,7 +5,7 @@ use crate::measure::row;
 
 /// The machine's root, behind a call as ours is.
 #[inline(never)]
-fn hardware_sqrt(x: f64) -> f64 {
+pub fn hardware_sqrt(x: f64) -> f64 {
     x.sqrt()
 }
 

@@ -37,6 +37,10 @@ pub fn around(x: u64) -> [u64; 3] {
 }
 
 /// The bits of a result, with one pattern for NaN.
+///
+/// Never inlined: next to a root, the compiler takes the test for NaN out and
+/// leaves the pattern that the machine's root gives.
+#[inline(never)]
 pub fn result(x: f64) -> u64 {
     if x.is_nan() {
         NAN
