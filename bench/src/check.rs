@@ -1,6 +1,9 @@
 //! Compares bits, which no contract speaks of where a NaN is concerned: a
 //! computed NaN has one pattern, and a copied one keeps its own.
 
+#[cfg(all(feature = "model", feature = "original"))]
+pub mod models;
+
 use crate::host::{self, ROW};
 use crate::roots::hardware_sqrt;
 
@@ -11,10 +14,10 @@ const COMPUTED_NAN: u64 = 0x7ff8_0000_0000_0000;
 const ROOTS: usize = 20_000_000;
 
 /// A small generator of numbers (splitmix64).
-pub struct Random(pub u64);
+struct Random(u64);
 
 impl Random {
-    pub fn next(&mut self) -> u64 {
+    fn next(&mut self) -> u64 {
         self.0 = self.0.wrapping_add(0x9e37_79b9_7f4a_7c15);
         let z = (self.0 ^ (self.0 >> 30)).wrapping_mul(0xbf58_476d_1ce4_e5b9);
         let z = (z ^ (z >> 27)).wrapping_mul(0x94d0_49bb_1331_11eb);

@@ -83,6 +83,7 @@ mod model {
             };
             for (place, part) in parts.iter().enumerate() {
                 match *part {
+                    Part::Const(value) => layout.shape(place, 0, [0.0; 3], value),
                     Part::Sphere(centre, radius) => layout.shape(place, 1, centre, radius),
                     Part::Plane(normal, offset) => layout.shape(place, 2, normal, offset),
                     Part::Min(a, b) => layout.operation(place, 3, a, b),

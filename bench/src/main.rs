@@ -13,16 +13,24 @@ use std::process::ExitCode;
 
 fn main() -> ExitCode {
     if std::env::args().nth(1).as_deref() == Some("check") {
-        let wrong = check::roots();
-        return if wrong == 0 {
-            ExitCode::SUCCESS
-        } else {
-            ExitCode::FAILURE
-        };
+        return compare_bits();
     }
     measure::head();
     roots::rows();
     #[cfg(feature = "model")]
     models::rows();
     ExitCode::SUCCESS
+}
+
+fn compare_bits() -> ExitCode {
+    let wrong = check::roots();
+    #[cfg(all(feature = "model", feature = "original"))]
+    let wrong = wrong + check::models::values();
+    #[cfg(not(all(feature = "model", feature = "original")))]
+    println!("check: SKIPPED, the values of models");
+    if wrong == 0 {
+        ExitCode::SUCCESS
+    } else {
+        ExitCode::FAILURE
+    }
 }

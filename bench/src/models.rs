@@ -6,6 +6,7 @@ use crate::measure::row;
 /// A part of a model. Inputs are places in the list of parts.
 #[derive(Clone, Copy)]
 pub enum Part {
+    Const(f64),
     /// Centre and radius.
     Sphere([f64; 3], f64),
     /// Normal and offset.
@@ -112,9 +113,10 @@ fn compare(name: &str, parts: &[Part], at: &Points, ours: Ours) {
 }
 
 #[cfg(feature = "original")]
-fn theirs(part: &Part) -> original::parts::Part {
+pub fn theirs(part: &Part) -> original::parts::Part {
     use original::parts::Part as Original;
     match *part {
+        Part::Const(value) => Original::Const(value),
         Part::Sphere(centre, radius) => Original::Sphere(centre, radius),
         Part::Plane(normal, offset) => Original::Plane(normal, offset),
         Part::Min(a, b) => Original::Min(a, b),
