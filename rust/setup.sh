@@ -1,3 +1,4 @@
+# shellcheck shell=bash
 # Sourced by `rust/compare` and `bench/run`, in the repository's folder.
 
 # What the original's files use.
@@ -58,6 +59,7 @@ original_ready() {
         missing=$(missing_packages)
     fi
     if [ -n "$missing" ]; then
+        # shellcheck disable=SC2086
         echo "these packages are missing and could not be had:" $missing
         return 1
     fi
