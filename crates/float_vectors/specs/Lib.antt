@@ -1,2 +1,2 @@
 pub mod Case
-pub mod Line
+pub mod Tally

@@ -1,5 +1,8 @@
 // Reading a list of stored cases: words, and numbers of 16 lowercase hexadecimal digits.
 ghost use mathlib.Core.Path.{_≡_};
+ghost use Prim.Native.Nat.{_<_};
+ghost use lib.ListN.{length};
+ghost use Rattle.vectors.specs.Line.{LineEnd};
 ghost use Rattle.vectors.specs.Text.{byteAt, digitOf, hexAt, hasWord, joined, rowAt};
 
 // What stands where a number is looked for.
@@ -116,4 +119,19 @@ pub fn three_numbers(s: &[u8], at: usize) -> Row
         return Row::NoRow;
     }
     join(hex16(s, at), hex16(s, at + 17), hex16(s, at + 34))
+}
+
+// Where the line that holds a place ends: past its byte 10, or at the end of the text.
+pub fn line_end(s: &[u8], at: usize) -> usize
+    requires { ⌜ at < length (now s) ⌝ }
+    ensures { λ r. ⌜ LineEnd (now (s .entry)) at r ⌝ }
+{
+    let mut k = at;
+    while k < s.len() {
+        if s[k] == 10 {
+            return k + 1;
+        }
+        k += 1;
+    }
+    k
 }

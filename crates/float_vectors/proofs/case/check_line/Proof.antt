@@ -6,42 +6,28 @@ use Rattle.float_vectors.specs.Case.{isNamed, operationOf, verdictOf}
 use borrow.Author.Needs.{needs}
 use Rattle.float_vectors.proofs.case.check_line.Statement.{statement}
 use Rattle.float_vectors.proofs.case.check_line.Tie as tie
-use Rattle.float_vectors.proofs.case.check_line.Reads as reads
-use Rattle.float_vectors.proofs.case.check_line.Lts as lts
-use Rattle.float_vectors.proofs.case.is_named.Reads as is-named-reads
-use Rattle.float_vectors.proofs.case.judge.Reads as judge-reads
-use Rattle.float_vectors.proofs.case.named_operation.Reads as named-operation-reads
-use Rattle.float_vectors.proofs.case.start.Reads as start-reads
-use Rattle.vectors.proofs.three_numbers.Reads as three-numbers-reads
 
--- src/case.rt:108:9
 named-operation-requires : tie.Need-named-operation-requires
 named-operation-requires c κs = search needs
 
--- src/case.rt:109:9
 is-named-requires : tie.Need-is-named-requires
 is-named-requires c κs = search needs
 
--- src/case.rt:110:9
 returns : tie.Need-returns
 unfolding verdictOf
 returns c =
     let named : isNamed (operationOf (c .before .before .before .before .args .line .now)) ≡ false = sym (c .before .is-named .ensures ∙ ap isNamed (c .before .before .named-operation .ensures)) ∙ not-true _ (c .if1 .taken) in
     rw named
 
--- src/case.rt:112:44
 start-requires : tie.Need-start-requires
 start-requires c κs = search needs
 
--- src/case.rt:112:15
 three-numbers-requires : tie.Need-three-numbers-requires
 three-numbers-requires c κs = search needs
 
--- src/case.rt:112:5
 judge-requires : tie.Need-judge-requires
 judge-requires c κs = search needs
 
--- src/case.rt:105:1
 returns-2 : tie.Need-returns-2
 unfolding verdictOf
 returns-2 c =

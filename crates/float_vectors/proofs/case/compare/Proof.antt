@@ -6,25 +6,17 @@ use Rattle.float_vectors.specs.Case.{compared}
 use borrow.Author.Needs.{needs}
 use Rattle.float_vectors.proofs.case.compare.Statement.{statement}
 use Rattle.float_vectors.proofs.case.compare.Tie as tie
-use Rattle.float_vectors.proofs.case.compare.Reads as reads
-use Rattle.float_vectors.proofs.case.compare.Lts as lts
-use Rattle.float.proofs.from_bits.Reads as from-bits-reads
-use Rattle.float.proofs.to_bits.Reads as to-bits-reads
 
--- src/case.rt:86:32
 from-bits-requires : tie.Need-from-bits-requires
 from-bits-requires c κs = search needs
 
--- src/case.rt:86:17
 to-bits-requires : tie.Need-to-bits-requires
 to-bits-requires c κs = search needs
 
--- src/case.rt:87:9
 returns : tie.Need-returns
 unfolding compared
 returns c = rw (eq-eqb _ _ (c .if1 .taken ∙ c .before .to-bits .ensures ∙ ap (toBits binary64) (c .before .before .from-bits .ensures)))
 
--- src/case.rt:83:1
 returns-2 : tie.Need-returns-2
 unfolding compared
 returns-2 c = rw (ne-eqb _ _ λ same. c .if1 .left (same ∙ sym (c .before .to-bits .ensures ∙ ap (toBits binary64) (c .before .before .from-bits .ensures))))

@@ -4,76 +4,57 @@ use Rattle.float_vectors.specs.Case.{operationOf}
 use borrow.Author.Needs.{needs}
 use Rattle.float_vectors.proofs.case.named_operation.Statement.{statement}
 use Rattle.float_vectors.proofs.case.named_operation.Tie as tie
-use Rattle.float_vectors.proofs.case.named_operation.Reads as reads
-use Rattle.float_vectors.proofs.case.named_operation.Lts as lts
-use Rattle.vectors.proofs.has_word.Reads as has-word-reads
 
--- src/case.rt:27:35
 slice-aggregate-has-word : tie.Need-slice-aggregate-has-word
 slice-aggregate-has-word c = search needs
 
--- src/case.rt:27:8
 has-word-requires : tie.Need-has-word-requires
 has-word-requires c κs = search needs
 
--- src/case.rt:28:9
 returns : tie.Need-returns
 unfolding operationOf
 returns c = simp (sym (c .before .has-word .ensures) ∙ c .if1 .taken)
 
--- src/case.rt:30:35
 slice-aggregate-has-word-2 : tie.Need-slice-aggregate-has-word-2
 slice-aggregate-has-word-2 c = search needs
 
--- src/case.rt:30:8
 has-word-requires-2 : tie.Need-has-word-requires-2
 has-word-requires-2 c κs = search needs
 
--- src/case.rt:31:9
 returns-2 : tie.Need-returns-2
 unfolding operationOf
 returns-2 c = simp (sym (c .before .before .before .before .has-word .ensures) ∙ c .before .before .before .if1 .left, sym (c .before .has-word2 .ensures) ∙ c .if2 .taken)
 
--- src/case.rt:33:35
 slice-aggregate-has-word-3 : tie.Need-slice-aggregate-has-word-3
 slice-aggregate-has-word-3 c = search needs
 
--- src/case.rt:33:8
 has-word-requires-3 : tie.Need-has-word-requires-3
 has-word-requires-3 c κs = search needs
 
--- src/case.rt:34:9
 returns-3 : tie.Need-returns-3
 unfolding operationOf
 returns-3 c = simp (sym (c .before .before .before .before .before .before .before .has-word .ensures) ∙ c .before .before .before .before .before .before .if1 .left, sym (c .before .before .before .before .has-word2 .ensures) ∙ c .before .before .before .if2 .left, sym (c .before .has-word3 .ensures) ∙ c .if3 .taken)
 
--- src/case.rt:36:35
 slice-aggregate-has-word-4 : tie.Need-slice-aggregate-has-word-4
 slice-aggregate-has-word-4 c = search needs
 
--- src/case.rt:36:8
 has-word-requires-4 : tie.Need-has-word-requires-4
 has-word-requires-4 c κs = search needs
 
--- src/case.rt:37:9
 returns-4 : tie.Need-returns-4
 unfolding operationOf
 returns-4 c = simp (sym (c .before .before .before .before .before .before .before .before .before .before .has-word .ensures) ∙ c .before .before .before .before .before .before .before .before .before .if1 .left, sym (c .before .before .before .before .before .before .before .has-word2 .ensures) ∙ c .before .before .before .before .before .before .if2 .left, sym (c .before .before .before .before .has-word3 .ensures) ∙ c .before .before .before .if3 .left, sym (c .before .has-word4 .ensures) ∙ c .if4 .taken)
 
--- src/case.rt:39:35
 slice-aggregate-has-word-5 : tie.Need-slice-aggregate-has-word-5
 slice-aggregate-has-word-5 c = search needs
 
--- src/case.rt:39:8
 has-word-requires-5 : tie.Need-has-word-requires-5
 has-word-requires-5 c κs = search needs
 
--- src/case.rt:40:9
 returns-5 : tie.Need-returns-5
 unfolding operationOf
 returns-5 c = simp (sym (c .before .before .before .before .before .before .before .before .before .before .before .before .before .has-word .ensures) ∙ c .before .before .before .before .before .before .before .before .before .before .before .before .if1 .left, sym (c .before .before .before .before .before .before .before .before .before .before .has-word2 .ensures) ∙ c .before .before .before .before .before .before .before .before .before .if2 .left, sym (c .before .before .before .before .before .before .before .has-word3 .ensures) ∙ c .before .before .before .before .before .before .if3 .left, sym (c .before .before .before .before .has-word4 .ensures) ∙ c .before .before .before .if4 .left, sym (c .before .has-word5 .ensures) ∙ c .if5 .taken)
 
--- src/case.rt:24:1
 returns-6 : tie.Need-returns-6
 unfolding operationOf
 returns-6 c = simp (sym (c .before .before .before .before .before .before .before .before .before .before .before .before .before .has-word .ensures) ∙ c .before .before .before .before .before .before .before .before .before .before .before .before .if1 .left, sym (c .before .before .before .before .before .before .before .before .before .before .has-word2 .ensures) ∙ c .before .before .before .before .before .before .before .before .before .if2 .left, sym (c .before .before .before .before .before .before .before .has-word3 .ensures) ∙ c .before .before .before .before .before .before .if3 .left, sym (c .before .before .before .before .has-word4 .ensures) ∙ c .before .before .before .if4 .left, sym (c .before .has-word5 .ensures) ∙ c .if5 .left)

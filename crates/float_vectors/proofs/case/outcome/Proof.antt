@@ -3,79 +3,55 @@ use Rattle.float.proofs.Nan.{zero-by-zero}
 use borrow.Author.Needs.{needs}
 use Rattle.float_vectors.proofs.case.outcome.Statement.{statement}
 use Rattle.float_vectors.proofs.case.outcome.Tie as tie
-use Rattle.float_vectors.proofs.case.outcome.Reads as reads
-use Rattle.float_vectors.proofs.case.outcome.Lts as lts
-use Rattle.float.proofs.max.Reads as max-reads
-use Rattle.float.proofs.min.Reads as min-reads
-use Rattle.float.proofs.ceil.Reads as ceil-reads
-use Rattle.float.proofs.floor.Reads as floor-reads
-use Rattle.root.proofs.sqrt.Reads as sqrt-reads
 
--- src/case.rt:73:28
 enum-told : tie.Need-enum-told
 enum-told c = search needs
 
--- src/case.rt:73:28
 sqrt-requires : tie.Need-sqrt-requires
 sqrt-requires c κs = search needs
 
--- src/case.rt:74:29
 enum-told-2 : tie.Need-enum-told-2
 enum-told-2 c = search needs
 
--- src/case.rt:74:29
 floor-requires : tie.Need-floor-requires
 floor-requires c κs = search needs
 
--- src/case.rt:75:28
 enum-told-3 : tie.Need-enum-told-3
 enum-told-3 c = search needs
 
--- src/case.rt:75:28
 ceil-requires : tie.Need-ceil-requires
 ceil-requires c κs = search needs
 
--- src/case.rt:76:27
 enum-told-4 : tie.Need-enum-told-4
 enum-told-4 c = search needs
 
--- src/case.rt:76:27
 min-requires : tie.Need-min-requires
 min-requires c κs = search needs
 
--- src/case.rt:77:27
 enum-told-5 : tie.Need-enum-told-5
 enum-told-5 c = search needs
 
--- src/case.rt:77:27
 max-requires : tie.Need-max-requires
 max-requires c κs = search needs
 
--- src/case.rt:78:29
 enum-told-6 : tie.Need-enum-told-6
 enum-told-6 c = search needs
 
--- src/case.rt:69:1
 returns : tie.Need-returns
 returns c = rw (c .before .enum-told .given .1) (c .sqrt .ensures)
 
--- src/case.rt:69:1
 returns-2 : tie.Need-returns-2
 returns-2 c = rw (c .before .enum-told2 .given .1) (c .floor .ensures)
 
--- src/case.rt:69:1
 returns-3 : tie.Need-returns-3
 returns-3 c = rw (c .before .enum-told3 .given .1) (c .ceil .ensures)
 
--- src/case.rt:69:1
 returns-4 : tie.Need-returns-4
 returns-4 c = rw (c .before .enum-told4 .given .1) (c .min .ensures)
 
--- src/case.rt:69:1
 returns-5 : tie.Need-returns-5
 returns-5 c = rw (c .before .enum-told5 .given .1) (c .max .ensures)
 
--- src/case.rt:69:1
 returns-6 : tie.Need-returns-6
 returns-6 c = rw (c .enum-told6 .given .1) zero-by-zero
 

@@ -7,5 +7,5 @@ use lib.ListN.{length, getD}
 pub record LineEnd (s : List ℕ) (at e : ℕ) : Type 0 where
   pub after : at < e
   pub within : e ≤ length s
-  pub before : (k : ℕ) → at ≤ k → k + 1 < e → getD s k 0 ≡ 10 → ⊥
+  pub before : (k : ℕ) → k + 1 < e → at ≤ k → getD s k 0 ≡ 10 → ⊥
   pub ended : e < length s → getD s (e - 1) 0 ≡ 10

@@ -1,0 +1,14 @@
+-- Every operation has one of the six counts.
+use Prim.Native.Nat.{_<_}
+use native.Mathlib.Omega.{arith}
+use Rattle.float_vectors.specs.declared.case.Operation.{Operation}
+use Rattle.float_vectors.specs.declared.case.Operation.the-variants.{Sqrt, Floor, Ceil, Min, Max, Other}
+use Rattle.float_vectors.specs.Tally.{numberOf}
+
+pub number-small : (op : Operation) → numberOf op < 6
+number-small Sqrt = omega arith
+number-small Floor = omega arith
+number-small Ceil = omega arith
+number-small Min = omega arith
+number-small Max = omega arith
+number-small Other = omega arith
