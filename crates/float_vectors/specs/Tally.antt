@@ -20,7 +20,7 @@ abbrev pub plus : ℕ → ℕ → ℕ
 plus a b = (a + b) % 2 ^ 64
 
 -- one more for an operation
-abbrev pub counted : Operation → List ℕ → List ℕ
+unfoldable pub counted : Operation → List ℕ → List ℕ
 counted op counts = set counts (numberOf op) (plus (getD counts (numberOf op) 0) 1)
 
 -- over all operations

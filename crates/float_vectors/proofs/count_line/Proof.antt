@@ -1,6 +1,7 @@
 -- `count_line` meets its contract: one more for the verdict that its arm stands for.
 use mathlib.Core.Path.{refl, sym, _∙_}
 use Rattle.float_vectors.specs.Tally.{casesAfter, wrongAfter}
+use Rattle.float_vectors.proofs.Counts.{counted-same}
 use borrow.Author.Needs.{needs}
 use Rattle.float_vectors.proofs.count_line.Statement.{statement}
 use Rattle.float_vectors.proofs.count_line.Tie as tie
@@ -46,23 +47,48 @@ show-off-requires c κs = search needs
 
 returns : tie.Need-returns
 unfolding casesAfter wrongAfter
-returns c = rw (sym (c .before .before .before .before .check-line .ensures) ∙ c .before .before .enum-told .given .1) (cc, refl)
+returns c =
+    rw (sym (c .before .before .before .before .check-line .ensures) ∙ c .before .before .enum-told .given .1) (
+      c .add .ensures
+          ∙ counted-same _ (c .before .before .before .before .before .named-operation .ensures),
+      refl,
+    )
 
 returns-2 : tie.Need-returns-2
 unfolding casesAfter wrongAfter
-returns-2 c = rw (sym (c .before .before .before .before .before .before .before .before .before .before .before .check-line .ensures) ∙ c .before .before .before .before .before .before .before .before .before .given .given .1) (cc, cc)
+returns-2 c =
+    rw (sym (c .before .before .before .before .before .before .before .before .before .before .before .check-line .ensures) ∙ c .before .before .before .before .before .before .before .before .before .given .given .1) (
+      c .before .before .before .before .before .before .add2 .ensures
+          ∙ counted-same _ (c .before .before .before .before .before .before .before .before .before .before .before .before .named-operation .ensures),
+      c .before .before .before .before .add3 .ensures
+          ∙ counted-same _ (c .before .before .before .before .before .before .before .before .before .before .before .before .named-operation .ensures),
+    )
 
 returns-3 : tie.Need-returns-3
 unfolding casesAfter wrongAfter
-returns-3 c = rw (sym (c .before .before .before .before .before .before .before .before .before .before .check-line .ensures) ∙ c .before .before .before .before .before .before .before .before .given .given .1) (cc, cc)
+returns-3 c =
+    rw (sym (c .before .before .before .before .before .before .before .before .before .before .check-line .ensures) ∙ c .before .before .before .before .before .before .before .before .given .given .1) (
+      c .before .before .before .before .before .add2 .ensures
+          ∙ counted-same _ (c .before .before .before .before .before .before .before .before .before .before .before .named-operation .ensures),
+      c .before .before .before .add3 .ensures
+          ∙ counted-same _ (c .before .before .before .before .before .before .before .before .before .before .before .named-operation .ensures),
+    )
 
 returns-4 : tie.Need-returns-4
 unfolding casesAfter wrongAfter
-returns-4 c = rw (sym (c .before .before .before .before .before .before .before .check-line .ensures) ∙ c .before .before .before .before .before .enum-told2 .given .1) (cc, refl)
+returns-4 c =
+    rw (sym (c .before .before .before .before .before .before .before .check-line .ensures) ∙ c .before .before .before .before .before .enum-told2 .given .1) (
+      c .before .before .before .add4 .ensures,
+      refl,
+    )
 
 returns-5 : tie.Need-returns-5
 unfolding casesAfter wrongAfter
-returns-5 c = rw (sym (c .before .before .before .before .before .before .check-line .ensures) ∙ c .before .before .before .before .enum-told2 .given .1) (cc, refl)
+returns-5 c =
+    rw (sym (c .before .before .before .before .before .before .check-line .ensures) ∙ c .before .before .before .before .enum-told2 .given .1) (
+      c .before .before .add4 .ensures,
+      refl,
+    )
 
 pub count-line-spec : {M : Type 1} → statement M
 count-line-spec =

@@ -23,7 +23,11 @@ has-word-requires-2 c κs = search needs
 
 returns-2 : tie.Need-returns-2
 unfolding operationOf
-returns-2 c = simp (sym (c .before .before .before .before .has-word .ensures) ∙ c .before .before .before .if1 .left, sym (c .before .has-word2 .ensures) ∙ c .if2 .taken)
+returns-2 c =
+    simp (
+      sym (c .before .before .before .before .has-word .ensures) ∙ c .before .before .before .if1 .left,
+      sym (c .before .has-word2 .ensures) ∙ c .if2 .taken,
+    )
 
 slice-aggregate-has-word-3 : tie.Need-slice-aggregate-has-word-3
 slice-aggregate-has-word-3 c = search needs
@@ -33,7 +37,12 @@ has-word-requires-3 c κs = search needs
 
 returns-3 : tie.Need-returns-3
 unfolding operationOf
-returns-3 c = simp (sym (c .before .before .before .before .before .before .before .has-word .ensures) ∙ c .before .before .before .before .before .before .if1 .left, sym (c .before .before .before .before .has-word2 .ensures) ∙ c .before .before .before .if2 .left, sym (c .before .has-word3 .ensures) ∙ c .if3 .taken)
+returns-3 c =
+    simp (
+      sym (c .before .before .before .before .before .before .before .has-word .ensures) ∙ c .before .before .before .before .before .before .if1 .left,
+      sym (c .before .before .before .before .has-word2 .ensures) ∙ c .before .before .before .if2 .left,
+      sym (c .before .has-word3 .ensures) ∙ c .if3 .taken,
+    )
 
 slice-aggregate-has-word-4 : tie.Need-slice-aggregate-has-word-4
 slice-aggregate-has-word-4 c = search needs
@@ -43,7 +52,13 @@ has-word-requires-4 c κs = search needs
 
 returns-4 : tie.Need-returns-4
 unfolding operationOf
-returns-4 c = simp (sym (c .before .before .before .before .before .before .before .before .before .before .has-word .ensures) ∙ c .before .before .before .before .before .before .before .before .before .if1 .left, sym (c .before .before .before .before .before .before .before .has-word2 .ensures) ∙ c .before .before .before .before .before .before .if2 .left, sym (c .before .before .before .before .has-word3 .ensures) ∙ c .before .before .before .if3 .left, sym (c .before .has-word4 .ensures) ∙ c .if4 .taken)
+returns-4 c =
+    simp (
+      sym (c .before .before .before .before .before .before .before .before .before .before .has-word .ensures) ∙ c .before .before .before .before .before .before .before .before .before .if1 .left,
+      sym (c .before .before .before .before .before .before .before .has-word2 .ensures) ∙ c .before .before .before .before .before .before .if2 .left,
+      sym (c .before .before .before .before .has-word3 .ensures) ∙ c .before .before .before .if3 .left,
+      sym (c .before .has-word4 .ensures) ∙ c .if4 .taken,
+    )
 
 slice-aggregate-has-word-5 : tie.Need-slice-aggregate-has-word-5
 slice-aggregate-has-word-5 c = search needs
@@ -53,11 +68,25 @@ has-word-requires-5 c κs = search needs
 
 returns-5 : tie.Need-returns-5
 unfolding operationOf
-returns-5 c = simp (sym (c .before .before .before .before .before .before .before .before .before .before .before .before .before .has-word .ensures) ∙ c .before .before .before .before .before .before .before .before .before .before .before .before .if1 .left, sym (c .before .before .before .before .before .before .before .before .before .before .has-word2 .ensures) ∙ c .before .before .before .before .before .before .before .before .before .if2 .left, sym (c .before .before .before .before .before .before .before .has-word3 .ensures) ∙ c .before .before .before .before .before .before .if3 .left, sym (c .before .before .before .before .has-word4 .ensures) ∙ c .before .before .before .if4 .left, sym (c .before .has-word5 .ensures) ∙ c .if5 .taken)
+returns-5 c =
+    simp (
+      sym (c .before .before .before .before .before .before .before .before .before .before .before .before .before .has-word .ensures) ∙ c .before .before .before .before .before .before .before .before .before .before .before .before .if1 .left,
+      sym (c .before .before .before .before .before .before .before .before .before .before .has-word2 .ensures) ∙ c .before .before .before .before .before .before .before .before .before .if2 .left,
+      sym (c .before .before .before .before .before .before .before .has-word3 .ensures) ∙ c .before .before .before .before .before .before .if3 .left,
+      sym (c .before .before .before .before .has-word4 .ensures) ∙ c .before .before .before .if4 .left,
+      sym (c .before .has-word5 .ensures) ∙ c .if5 .taken,
+    )
 
 returns-6 : tie.Need-returns-6
 unfolding operationOf
-returns-6 c = simp (sym (c .before .before .before .before .before .before .before .before .before .before .before .before .before .has-word .ensures) ∙ c .before .before .before .before .before .before .before .before .before .before .before .before .if1 .left, sym (c .before .before .before .before .before .before .before .before .before .before .has-word2 .ensures) ∙ c .before .before .before .before .before .before .before .before .before .if2 .left, sym (c .before .before .before .before .before .before .before .has-word3 .ensures) ∙ c .before .before .before .before .before .before .if3 .left, sym (c .before .before .before .before .has-word4 .ensures) ∙ c .before .before .before .if4 .left, sym (c .before .has-word5 .ensures) ∙ c .if5 .left)
+returns-6 c =
+    simp (
+      sym (c .before .before .before .before .before .before .before .before .before .before .before .before .before .has-word .ensures) ∙ c .before .before .before .before .before .before .before .before .before .before .before .before .if1 .left,
+      sym (c .before .before .before .before .before .before .before .before .before .before .has-word2 .ensures) ∙ c .before .before .before .before .before .before .before .before .before .if2 .left,
+      sym (c .before .before .before .before .before .before .before .has-word3 .ensures) ∙ c .before .before .before .before .before .before .if3 .left,
+      sym (c .before .before .before .before .has-word4 .ensures) ∙ c .before .before .before .if4 .left,
+      sym (c .before .has-word5 .ensures) ∙ c .if5 .left,
+    )
 
 pub named-operation-spec : {M : Type 1} → statement M
 named-operation-spec =

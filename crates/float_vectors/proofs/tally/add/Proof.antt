@@ -1,5 +1,6 @@
 -- `add` meets its contract.
 use native.Mathlib.Omega.{arith}
+use Rattle.float_vectors.specs.Tally.{counted}
 use Rattle.float_vectors.proofs.Counts.{number-small}
 use borrow.Author.Needs.{needs}
 use Rattle.float_vectors.proofs.tally.add.Statement.{statement}
@@ -24,6 +25,7 @@ element-write-counts : tie.Need-element-write-counts
 element-write-counts c = omega (arith, number-small (c .before .before .before .args .op))
 
 returns : tie.Need-returns
+unfolding counted
 returns c = rw (c .wrapping-add-u64 .ensures, c .before .before .number .ensures)
 
 pub add-spec : {M : Type 1} → statement M
