@@ -10,7 +10,7 @@ mod tally;
 use case::Operation;
 use case::Verdict;
 
-// At most this many lines of a kind are named.
+// At most so many lines of a kind are named.
 const SHOWN: u64 = 10;
 
 fn show_wrong(line: u64, given: u64) {

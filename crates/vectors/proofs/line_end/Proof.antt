@@ -30,7 +30,14 @@ add-result c = search needs
 
 -- src/lib.rt:132:13
 returns : tie.Need-returns Inv-loop μ-loop
-returns c = record { after = omega arith; within = omega arith; before = λ j small. c .before .before .before .loop .inv .2 j (omega arith); ended = λ more. let same : c .before .before .before .loop .k + 1 - 1 ≡ c .before .before .before .loop .k = omega arith in rw same (c .if1 .taken) }
+returns c =
+    let same : c .before .before .before .loop .k + 1 - 1 ≡ c .before .before .before .loop .k = omega arith in
+    record {
+      after = omega arith;
+      within = omega arith;
+      before = λ j small. c .before .before .before .loop .inv .2 j (omega arith);
+      ended = λ more. rw same (c .if1 .taken);
+    }
 
 -- src/lib.rt:134:9
 add-k : tie.Need-add-k Inv-loop μ-loop

@@ -16,7 +16,8 @@ is-named-requires c κs = search needs
 returns : tie.Need-returns
 unfolding verdictOf
 returns c =
-    let named : isNamed (operationOf (c .before .before .before .before .args .line .now)) ≡ false = sym (c .before .is-named .ensures ∙ ap isNamed (c .before .before .named-operation .ensures)) ∙ not-true _ (c .if1 .taken) in
+    let named : isNamed (operationOf (c .before .before .before .before .args .line .now)) ≡ false =
+    sym (c .before .is-named .ensures ∙ ap isNamed (c .before .before .named-operation .ensures)) ∙ not-true _ (c .if1 .taken) in
     rw named
 
 start-requires : tie.Need-start-requires
