@@ -1,1 +1,3 @@
 pub mod Select
+pub mod Sign
+pub mod Whole

@@ -1,41 +1,21 @@
-ghost use mathlib.Core.Path.{_≡_};
-ghost use lib.Ieee.{isNan};
-ghost use Rattle.float.specs.Select.{minOf, maxOf};
+// What the field engine needs of floats beyond their operators. Every public function takes any
+// value and has a result for it.
+mod class;
+mod order;
+mod pattern;
+mod rounding;
 
-// The value, with one bit pattern for a NaN that the machine computed.
-pub fn computed(x: f64) -> f64
-    ensures { λ r. ⌜ r ≡ x ⌝ }
-{
-    if x != x { 0.0 / 0.0 } else { x }
-}
-
-// Whether x is a NaN.
-pub fn is_nan(x: f64) -> bool
-    ensures { λ r. ⌜ r ≡ isNan x ⌝ }
-{
-    x != x
-}
-
-pub fn min(a: f64, b: f64) -> f64
-    ensures { λ r. ⌜ r ≡ minOf a b ⌝ }
-{
-    if b != b {
-        return a;
-    }
-    if a != a {
-        return b;
-    }
-    if b < a { b } else { a }
-}
-
-pub fn max(a: f64, b: f64) -> f64
-    ensures { λ r. ⌜ r ≡ maxOf a b ⌝ }
-{
-    if b != b {
-        return a;
-    }
-    if a != a {
-        return b;
-    }
-    if b > a { b } else { a }
-}
+pub use class::computed;
+pub use class::is_finite;
+pub use class::is_nan;
+pub use class::is_negative;
+pub use order::at_most;
+pub use order::less;
+pub use order::max;
+pub use order::min;
+pub use pattern::abs;
+pub use pattern::from_bits;
+pub use pattern::to_bits;
+pub use rounding::ceil;
+pub use rounding::floor;
+pub use rounding::from_count;

@@ -1,7 +1,7 @@
 -- `is_nan` meets its contract.
 use Rattle.float.proofs.Nan.{ne-self}
-use Rattle.float.proofs.is_nan.Statement.{statement}
-use Rattle.float.proofs.is_nan.Tie as tie
+use Rattle.float.proofs.class.is_nan.Statement.{statement}
+use Rattle.float.proofs.class.is_nan.Tie as tie
 
 returns : tie.Need-returns
 returns c = ne-self (c .args .x)
