@@ -4,10 +4,11 @@ use std::hint::black_box;
 use std::time::{Duration, Instant};
 
 /// How many runs of each side are measured.
-const RUNS: usize = 61;
+const RUNS: usize = 601;
 
-/// About how long one run takes.
-const RUN: Duration = Duration::from_millis(2);
+/// About how long one run takes. Short, so that on a busy machine most runs are
+/// not interrupted: with longer ones the median is of interrupted runs.
+const RUN: Duration = Duration::from_micros(200);
 
 /// How often a number of calls is tried before the runs.
 const TRIALS: usize = 5;
