@@ -4,10 +4,14 @@ use std::hint::black_box;
 use std::time::{Duration, Instant};
 
 /// How many runs of each side are measured.
-const RUNS: usize = 61;
+const RUNS: usize = 601;
 
-/// About how long one run takes.
-const RUN: Duration = Duration::from_millis(2);
+/// About how long one run takes. Short, so that on a busy machine most runs are
+/// not interrupted: with longer ones the median is of interrupted runs.
+const RUN: Duration = Duration::from_micros(200);
+
+/// How often a number of calls is tried before the runs.
+const TRIALS: usize = 5;
 
 /// One side of a comparison: writes its results, all of them at each call.
 pub type Side<'a> = &'a mut dyn FnMut(&mut [f64]);
@@ -21,7 +25,8 @@ struct Runs<'a> {
 }
 
 impl<'a> Runs<'a> {
-    /// Doubles the calls of a run until it takes long enough.
+    /// Doubles the calls of a run until it takes long enough. The fastest of
+    /// a few trials decides: one that was interrupted would end this too soon.
     fn new(side: Side<'a>, results: usize) -> Self {
         let mut runs = Runs {
             side,
@@ -29,10 +34,15 @@ impl<'a> Runs<'a> {
             calls: 1,
             times: Vec::new(),
         };
-        while runs.elapsed() * 2 < RUN && runs.calls < 1 << 24 {
+        while runs.fastest() * 2 < RUN && runs.calls < 1 << 24 {
             runs.calls *= 2;
         }
         runs
+    }
+
+    fn fastest(&mut self) -> Duration {
+        let first = self.elapsed();
+        (1..TRIALS).fold(first, |least, _| least.min(self.elapsed()))
     }
 
     fn elapsed(&mut self) -> Duration {
