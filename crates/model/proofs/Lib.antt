@@ -3,3 +3,5 @@ pub mod InOrder
 pub mod Tables
 pub mod Values
 pub mod ReadBack
+pub mod ByCode
+pub mod FlatValues

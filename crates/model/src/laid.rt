@@ -128,6 +128,7 @@ pub fn lay_parts(
     ws: &mut [f64; 64],
 )
     ensures { λ _. ⌜ flat (now (codes .exit)) (now (firsts .exit)) (now (seconds .exit)) (now (xs .exit)) (now (ys .exit)) (now (zs .exit)) (now (ws .exit)) ≡ layoutOf (map partIn parts) ⌝ }
+    ensures { λ _. ⌜ length parts ≡ 64 ⌝ }
 {
     *codes = [0; 64];
     *firsts = [0; 64];

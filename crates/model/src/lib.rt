@@ -2,15 +2,17 @@
 // model_component.rs.
 ghost use mathlib.Core.Path.{_≡_};
 ghost use mathlib.Core.Bool.{_&&_};
-ghost use mathlib.Core.List.{map};
-ghost use Prim.Native.Nat.{_≤_};
+ghost use mathlib.Core.List.{map, _++_};
+ghost use Prim.Native.Nat.{_≤_, min};
+ghost use lib.ListN.{length, drop};
 ghost use lib.Dec.{ltb};
 ghost use Rattle.model.specs.Part.{partIn, inputsBelow};
-ghost use Rattle.model.specs.Flat.{flat, layoutOf};
-ghost use Rattle.model.specs.Model.{orderedTo, refusedByFour};
+ghost use Rattle.model.specs.Flat.{flat, layoutOf, partsOf};
+ghost use Rattle.model.specs.Model.{valuesTo, modelValue, orderedTo, refusedByFour};
 use geometry::Vec3;
 
 mod laid; // laid.rt: a part's places in the flat arrays
+mod point; // point.rt: the parts' values at a point
 
 // The most parts that a model has.
 pub const MOST_PARTS: usize = 64;
@@ -110,7 +112,42 @@ pub fn lay_out(
     ws: &mut [f64; 64],
 )
     ensures { λ _. ⌜ flat (now (codes .exit)) (now (firsts .exit)) (now (seconds .exit)) (now (xs .exit)) (now (ys .exit)) (now (zs .exit)) (now (ws .exit)) ≡ layoutOf (map partIn (model .parts)) ⌝ }
+    ensures { λ _. ⌜ length (model .parts) ≡ 64 ⌝ }
 {
     let parts = model.parts;
     laid::lay_parts(parts, codes, firsts, seconds, xs, ys, zs, ws);
+}
+
+// n, or 64 where n is more.
+fn at_most_64(n: usize) -> usize
+    ensures { λ r. ⌜ r ≡ min n 64 ⌝ }
+{
+    if n < 64 { n } else { 64 }
+}
+
+// The value at a point of the first `count` parts that flat arrays of any contents stand for, 64 at most. The parts' values
+// are left in `values`, in order.
+pub fn evaluate_flat(
+    codes: &[u32; 64],
+    firsts: &[u32; 64],
+    seconds: &[u32; 64],
+    xs: &[f64; 64],
+    ys: &[f64; 64],
+    zs: &[f64; 64],
+    ws: &[f64; 64],
+    count: usize,
+    x: f64,
+    y: f64,
+    z: f64,
+    values: &mut [f64; 64],
+) -> f64
+    ensures { λ r. ⌜ r ≡ modelValue (partsOf (flat (now (codes .entry)) (now (firsts .entry)) (now (seconds .entry)) (now (xs .entry)) (now (ys .entry)) (now (zs .entry)) (now (ws .entry))) (min count 64)) (min count 64) x y z ⌝ }
+    ensures { λ _. ⌜ now (values .exit) ≡ valuesTo (partsOf (flat (now (codes .entry)) (now (firsts .entry)) (now (seconds .entry)) (now (xs .entry)) (now (ys .entry)) (now (zs .entry)) (now (ws .entry))) (min count 64)) x y z (min count 64) ++ drop (min count 64) (now (values .entry)) ⌝ }
+{
+    let m = at_most_64(count);
+    point::fill_values(codes, firsts, seconds, xs, ys, zs, ws, m, x, y, z, values);
+    if m == 0 {
+        return 0.0;
+    }
+    values[m - 1]
 }
