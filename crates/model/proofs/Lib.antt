@@ -5,3 +5,4 @@ pub mod Values
 pub mod ReadBack
 pub mod ByCode
 pub mod FlatValues
+pub mod Accepted

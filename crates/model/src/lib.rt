@@ -8,7 +8,7 @@ ghost use lib.ListN.{length, drop};
 ghost use lib.Dec.{ltb};
 ghost use Rattle.model.specs.Part.{partIn, inputsBelow};
 ghost use Rattle.model.specs.Flat.{flat, layoutOf, partsOf};
-ghost use Rattle.model.specs.Model.{valuesTo, modelValue, orderedTo, refusedByFour};
+ghost use Rattle.model.specs.Model.{valuesTo, modelValue, orderedTo, refusedByFour, evaluationOf};
 use geometry::Vec3;
 
 mod laid; // laid.rt: a part's places in the flat arrays
@@ -38,6 +38,12 @@ pub struct ModelComponent {
 pub struct ImplicitModel {
     pub parts: [ModelComponent; 64],
     pub count: u32,
+}
+
+// A model's value at a point, or the cause of a refusal.
+pub enum Evaluation {
+    Value(f64),
+    Refused(u32),
 }
 
 fn below(a: u32, p: usize) -> bool
@@ -150,4 +156,47 @@ pub fn evaluate_flat(
         return 0.0;
     }
     values[m - 1]
+}
+
+// The model's value at a point: its last part's. A model that cause 4 refuses has none.
+pub fn evaluate_at_coord(model: ImplicitModel, x: f64, y: f64, z: f64) -> Evaluation
+    ensures { λ r. ⌜ r ≡ evaluationOf model x y z ⌝ }
+{
+    if cause_four(model) {
+        return Evaluation::Refused(4);
+    }
+    let mut codes = [0u32; 64];
+    let mut firsts = [0u32; 64];
+    let mut seconds = [0u32; 64];
+    let mut xs = [0.0; 64];
+    let mut ys = [0.0; 64];
+    let mut zs = [0.0; 64];
+    let mut ws = [0.0; 64];
+    let mut values = [0.0; 64];
+    lay_out(
+        model,
+        &mut codes,
+        &mut firsts,
+        &mut seconds,
+        &mut xs,
+        &mut ys,
+        &mut zs,
+        &mut ws,
+    );
+    let count = model.count as usize;
+    let value = evaluate_flat(
+        &codes,
+        &firsts,
+        &seconds,
+        &xs,
+        &ys,
+        &zs,
+        &ws,
+        count,
+        x,
+        y,
+        z,
+        &mut values,
+    );
+    Evaluation::Value(value)
 }
