@@ -6,3 +6,4 @@ pub mod ReadBack
 pub mod ByCode
 pub mod FlatValues
 pub mod Accepted
+pub mod Rows

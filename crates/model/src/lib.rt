@@ -13,6 +13,7 @@ use geometry::Vec3;
 
 mod laid; // laid.rt: a part's places in the flat arrays
 mod point; // point.rt: the parts' values at a point
+mod lanes; // lanes.rt: a part's values at a row of points
 
 // The most parts that a model has.
 pub const MOST_PARTS: usize = 64;
