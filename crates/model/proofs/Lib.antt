@@ -7,3 +7,4 @@ pub mod ByCode
 pub mod FlatValues
 pub mod Accepted
 pub mod Rows
+pub mod Middle
