@@ -8,3 +8,5 @@ pub mod FlatValues
 pub mod Accepted
 pub mod Rows
 pub mod Middle
+pub mod RowByCode
+pub mod AllRows

@@ -8,12 +8,14 @@ ghost use lib.ListN.{length, drop};
 ghost use lib.Dec.{ltb};
 ghost use Rattle.model.specs.Part.{partIn, inputsBelow};
 ghost use Rattle.model.specs.Flat.{flat, layoutOf, partsOf};
+ghost use Rattle.model.specs.Row.{evaluatedRows, modelRow};
 ghost use Rattle.model.specs.Model.{valuesTo, modelValue, orderedTo, refusedByFour, evaluationOf};
 use geometry::Vec3;
 
 mod laid; // laid.rt: a part's places in the flat arrays
 mod point; // point.rt: the parts' values at a point
 mod lanes; // lanes.rt: a part's values at a row of points
+mod row; // row.rt: all parts' values at a row of points
 
 // The most parts that a model has.
 pub const MOST_PARTS: usize = 64;
@@ -200,4 +202,85 @@ pub fn evaluate_at_coord(model: ImplicitModel, x: f64, y: f64, z: f64) -> Evalua
         &mut values,
     );
     Evaluation::Value(value)
+}
+
+// The values of the first `count` parts at n points, 64 at most of each: part p's value at point i is left at p * 64 + i.
+pub fn evaluate_row(
+    codes: &[u32; 64],
+    firsts: &[u32; 64],
+    seconds: &[u32; 64],
+    xs: &[f64; 64],
+    ys: &[f64; 64],
+    zs: &[f64; 64],
+    ws: &[f64; 64],
+    count: usize,
+    px: &[f64; 64],
+    py: &[f64; 64],
+    pz: &[f64; 64],
+    n: usize,
+    values: &mut [f64; 4096],
+)
+    ensures { λ _. ⌜ now (values .exit) ≡ evaluatedRows (flat (now (codes .entry)) (now (firsts .entry)) (now (seconds .entry)) (now (xs .entry)) (now (ys .entry)) (now (zs .entry)) (now (ws .entry))) (min count 64) (min n 64) (now (px .entry)) (now (py .entry)) (now (pz .entry)) (now (values .entry)) ⌝ }
+{
+    let parts = at_most_64(count);
+    let points = at_most_64(n);
+    row::fill_parts(
+        codes,
+        firsts,
+        seconds,
+        xs,
+        ys,
+        zs,
+        ws,
+        parts,
+        px,
+        py,
+        pz,
+        points,
+        values,
+    );
+}
+
+// The same, with the model's value at each point left at the front of `results`.
+pub fn evaluate_row_into(
+    codes: &[u32; 64],
+    firsts: &[u32; 64],
+    seconds: &[u32; 64],
+    xs: &[f64; 64],
+    ys: &[f64; 64],
+    zs: &[f64; 64],
+    ws: &[f64; 64],
+    count: usize,
+    px: &[f64; 64],
+    py: &[f64; 64],
+    pz: &[f64; 64],
+    n: usize,
+    values: &mut [f64; 4096],
+    results: &mut [f64; 64],
+)
+    ensures { λ _. ⌜ now (values .exit) ≡ evaluatedRows (flat (now (codes .entry)) (now (firsts .entry)) (now (seconds .entry)) (now (xs .entry)) (now (ys .entry)) (now (zs .entry)) (now (ws .entry))) (min count 64) (min n 64) (now (px .entry)) (now (py .entry)) (now (pz .entry)) (now (values .entry)) ⌝ }
+    ensures { λ _. ⌜ now (results .exit) ≡ modelRow (flat (now (codes .entry)) (now (firsts .entry)) (now (seconds .entry)) (now (xs .entry)) (now (ys .entry)) (now (zs .entry)) (now (ws .entry))) (min count 64) (min n 64) (now (px .entry)) (now (py .entry)) (now (pz .entry)) (now (results .entry)) ⌝ }
+{
+    let parts = at_most_64(count);
+    let points = at_most_64(n);
+    row::fill_parts(
+        codes,
+        firsts,
+        seconds,
+        xs,
+        ys,
+        zs,
+        ws,
+        parts,
+        px,
+        py,
+        pz,
+        points,
+        values,
+    );
+    if parts == 0 {
+        row::clear_row(points, results);
+        return;
+    }
+    row::copy_row(values, parts - 1, points, results);
 }
