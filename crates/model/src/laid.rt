@@ -1,0 +1,133 @@
+// A part's places in the flat arrays: a code, two inputs, a vector and a number, each 0 where the part has none.
+ghost use mathlib.Core.Path.{_≡_};
+ghost use mathlib.Core.List.{map};
+ghost use Prim.Native.Nat.{_<_};
+ghost use lib.ListN.{length, set};
+ghost use Rattle.geometry.specs.Values.{vec3};
+ghost use Rattle.model.specs.Part.{plusZero, partIn};
+ghost use Rattle.model.specs.Flat.{flat, layoutOf, codeOf, firstInput, secondInput, vectorOf, numberOf};
+use super::ModelComponent;
+use super::Part;
+use geometry::Vec3;
+
+// A part's entries.
+pub struct Entry {
+    pub code: u32,
+    pub first: u32,
+    pub second: u32,
+    pub vector: Vec3,
+    pub number: f64,
+}
+
+fn shape(code: u32, vector: Vec3, number: f64) -> Entry
+    ensures { λ r. ⌜ (r .code ≡ code) × (r .first ≡ 0) × (r .second ≡ 0) × (r .vector ≡ vector) × (r .number ≡ number) ⌝ }
+{
+    Entry {
+        code,
+        first: 0,
+        second: 0,
+        vector,
+        number,
+    }
+}
+
+fn operation(code: u32, first: u32, second: u32) -> Entry
+    ensures { λ r. ⌜ (r .code ≡ code) × (r .first ≡ first) × (r .second ≡ second) × (r .vector ≡ vec3 plusZero plusZero plusZero) × (r .number ≡ plusZero) ⌝ }
+{
+    Entry {
+        code,
+        first,
+        second,
+        vector: Vec3 {
+            x: 0.0,
+            y: 0.0,
+            z: 0.0,
+        },
+        number: 0.0,
+    }
+}
+
+pub fn entries(part: Part) -> Entry
+    ensures { λ r. ⌜ (r .code ≡ codeOf part) × (r .first ≡ firstInput part) × (r .second ≡ secondInput part) × (r .vector ≡ vectorOf part) × (r .number ≡ numberOf part) ⌝ }
+{
+    match part {
+        Part::Constant(value) => shape(
+            0,
+            Vec3 {
+                x: 0.0,
+                y: 0.0,
+                z: 0.0,
+            },
+            value,
+        ),
+        Part::Sphere(centre, radius) => shape(1, centre, radius),
+        Part::Plane(normal, offset) => shape(2, normal, offset),
+        Part::Min(a, b) => operation(3, a, b),
+        Part::Max(a, b) => operation(4, a, b),
+        Part::Add(a, b) => operation(5, a, b),
+        Part::Sub(a, b) => operation(6, a, b),
+        Part::Neg(a) => operation(7, a, 0),
+    }
+}
+
+// Writes a part's entries at its place.
+pub fn store_part(
+    part: Part,
+    p: usize,
+    codes: &mut [u32; 64],
+    firsts: &mut [u32; 64],
+    seconds: &mut [u32; 64],
+    xs: &mut [f64; 64],
+    ys: &mut [f64; 64],
+    zs: &mut [f64; 64],
+    ws: &mut [f64; 64],
+)
+    requires { ⌜ p < 64 ⌝ }
+    ensures { λ _. ⌜ now (codes .exit) ≡ set (now (codes .entry)) p (codeOf part) ⌝ }
+    ensures { λ _. ⌜ now (firsts .exit) ≡ set (now (firsts .entry)) p (firstInput part) ⌝ }
+    ensures { λ _. ⌜ now (seconds .exit) ≡ set (now (seconds .entry)) p (secondInput part) ⌝ }
+    ensures { λ _. ⌜ now (xs .exit) ≡ set (now (xs .entry)) p (vectorOf part .x) ⌝ }
+    ensures { λ _. ⌜ now (ys .exit) ≡ set (now (ys .entry)) p (vectorOf part .y) ⌝ }
+    ensures { λ _. ⌜ now (zs .exit) ≡ set (now (zs .entry)) p (vectorOf part .z) ⌝ }
+    ensures { λ _. ⌜ now (ws .exit) ≡ set (now (ws .entry)) p (numberOf part) ⌝ }
+{
+    let e = entries(part);
+    let v = e.vector;
+    codes[p] = e.code;
+    firsts[p] = e.first;
+    seconds[p] = e.second;
+    xs[p] = v.x;
+    ys[p] = v.y;
+    zs[p] = v.z;
+    ws[p] = e.number;
+}
+
+// Writes the entries of all 64 parts. Clearing the arrays first makes their lengths known to the proof.
+pub fn lay_parts(
+    parts: [ModelComponent; 64],
+    codes: &mut [u32; 64],
+    firsts: &mut [u32; 64],
+    seconds: &mut [u32; 64],
+    xs: &mut [f64; 64],
+    ys: &mut [f64; 64],
+    zs: &mut [f64; 64],
+    ws: &mut [f64; 64],
+)
+    ensures { λ _. ⌜ flat (now (codes .exit)) (now (firsts .exit)) (now (seconds .exit)) (now (xs .exit)) (now (ys .exit)) (now (zs .exit)) (now (ws .exit)) ≡ layoutOf (map partIn parts) ⌝ }
+    ensures { λ _. ⌜ length parts ≡ 64 ⌝ }
+{
+    *codes = [0; 64];
+    *firsts = [0; 64];
+    *seconds = [0; 64];
+    *xs = [0.0; 64];
+    *ys = [0.0; 64];
+    *zs = [0.0; 64];
+    *ws = [0.0; 64];
+    let mut p: usize = 0;
+    while p < 64 {
+        let component = parts[p];
+        let part = component.part;
+        store_part(part, p, codes, firsts, seconds, xs, ys, zs, ws);
+        p += 1;
+    }
+}
