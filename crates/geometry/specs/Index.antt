@@ -1,0 +1,39 @@
+-- Document 01, "Boxes and indices": "Index is k × nx × ny + j × nx + i (9, then 10)."
+use Prim.Native.Nat.{ℕ, _+_, _*_, _/_, _%_}
+use mathlib.Core.Bool.{Bool, not, _&&_, _||_}
+use mathlib.Core.List.{List, [], _∷_}
+use lib.Dec.{eqb, ltb}
+use Rattle.geometry.specs.Values.{vec3i}
+use Rattle.geometry.specs.Causes.{Cause, cause, firstOf}
+use Rattle.geometry.specs.declared.Vec3i.{Vec3i}
+use Rattle.geometry.specs.declared.Index1d as answer1d
+use Rattle.geometry.specs.declared.Index1d.the-variants as index1d
+use Rattle.geometry.specs.declared.Index3d as answer3d
+use Rattle.geometry.specs.declared.Index3d.the-variants as index3d
+
+-- cause 9: "a dense dimension 0, product above 16,777,216"
+unfoldable pub dimensionsRefused : (nx ny nz : ℕ) → Bool
+dimensionsRefused nx ny nz = eqb nx 0 || eqb ny 0 || eqb nz 0 || ltb 16777216 (nx * ny * nz)
+
+-- the place of (i, j, k): "k × nx × ny + j × nx + i"
+unfoldable pub placeOf : (i j k nx ny : ℕ) → ℕ
+placeOf i j k nx ny = k * nx * ny + j * nx + i
+
+-- the indices of a place, as math_helper.rs has them
+unfoldable pub indicesOf : (index nx ny : ℕ) → Vec3i
+indicesOf index nx ny =
+    vec3i (index % (nx * ny) % nx) (index % (nx * ny) / nx) (index / (nx * ny))
+
+-- cause 10: an index that is not below its dimension
+unfoldable pub index1dOf : (i j k nx ny nz : ℕ) → answer1d.Index1d
+index1dOf i j k nx ny nz =
+    firstOf (cause (dimensionsRefused nx ny nz) 9 ∷ cause (not (ltb i nx && ltb j ny && ltb k nz)) 10 ∷ [])
+    index1d.Refused
+    (index1d.At (placeOf i j k nx ny))
+
+-- cause 10: a place that is not below the product
+unfoldable pub index3dOf : (index nx ny nz : ℕ) → answer3d.Index3d
+index3dOf index nx ny nz =
+    firstOf (cause (dimensionsRefused nx ny nz) 9 ∷ cause (not (ltb index (nx * ny * nz))) 10 ∷ [])
+    index3d.Refused
+    (index3d.At (indicesOf index nx ny))

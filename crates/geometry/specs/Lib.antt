@@ -1,0 +1,5 @@
+pub mod Values
+pub mod Distance
+pub mod Box
+pub mod Causes
+pub mod Index

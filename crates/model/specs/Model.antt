@@ -1,0 +1,42 @@
+-- Document 01, "Parts of a model": the values of a list of parts, and the models that cause 4 refuses.
+use Prim.Native.Nat.{ℕ, zero, suc, _-_}
+use mathlib.Core.Bool.{Bool, true, not, _&&_, _||_}
+use mathlib.Core.List.{List, [], _∷_, _++_, map}
+use lib.ListN.{getD}
+use lib.Dec.{eqb, ltb}
+use lib.Ieee.{Float}
+use Rattle.model.specs.Part.{plusZero, partIn, partValue, inputsBelow}
+use Rattle.model.specs.declared.Part.{Part}
+use Rattle.model.specs.declared.Part.the-variants.{Constant}
+use Rattle.model.specs.declared.ImplicitModel.{ImplicitModel}
+use Rattle.model.specs.declared.Evaluation.{Evaluation}
+use Rattle.model.specs.declared.Evaluation.the-variants.{Value, Refused}
+use Rattle.geometry.specs.Causes.{cause, firstOf}
+
+-- the part at a place of a list
+abbrev pub partOf : List Part → ℕ → Part
+partOf parts p = getD parts p (Constant plusZero)
+
+-- the values of the first p parts at a point, "computed in list order": each from the values before it
+unfoldable pub valuesTo : List Part → (x y z : Float) → ℕ → List Float
+valuesTo parts x y z zero = []
+valuesTo parts x y z (suc p) =
+    let earlier = valuesTo parts x y z p in earlier ++ (partValue (partOf parts p) x y z earlier ∷ [])
+
+-- "The model's value is its last part's", here that of the first `count` parts, and +0 where there are none
+unfoldable pub modelValue : List Part → ℕ → (x y z : Float) → Float
+modelValue parts count x y z = getD (valuesTo parts x y z count) (count - 1) plusZero
+
+-- whether each of the first p parts has its inputs before it
+unfoldable pub orderedTo : List Part → ℕ → Bool
+orderedTo parts zero = true
+orderedTo parts (suc p) = orderedTo parts p && inputsBelow p (partOf parts p)
+
+-- cause 4: "part count 0 or above 64, or a part's input not below its own place"
+unfoldable pub refusedByFour : ImplicitModel → Bool
+refusedByFour m = eqb (m .count) 0 || ltb 64 (m .count) || not (orderedTo (map partIn (m .parts)) (m .count))
+
+-- what evaluating a model at a point answers: refused by 4, or its value
+unfoldable pub evaluationOf : ImplicitModel → (x y z : Float) → Evaluation
+evaluationOf m x y z =
+    firstOf (cause (refusedByFour m) 4 ∷ []) Refused (Value (modelValue (map partIn (m .parts)) (m .count) x y z))
