@@ -17,8 +17,10 @@ pub fn sqrt_row(xs: &mut [f64]) {
     unsafe { bench_sqrt_row(xs.as_mut_ptr(), xs.len()) }
 }
 
+#[cfg(feature = "rows")]
+pub use model::evaluate_row;
 #[cfg(feature = "model")]
-pub use model::{evaluate, evaluate_row, Layout};
+pub use model::{evaluate, Layout};
 
 #[cfg(feature = "model")]
 mod model {
@@ -40,6 +42,7 @@ mod model {
             z: f64,
             values: &mut [f64; ROW],
         ) -> f64;
+        #[cfg(feature = "rows")]
         fn bench_evaluate_row(
             codes: &[u32; ROW],
             firsts: &[u32; ROW],
@@ -120,6 +123,7 @@ mod model {
     }
 
     /// The values of the parts at a row of points, part by part.
+    #[cfg(feature = "rows")]
     pub fn evaluate_row(l: &Layout, [px, py, pz]: [&[f64; ROW]; 3], values: &mut [f64; ROW * ROW]) {
         unsafe {
             bench_evaluate_row(

@@ -9,6 +9,9 @@ const RUNS: usize = 61;
 /// About how long one run takes.
 const RUN: Duration = Duration::from_millis(2);
 
+/// How often a number of calls is tried before the runs.
+const TRIALS: usize = 5;
+
 /// One side of a comparison: writes its results, all of them at each call.
 pub type Side<'a> = &'a mut dyn FnMut(&mut [f64]);
 
@@ -21,7 +24,8 @@ struct Runs<'a> {
 }
 
 impl<'a> Runs<'a> {
-    /// Doubles the calls of a run until it takes long enough.
+    /// Doubles the calls of a run until it takes long enough. The fastest of
+    /// a few trials decides: one that was interrupted would end this too soon.
     fn new(side: Side<'a>, results: usize) -> Self {
         let mut runs = Runs {
             side,
@@ -29,10 +33,15 @@ impl<'a> Runs<'a> {
             calls: 1,
             times: Vec::new(),
         };
-        while runs.elapsed() * 2 < RUN && runs.calls < 1 << 24 {
+        while runs.fastest() * 2 < RUN && runs.calls < 1 << 24 {
             runs.calls *= 2;
         }
         runs
+    }
+
+    fn fastest(&mut self) -> Duration {
+        let first = self.elapsed();
+        (1..TRIALS).fold(first, |least, _| least.min(self.elapsed()))
     }
 
     fn elapsed(&mut self) -> Duration {

@@ -6,6 +6,7 @@ use crate::measure::row;
 /// A part of a model. Inputs are places in the list of parts.
 #[derive(Clone, Copy)]
 pub enum Part {
+    #[cfg_attr(not(feature = "original"), allow(dead_code))]
     Const(f64),
     /// Centre and radius.
     Sphere([f64; 3], f64),
@@ -77,7 +78,7 @@ fn points() -> Points {
     }
 }
 
-/// Two rows of the table for one model.
+/// The table's rows for one model.
 fn model(name: &str, parts: &[Part]) {
     let at = points();
     let layout = Layout::new(parts);
@@ -88,13 +89,19 @@ fn model(name: &str, parts: &[Part]) {
         }
     };
     compare(&format!("{name}, at points"), parts, &at, &mut at_points);
+    #[cfg(feature = "rows")]
+    in_rows(name, parts, &at, &layout);
+}
+
+#[cfg(feature = "rows")]
+fn in_rows(name: &str, parts: &[Part], at: &Points, layout: &Layout) {
     let mut values = [0.0; ROW * ROW];
-    let mut in_rows = |out: &mut [f64]| {
-        host::evaluate_row(&layout, [&at.x, &at.y, &at.z], &mut values);
+    let mut ours = |out: &mut [f64]| {
+        host::evaluate_row(layout, [&at.x, &at.y, &at.z], &mut values);
         let last = (parts.len() - 1) * ROW;
         out.copy_from_slice(&values[last..last + ROW]);
     };
-    compare(&format!("{name}, in rows of 64"), parts, &at, &mut in_rows);
+    compare(&format!("{name}, in rows of 64"), parts, at, &mut ours);
 }
 
 type Ours<'a> = &'a mut dyn FnMut(&mut [f64]);

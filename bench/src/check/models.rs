@@ -74,7 +74,22 @@ fn expected(parts: &[Part], value: f64) -> u64 {
     }
 }
 
-/// Compares values at points and in rows. Answers how many differ.
+/// The last part's values at a row of points.
+#[cfg(feature = "rows")]
+fn in_a_row(layout: &Layout, parts: &[Part], points: [&[f64; ROW]; 3]) -> Option<[f64; ROW]> {
+    let mut values = [0.0; ROW * ROW];
+    host::evaluate_row(layout, points, &mut values);
+    let last = (parts.len() - 1) * ROW;
+    values[last..last + ROW].try_into().ok()
+}
+
+#[cfg(not(feature = "rows"))]
+fn in_a_row(_: &Layout, _: &[Part], _: [&[f64; ROW]; 3]) -> Option<[f64; ROW]> {
+    None
+}
+
+/// Compares values at points, and in rows where the host has them. Answers how
+/// many differ.
 pub fn values() -> usize {
     let mut random = Random(11);
     let (mut wrong, mut nans) = (0, 0);
@@ -83,31 +98,37 @@ pub fn values() -> usize {
         let parts: Vec<Part> = (0..count).map(|place| part(&mut random, place)).collect();
         let [x, y, z] = [(); 3].map(|_| [(); ROW].map(|_| number(&mut random)));
         let layout = Layout::new(&parts);
-        let mut rows = [0.0; ROW * ROW];
-        host::evaluate_row(&layout, [&x, &y, &z], &mut rows);
-        let last = (parts.len() - 1) * ROW;
+        let row = in_a_row(&layout, &parts, [&x, &y, &z]);
         let original: Vec<_> = parts.iter().map(theirs).collect();
         let model = Model::new(&original).expect("a model that is not refused");
         let graph = model.graph();
         for i in 0..ROW {
             let value = graph.evaluate_at_coord(x[i], y[i], z[i]);
-            let expected = expected(&parts, value);
             nans += value.is_nan() as usize;
+            let expected = expected(&parts, value);
             let alone = host::evaluate(&layout, x[i], y[i], z[i], &mut [0.0; ROW]);
-            for (way, got) in [
-                ("alone", alone.to_bits()),
-                ("in a row", rows[last + i].to_bits()),
-            ] {
+            for got in [Some(alone), row.map(|values| values[i])]
+                .into_iter()
+                .flatten()
+            {
+                let got = got.to_bits();
                 if got != expected {
                     wrong += 1;
                     if wrong <= 10 {
-                        println!("a value {way} of {count} parts: {got:016x}, not {expected:016x}");
+                        println!("a value of {count} parts: {got:016x}, not {expected:016x}");
                     }
                 }
             }
         }
     }
     let compared = MODELS * ROW;
-    println!("check: {compared} values of {MODELS} models, {nans} of them NaN, alone and in rows, {wrong} wrong");
+    let ways = if cfg!(feature = "rows") {
+        "alone and in rows"
+    } else {
+        "alone"
+    };
+    println!(
+        "check: {compared} values of {MODELS} models, {nans} of them NaN, {ways}, {wrong} wrong"
+    );
     wrong
 }
