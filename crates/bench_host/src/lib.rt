@@ -44,7 +44,18 @@ pub extern "C" fn bench_evaluate(
     ensures { λ _. ⌜ now (values .exit) ≡ valuesTo (partsOf (flat (now (codes .entry)) (now (firsts .entry)) (now (seconds .entry)) (now (xs .entry)) (now (ys .entry)) (now (zs .entry)) (now (ws .entry))) (min count 64)) x y z (min count 64) ++ drop (min count 64) (now (values .entry)) ⌝ }
 {
     model::evaluate_flat(
-        codes, firsts, seconds, xs, ys, zs, ws, count, x, y, z, values,
+        codes,
+        firsts,
+        seconds,
+        xs,
+        ys,
+        zs,
+        ws,
+        count,
+        x,
+        y,
+        z,
+        values,
     )
 }
 
@@ -68,6 +79,18 @@ pub extern "C" fn bench_evaluate_row(
     ensures { λ _. ⌜ now (values .exit) ≡ evaluatedRows (flat (now (codes .entry)) (now (firsts .entry)) (now (seconds .entry)) (now (xs .entry)) (now (ys .entry)) (now (zs .entry)) (now (ws .entry))) (min count 64) (min n 64) (now (px .entry)) (now (py .entry)) (now (pz .entry)) (now (values .entry)) ⌝ }
 {
     model::evaluate_row(
-        codes, firsts, seconds, xs, ys, zs, ws, count, px, py, pz, n, values,
+        codes,
+        firsts,
+        seconds,
+        xs,
+        ys,
+        zs,
+        ws,
+        count,
+        px,
+        py,
+        pz,
+        n,
+        values,
     );
 }

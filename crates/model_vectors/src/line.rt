@@ -44,7 +44,7 @@ fn one_number(line: &[u8]) -> Hex {
 }
 
 // Four numbers from a place on: a vector and a number.
-fn shape(line: &[u8], at: usize) -> Shape
+fn four_numbers(line: &[u8], at: usize) -> Shape
     requires { ⌜ at < 100 ⌝ }
 {
     if vectors::byte_at(line, at + 16) != 32 {
@@ -81,14 +81,14 @@ fn value(line: &[u8]) -> Line {
 }
 
 fn sphere(line: &[u8]) -> Line {
-    match shape(line, 7) {
+    match four_numbers(line, 7) {
         Shape::Numbers(centre, radius) => Line::Component(Part::Sphere(centre, radius)),
         Shape::NoShape => Line::Off,
     }
 }
 
 fn plane(line: &[u8]) -> Line {
-    match shape(line, 6) {
+    match four_numbers(line, 6) {
         Shape::Numbers(normal, offset) => Line::Component(Part::Plane(normal, offset)),
         Shape::NoShape => Line::Off,
     }

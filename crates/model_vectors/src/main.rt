@@ -12,13 +12,7 @@ use case::Case;
 use line::Line;
 
 // Compares each way of evaluating a case's model with the value that is stored.
-fn judge_value(
-    case: Case,
-    stored: u64,
-    number: u64,
-    cases: &mut [u64; 5],
-    wrong: &mut [u64; 5],
-)
+fn judge_value(case: Case, stored: u64, number: u64, cases: &mut [u64; 5], wrong: &mut [u64; 5])
     ensures { λ _. ⌜ now (cases .exit) ≡ comparedValue (now (cases .entry)) ⌝ }
     ensures { λ _. ⌜ now (wrong .exit) ≡ valueWrong case stored (now (wrong .entry)) ⌝ }
 {
@@ -50,7 +44,10 @@ fn take_line(
         Line::Point(p) => case::start(p),
         Line::Component(part) => {
             let longer = case::with_part(model, part);
-            Case { point, model: longer }
+            Case {
+                point,
+                model: longer,
+            }
         }
         Line::Value(stored) => {
             judge_value(case, stored, number, cases, wrong);
@@ -77,7 +74,13 @@ fn take_lines(text: &[u8]) {
     while at < text.len() {
         let end = vectors::line_end(text, at);
         number = std::num::wrapping_add_u64(number, 1);
-        case = take_line(case, line::read(&text[at..end]), number, &mut cases, &mut wrong);
+        case = take_line(
+            case,
+            line::read(&text[at..end]),
+            number,
+            &mut cases,
+            &mut wrong,
+        );
         at = end;
     }
     tally::report(&cases, &wrong);

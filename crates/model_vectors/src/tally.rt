@@ -5,9 +5,13 @@ ghost use Rattle.model_vectors.specs.Tally.{counted, wrongIf};
 
 // The kinds, by their places in the counts.
 pub const POINTS: usize = 0;
+
 pub const FLAT: usize = 1;
+
 pub const ROWS: usize = 2;
+
 pub const REFUSALS: usize = 3;
+
 pub const OFF: usize = 4;
 
 // At most so many wrong comparisons of a kind are named.
@@ -51,13 +55,7 @@ fn show_off(line: u64) {
 }
 
 // One more comparison of a kind, which is named where it is wrong.
-pub fn note(
-    kind: usize,
-    right: bool,
-    line: u64,
-    cases: &mut [u64; 5],
-    wrong: &mut [u64; 5],
-)
+pub fn note(kind: usize, right: bool, line: u64, cases: &mut [u64; 5], wrong: &mut [u64; 5])
     requires { ⌜ kind < 5 ⌝ }
     ensures { λ _. ⌜ now (cases .exit) ≡ counted kind (now (cases .entry)) ⌝ }
     ensures { λ _. ⌜ now (wrong .exit) ≡ wrongIf right kind (now (wrong .entry)) ⌝ }
