@@ -1,6 +1,6 @@
-// Reading a list of stored cases: words, and numbers of 16 lowercase hexadecimal digits.
+// Reading a list of stored cases: words, numbers of 16 lowercase hexadecimal digits, and decimal numbers.
 ghost use mathlib.Core.Path.{_≡_};
-ghost use Prim.Native.Nat.{_<_};
+ghost use Prim.Native.Nat.{_<_, _≤_};
 ghost use lib.ListN.{length};
 ghost use Rattle.vectors.specs.Line.{LineEnd};
 ghost use Rattle.vectors.specs.Text.{byteAt, digitOf, hexAt, hasWord, joined, rowAt};
@@ -15,6 +15,12 @@ pub enum Hex {
 pub enum Row {
     Numbers(u64, u64, u64),
     NoRow,
+}
+
+// A decimal number of 32 bits.
+pub enum Decimal {
+    Whole(u32),
+    NoDecimal,
 }
 
 fn wide(b: u8) -> u64
@@ -134,4 +140,43 @@ pub fn line_end(s: &[u8], at: usize) -> usize
         k += 1;
     }
     k
+}
+
+// Where the decimal digits from a place on end.
+pub fn digits_end(s: &[u8], at: usize) -> usize
+    requires { ⌜ at ≤ length (now s) ⌝ }
+    ensures { λ r. ⌜ (at ≤ r) × (r ≤ length (now (s .entry))) ⌝ }
+{
+    let mut k = at;
+    while k < s.len() {
+        if hex_digit(wide(s[k])) > 9 {
+            return k;
+        }
+        k += 1;
+    }
+    k
+}
+
+// The number that the bytes of a whole slice make: decimal digits without leading zeros.
+pub fn decimal_number(s: &[u8]) -> Decimal {
+    if s.len() == 0 {
+        return Decimal::NoDecimal;
+    }
+    if s.len() > 1 && s[0] == 48 {
+        return Decimal::NoDecimal;
+    }
+    let mut n: u64 = 0;
+    let mut k = 0;
+    while k < s.len() {
+        let d = hex_digit(wide(s[k]));
+        if d > 9 {
+            return Decimal::NoDecimal;
+        }
+        n = n * 10 + d;
+        if n > 4294967295 {
+            return Decimal::NoDecimal;
+        }
+        k += 1;
+    }
+    Decimal::Whole(n as u32)
 }
