@@ -8,7 +8,7 @@ use Rattle.float.specs.Select.{minOf, maxOf}
 use Rattle.geometry.specs.declared.Vec3.{Vec3}
 use Rattle.geometry.specs.Values.{vec3}
 use Rattle.model.specs.Part.{plusZero, past, sphereValue, planeValue, partValue}
-use Rattle.model.specs.Flat.{Flat, partFrom, placed, partAt}
+use Rattle.model.specs.Flat.{Flat, partAt}
 use Rattle.model.specs.Row.{laneAt, filledRow, lane}
 use Rattle.model.proofs.Tables.{getD-tabulate}
 use Rattle.model.proofs.Rows.{filled-cong}

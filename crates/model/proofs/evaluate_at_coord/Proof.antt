@@ -1,6 +1,6 @@
 -- `evaluate_at_coord` meets its contract: the laid out parts of a model that cause 4 passes have the model's value.
 use borrow.Author.Needs.{needs}
-use mathlib.Core.Path.{_≡_, refl, sym, ap, _∙_}
+use mathlib.Core.Path.{sym, ap, _∙_}
 use Rattle.geometry.specs.Causes.{firstOf}
 use Rattle.model.specs.Model.{evaluationOf}
 use Rattle.model.specs.declared.Evaluation.the-variants.{Value}

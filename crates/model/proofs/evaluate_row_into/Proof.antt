@@ -1,6 +1,6 @@
 -- `evaluate_row_into` meets its contract: the last row is the model's, and without parts the value is +0.
 use borrow.Author.Needs.{needs}
-use mathlib.Core.Path.{_≡_, _∙_}
+use mathlib.Core.Path.{_∙_}
 use denote.Ref.{now}
 use Rattle.model.specs.Flat.{Flat, flat}
 use Rattle.model.specs.Row.{evaluatedRows, modelRow}

@@ -2,7 +2,7 @@
 use borrow.Author.Needs.{needs}
 use mathlib.Core.Path.{_≡_, refl, ap, _∙_}
 use Prim.Native.Nat.{ℕ, _-_, _≤_}
-use Rattle.model.specs.Row.{laneAt, filledRow}
+use Rattle.model.specs.Row.{filledRow}
 use lib.ListN.{getD}
 use Rattle.model.specs.Part.{past, planeValue}
 use Rattle.model.proofs.Rows.{lane-more}

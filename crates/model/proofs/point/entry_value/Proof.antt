@@ -1,6 +1,6 @@
 -- `point::entry_value` meets its contract: each return is the value of the code that its tests found.
 use borrow.Author.Needs.{needs}
-use mathlib.Core.Path.{_≡_, sym, _∙_}
+use mathlib.Core.Path.{sym, _∙_}
 use Rattle.model.proofs.ByCode.{of-constant, of-sphere, of-plane, of-min, of-max, of-add, of-sub, of-neg, first-late, second-late, of-other, beyond}
 use native.Mathlib.Omega.{arith}
 use Rattle.model.proofs.point.entry_value.Statement.{statement}

@@ -1,7 +1,7 @@
 -- `point::fill_values` meets its contract: the front of the list holds the values of the parts passed so far.
 use borrow.Author.Needs.{needs}
-use mathlib.Core.Path.{_≡_, refl, sym, ap, _∙_}
-use Prim.Native.Nat.{ℕ, _-_, _≤_, _<_}
+use mathlib.Core.Path.{_≡_, refl, ap, _∙_}
+use Prim.Native.Nat.{_-_, _≤_}
 use lib.ListN.{length}
 use denote.Ref.{now}
 use Rattle.model.specs.Model.{valuesTo}

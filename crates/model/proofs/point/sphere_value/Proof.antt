@@ -1,6 +1,6 @@
 -- `point::sphere_value` meets its contract.
 use borrow.Author.Needs.{needs}
-use mathlib.Core.Path.{_≡_, refl, ap, _∙_}
+use mathlib.Core.Path.{ap, _∙_}
 use lib.Ieee.{Float, binary64, sub}
 use Rattle.geometry.specs.Distance.{distanceOf}
 use Rattle.geometry.specs.declared.Vec3.{Vec3}
