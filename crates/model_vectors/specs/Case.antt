@@ -27,6 +27,9 @@ pickModel true a b = a
 pickModel false a b = b
 
 -- one part more; past the 64th none is kept, and the count is 65, so that cause 4 applies
-unfoldable pub withPart : ImplicitModel → Part → ImplicitModel
-withPart m part =
+unfoldable pub longer : ImplicitModel → Part → ImplicitModel
+longer m part =
     pickModel (ltb (m .count) 64) (modelOf (set (m .parts) (m .count) (component part)) (m .count + 1)) (modelOf (m .parts) 65)
+
+abbrev pub withPart : Case → Part → Case
+withPart c part = record { point = c .point; model = longer (c .model) part }

@@ -40,7 +40,7 @@ refusalRight c = refusedRight (evaluationOf (c .model) (c .point .x) (c .point .
 -- a case, and the counts, after one line more
 unfoldable pub caseAfter : Line → Case → Case
 caseAfter (Point p) c = started p
-caseAfter (Component part) c = record { point = c .point; model = withPart (c .model) part }
+caseAfter (Component part) c = withPart c part
 caseAfter (Value stored) c = c
 caseAfter Refused c = c
 caseAfter Off c = c

@@ -1,6 +1,6 @@
 // A case that lines build: a point, and a model part by part.
 ghost use mathlib.Core.Path.{_≡_};
-ghost use Rattle.model_vectors.specs.Case.{started, withPart};
+ghost use Rattle.model_vectors.specs.Case.{longer, started, withPart};
 use geometry::Vec3;
 use model::ImplicitModel;
 use model::ModelComponent;
@@ -24,8 +24,20 @@ pub fn start(point: Vec3) -> Case
 }
 
 // One part more. A part past the 64th is only counted.
-pub fn with_part(model: ImplicitModel, part: Part) -> ImplicitModel
-    ensures { λ r. ⌜ r ≡ withPart model part ⌝ }
+pub fn with_part(case: Case, part: Part) -> Case
+    ensures { λ r. ⌜ r ≡ withPart case part ⌝ }
+{
+    let point = case.point;
+    let model = case.model;
+    let longer = longer_model(model, part);
+    Case {
+        point,
+        model: longer,
+    }
+}
+
+fn longer_model(model: ImplicitModel, part: Part) -> ImplicitModel
+    ensures { λ r. ⌜ r ≡ longer model part ⌝ }
 {
     let count = model.count;
     let mut parts = model.parts;

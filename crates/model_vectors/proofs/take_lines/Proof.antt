@@ -38,8 +38,11 @@ part-read-end c = search needs
 read-requires : tie.Need-read-requires Inv-loop μ-loop
 read-requires c κs = search needs
 
-take-line-requires : tie.Need-take-line-requires Inv-loop μ-loop
-take-line-requires c κs = search needs
+judge-line-requires : tie.Need-judge-line-requires Inv-loop μ-loop
+judge-line-requires c κs = search needs
+
+case-after-requires : tie.Need-case-after-requires Inv-loop μ-loop
+case-after-requires c κs = search needs
 
 loop-less : tie.Need-loop-less Inv-loop μ-loop
 loop-less c = search needs
@@ -68,7 +71,8 @@ take-lines-spec =
     part-read-start
     part-read-end
     read-requires
-    take-line-requires
+    judge-line-requires
+    case-after-requires
     loop-less
     loop-again
     report-requires
