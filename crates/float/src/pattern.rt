@@ -3,7 +3,7 @@ ghost use mathlib.Core.Path.{_≡_};
 ghost use lib.Ieee.{binary64, ofBits, toBits};
 ghost use Rattle.float.specs.Sign.{absOf};
 
-// The value with the bits b. Every NaN pattern gives the computed NaN.
+// The value with the bits b. Every NaN pattern gives the computed NaN, so its own bits are lost.
 pub fn from_bits(b: u64) -> f64
     ensures { λ r. ⌜ r ≡ ofBits binary64 b ⌝ }
 {
@@ -23,7 +23,7 @@ pub fn to_bits(x: f64) -> u64
     f64::to_bits(x)
 }
 
-// |x|: the sign's bit cleared.
+// |x|: the sign's bit cleared. A NaN counts as computed.
 pub fn abs(x: f64) -> f64
     ensures { λ r. ⌜ r ≡ absOf x ⌝ }
 {

@@ -35,8 +35,9 @@ fn ceil_size(a: f64) -> f64
     if whole < a { from_count(n + 1) } else { whole }
 }
 
-// The greatest whole number that is not above x, with x's sign. A value of 2^52 or more in size has
-// no fraction, and it comes back as it is, as do an infinity and a NaN.
+// The greatest whole number that is not above x, with x's sign: the floor of -0 is -0. A value of
+// 2^52 or more in size has no fraction, and comes back as it is, as does an infinity. A NaN counts
+// as computed.
 pub fn floor(x: f64) -> f64
     ensures { λ r. ⌜ r ≡ floorOf x ⌝ }
 {
@@ -50,7 +51,8 @@ pub fn floor(x: f64) -> f64
     computed(x)
 }
 
-// The least whole number that is not below x, with x's sign.
+// The least whole number that is not below x, with x's sign: the ceiling of -0.5 is -0. The rest is
+// as for the floor.
 pub fn ceil(x: f64) -> f64
     ensures { λ r. ⌜ r ≡ ceilOf x ⌝ }
 {

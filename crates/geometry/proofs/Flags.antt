@@ -1,5 +1,5 @@
 -- What `a && b` leaves in its flag g: b where a held, else a itself.
-use mathlib.Core.Path.{_≡_, refl, sym, _∙_}
+use mathlib.Core.Path.{_≡_, refl, _∙_}
 use mathlib.Core.Bool.{Bool, true, false, _&&_, _||_}
 
 pub and-then : {a b g : Bool} → a ≡ true → g ≡ b → g ≡ (a && b)

@@ -1,12 +1,12 @@
 -- A grid that cause 9 does not refuse: its dimensions are above 0, and the products that an index takes are small.
-use mathlib.Core.Path.{_≡_, refl, sym, _∙_, ap}
+use mathlib.Core.Path.{_≡_, refl}
 use mathlib.Core.Bool.{Bool, true, false, _||_, or-true}
 use Prim.Native.Nat.{ℕ, zero, suc, _+_, _*_, _^_, _≤_, _<_}
-use native.Mathlib.Nat.{mul-pos, mul-comm, mul-assoc, le-mul-of-pos-right, mul-le-mul, mul-le-mul-left, mul-le-mul-right, mul-lt-mul-of-pos-right}
+use native.Mathlib.Nat.{mul-pos, mul-comm, mul-assoc, le-mul-of-pos-right, mul-le-mul, mul-le-mul-right}
 use native.Mathlib.Omega.{arith}
-use lib.Dec.{eqb, ltb}
+use lib.Dec.{eqb}
 use borrow.Author.Tests.{lt-ltb, ltb-false, eqb-false}
-use Rattle.geometry.specs.Index.{dimensionsRefused, placeOf}
+use Rattle.geometry.specs.Index.{dimensionsRefused}
 
 pub record Accepted (nx ny nz : ℕ) : Type 0 where
   pub x-above : 0 < nx

@@ -1,7 +1,7 @@
 -- The two index functions undo each other in range, both ways.
-use mathlib.Core.Path.{_≡_, refl, sym, _∙_, ap}
+use mathlib.Core.Path.{_≡_, refl, _∙_, ap}
 use mathlib.Core.Bool.{false}
-use Prim.Native.Nat.{ℕ, _+_, _*_, _/_, _%_, _≤_, _<_}
+use Prim.Native.Nat.{ℕ, _+_, _*_, _/_, _%_, _<_}
 use native.Mathlib.Nat.{mul-pos, mul-comm, mul-assoc, mul-le-mul-right, div-add-mod', mod-lt, mod-eq-of-lt, div-eq-of-lt, mul-add-div-right, mul-add-mod-self-right, add-zero, div-lt-iff-lt-mul}
 use native.Mathlib.Omega.{arith}
 use borrow.Author.Tests.{lt-ltb}
@@ -10,7 +10,7 @@ use Rattle.geometry.specs.Causes.{firstOf}
 use Rattle.geometry.specs.Index.{dimensionsRefused, placeOf, indicesOf, index1dOf, index3dOf}
 use Rattle.geometry.specs.declared.Index1d.the-variants as index1d
 use Rattle.geometry.specs.declared.Index3d.the-variants as index3d
-use Rattle.geometry.proofs.Grid.{Accepted, accepted, place-below}
+use Rattle.geometry.proofs.Grid.{accepted, place-below}
 
 -- q * d + r, taken apart by d
 quotient : (q r d : ℕ) → r < d → (q * d + r) / d ≡ q

@@ -1,6 +1,6 @@
 -- Document 01, "Boxes and indices": a box's size, and whether two boxes meet.
 use mathlib.Core.Bool.{Bool, _&&_}
-use lib.Ieee.{Float, binary64, sub, le}
+use lib.Ieee.{binary64, sub, le}
 use Rattle.geometry.specs.Values.{vec3}
 use Rattle.geometry.specs.declared.Vec3.{Vec3}
 use Rattle.geometry.specs.declared.BoundingBox.{BoundingBox}

@@ -1,10 +1,10 @@
 -- Document 01, "Boxes and indices": "Index is k × nx × ny + j × nx + i (9, then 10)."
 use Prim.Native.Nat.{ℕ, _+_, _*_, _/_, _%_}
 use mathlib.Core.Bool.{Bool, not, _&&_, _||_}
-use mathlib.Core.List.{List, [], _∷_}
+use mathlib.Core.List.{[], _∷_}
 use lib.Dec.{eqb, ltb}
 use Rattle.geometry.specs.Values.{vec3i}
-use Rattle.geometry.specs.Causes.{Cause, cause, firstOf}
+use Rattle.geometry.specs.Causes.{cause, firstOf}
 use Rattle.geometry.specs.declared.Vec3i.{Vec3i}
 use Rattle.geometry.specs.declared.Index1d as answer1d
 use Rattle.geometry.specs.declared.Index1d.the-variants as index1d

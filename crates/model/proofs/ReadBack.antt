@@ -1,13 +1,12 @@
 -- What flat lists stand for: each part has its inputs below its place, and a model in order is read back as it was laid out.
 use mathlib.Core.Path.{_≡_, refl, sym, ap, _∙_}
 use mathlib.Core.Bool.{Bool, true, false, cond}
-use mathlib.Core.List.{List, [], _∷_, map}
-use Prim.Native.Nat.{ℕ, zero, suc, _≤_, _<_}
+use mathlib.Core.List.{List, map}
+use Prim.Native.Nat.{ℕ, _≤_, _<_}
 use native.Mathlib.Omega.{arith}
 use lib.ListN.{length, getD, take}
 use lib.Seq.{ext-getD, getD-take, length-take-le}
 use lib.Ieee.{Float}
-use Rattle.geometry.specs.declared.Vec3.{Vec3}
 use Rattle.geometry.specs.Values.{vec3}
 use Rattle.model.specs.Part.{plusZero, past, inputsBelow}
 use Rattle.model.specs.Model.{partOf, orderedTo, modelValue}

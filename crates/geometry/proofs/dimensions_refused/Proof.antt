@@ -1,5 +1,5 @@
 -- `dimensions_refused` meets its contract: a factor above the limit has a product above it, and a product of factors within it fits.
-use mathlib.Core.Path.{_≡_, refl, sym}
+use mathlib.Core.Path.{sym}
 use mathlib.Core.Bool.{or-true}
 use Prim.Native.Nat.{_*_, _<_}
 use native.Mathlib.Nat.{le-mul-of-pos-right}

@@ -1,5 +1,5 @@
 -- `index1d_from_index3d` meets its contract: each test is the cause that it stands for, and the place of indices in range fits.
-use mathlib.Core.Path.{_≡_, refl, sym, _∙_}
+use mathlib.Core.Path.{sym, _∙_}
 use Prim.Native.Nat.{_+_, _*_, _^_, _<_}
 use native.Mathlib.Omega.{arith}
 use borrow.Author.Needs.{needs}

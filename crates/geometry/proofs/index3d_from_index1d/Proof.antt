@@ -1,5 +1,5 @@
 -- `index3d_from_index1d` meets its contract: each test is the cause that it stands for, and no divisor is 0.
-use mathlib.Core.Path.{_≡_, refl, sym, _∙_, ap}
+use mathlib.Core.Path.{sym, _∙_, ap}
 use native.Mathlib.Nat.{mul-pos}
 use native.Mathlib.Omega.{arith}
 use borrow.Author.Needs.{needs}

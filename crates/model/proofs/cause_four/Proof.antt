@@ -1,5 +1,5 @@
 -- `cause_four` meets its contract: each test is one of the three that cause 4 has.
-use mathlib.Core.Path.{_≡_, refl, sym, ap, _∙_}
+use mathlib.Core.Path.{ap}
 use mathlib.Core.Bool.{not, or-true}
 use borrow.Author.Needs.{needs}
 use borrow.Author.Tests.{eq-eqb, ne-eqb, lt-ltb, le-ltb}

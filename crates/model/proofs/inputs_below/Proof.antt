@@ -1,6 +1,5 @@
 -- `inputs_below` meets its contract: each case tests the inputs that its part has.
 use borrow.Author.Needs.{needs}
-use mathlib.Core.Path.{refl}
 use mathlib.Core.Path.{sym, ap, _∙_}
 use Rattle.model.specs.Part.{inputsBelow}
 use Rattle.model.proofs.inputs_below.Statement.{statement}

@@ -1,5 +1,4 @@
 -- `BoundingBox::dimensions` meets its contract: each part is its computed difference.
-use mathlib.Core.Path.{_∙_}
 use borrow.Author.Needs.{needs}
 use Rattle.geometry.specs.Box.{dimensionsOf}
 use Rattle.geometry.proofs.BoundingBox.dimensions.Statement.{statement}

@@ -1,7 +1,7 @@
 -- `BoundingBox::intersects` meets its contract: each flag of the chain is the comparisons up to it.
-use mathlib.Core.Path.{_≡_, refl, sym, _∙_, ap}
+use mathlib.Core.Path.{_≡_, refl, sym}
+use mathlib.Core.Bool.{Bool, _&&_}
 use mathlib.Core.Logic.{⊎-elim}
-use mathlib.Core.Bool.{Bool, true, false, _&&_}
 use lib.Ieee.{le}
 use Rattle.geometry.specs.Box.{intersectsOf}
 use Rattle.geometry.specs.declared.BoundingBox.{BoundingBox}

@@ -1,0 +1,3 @@
+pub mod Case
+pub mod Compare
+pub mod Tally

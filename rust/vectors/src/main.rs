@@ -1,0 +1,30 @@
+//! Writes the lists of stored cases. The same list comes out each time.
+//!
+//! usage: vectors float|model
+
+mod bits;
+mod floats;
+mod models;
+mod random;
+
+use std::io::{self, Write};
+use std::process::ExitCode;
+
+fn main() -> ExitCode {
+    let wanted = std::env::args().nth(1);
+    let text = match wanted.as_deref() {
+        Some("float") => floats::list(),
+        Some("model") => models::list(),
+        _ => {
+            eprintln!("usage: vectors float|model");
+            return ExitCode::from(2);
+        }
+    };
+    match io::stdout().write_all(text.as_bytes()) {
+        Ok(()) => ExitCode::SUCCESS,
+        Err(error) => {
+            eprintln!("vectors: {error}");
+            ExitCode::FAILURE
+        }
+    }
+}
