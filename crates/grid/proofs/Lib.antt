@@ -11,3 +11,4 @@ pub mod Stepped
 pub mod Folds
 pub mod Any
 pub mod Pruned
+pub mod Needing

@@ -3,6 +3,7 @@ ghost use mathlib.Core.Path.{_≡_};
 ghost use Prim.Native.Nat.{_+_, _^_, _<_, _≤_};
 ghost use lib.ListN.{length, getD, set};
 ghost use Rattle.geometry.specs.Values.{vec3i};
+ghost use Rattle.geometry.specs.Axis.{stepAlong};
 ghost use Rattle.geometry.specs.Octet.{octetPlaces};
 ghost use Rattle.model.specs.Part.{plusZero};
 ghost use Rattle.grid.specs.Blocks.{cube};
@@ -15,7 +16,7 @@ use geometry::BoundingBox;
 use geometry::Vec3;
 use geometry::Vec3i;
 
-// The corner at (i, j, k): c is the step on all three axes.
+// The corner at (i, j, k), with the step c on all three axes.
 fn corner_at(origin: Vec3, c: f64, at: Vec3i) -> Vec3
     ensures { λ r. ⌜ r ≡ cornerAt origin c at ⌝ }
 {
@@ -26,13 +27,22 @@ fn corner_at(origin: Vec3, c: f64, at: Vec3i) -> Vec3
     )
 }
 
-// A corner of a node that has the box b and n children along an axis.
+// The step between the corners of a node that has the box b and n children along an axis: the x
+// dimension's on all three axes.
+fn corner_step(b: BoundingBox, n: u32) -> f64
+    ensures { λ r. ⌜ r ≡ stepAlong (b .min .x) (b .max .x) n ⌝ }
+{
+    let min = b.min;
+    let max = b.max;
+    geometry::step_along(min.x, max.x, n as u64)
+}
+
+// A corner of such a node.
 pub fn corner_point(b: BoundingBox, n: u32, corner: usize) -> Vec3
     ensures { λ r. ⌜ r ≡ corners.cornerPoint b n corner ⌝ }
 {
     let min = b.min;
-    let max = b.max;
-    let c = geometry::step_along(min.x, max.x, n as u64);
+    let c = corner_step(b, n);
     let side = (n as usize) + 1;
     corner_at(min, c, indices(corner, side, side))
 }
@@ -189,8 +199,7 @@ pub fn corner_points(
     ensures { λ _. ⌜ now (zs .exit) ≡ rowOf (length (now (list .entry))) (λ q. corners.cornerPoint b n (getD (now (list .entry)) q 0) .z) (now (zs .entry)) ⌝ }
 {
     let min = b.min;
-    let max = b.max;
-    let c = geometry::step_along(min.x, max.x, n as u64);
+    let c = corner_step(b, n);
     let side = (n as usize) + 1;
     let mut q: usize = 0;
     while q < list.len() {

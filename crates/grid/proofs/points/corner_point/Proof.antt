@@ -5,8 +5,8 @@ use borrow.Author.Needs.{needs}
 use Rattle.grid.proofs.points.corner_point.Statement.{statement}
 use Rattle.grid.proofs.points.corner_point.Tie as tie
 
-step-along-requires : tie.Need-step-along-requires
-step-along-requires c κs = search needs
+corner-step-requires : tie.Need-corner-step-requires
+corner-step-requires c κs = search needs
 
 add-side : tie.Need-add-side
 add-side c = search needs
@@ -23,4 +23,4 @@ returns c = cc
 
 pub corner-point-spec : {M : Type 1} → statement M
 corner-point-spec =
-    tie.close (tie.spec step-along-requires add-side indices-requires corner-at-requires returns)
+    tie.close (tie.spec corner-step-requires add-side indices-requires corner-at-requires returns)

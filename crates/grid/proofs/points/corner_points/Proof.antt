@@ -22,8 +22,8 @@ Inv-loop n list xs₀ ys₀ zs₀ min c side q₀ xs ys zs q =
 abbrev μ-loop : tie.MeasureT-loop
 μ-loop n list xs₀ ys₀ zs₀ min c side q₀ xs ys zs q = length list - q
 
-step-along-requires : tie.Need-step-along-requires Inv-loop μ-loop
-step-along-requires c κs = search needs
+corner-step-requires : tie.Need-corner-step-requires Inv-loop μ-loop
+corner-step-requires c κs = search needs
 
 add-side : tie.Need-add-side Inv-loop μ-loop
 add-side c = search needs
@@ -71,10 +71,10 @@ loop-again c =
 returns : tie.Need-returns Inv-loop μ-loop
 returns c =
     let inv = c .before .loop .inv in
-    let a = c .before .before .before .before .before .before .args in
+    let a = c .before .before .before .before .before .args in
     let last : c .before .loop .q ≡ length (a .list .now) = omega arith in
-    let same : (q : ℕ) → cornerAt (a .b .min) (c .before .before .step-along .result) (indicesOf (getD (a .list .now) q 0) (a .n + 1) (a .n + 1)) ≡ cornerPoint (a .b) (a .n) (getD (a .list .now) q 0) =
-    λ q. corner-stepped (a .b) (a .n) (getD (a .list .now) q 0) (c .before .before .step-along .ensures) in (
+    let same : (q : ℕ) → cornerAt (a .b .min) (c .before .before .corner-step .result) (indicesOf (getD (a .list .now) q 0) (a .n + 1) (a .n + 1)) ≡ cornerPoint (a .b) (a .n) (getD (a .list .now) q 0) =
+    λ q. corner-stepped (a .b) (a .n) (getD (a .list .now) q 0) (c .before .before .corner-step .ensures) in (
       filled-all _ _ _ (inv .1) last (λ q. ap (λ p. p .x) (same q)),
       (filled-all _ _ _ (inv .2) last (λ q. ap (λ p. p .y) (same q)), filled-all _ _ _ (inv .3) last (λ q. ap (λ p. p .z) (same q))),
     )
@@ -85,7 +85,7 @@ corner-points-spec =
     (tie.spec
     Inv-loop
     μ-loop
-    step-along-requires
+    corner-step-requires
     add-side
     loop-holds
     mul-corner
