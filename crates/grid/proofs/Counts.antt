@@ -1,5 +1,5 @@
 -- The numbers of nodes: at least 1 on each axis, so that no part of their product is above it.
-use Prim.Native.Nat.{ℕ, _*_, _≤_, _<_, max}
+use Prim.Native.Nat.{_*_, _≤_, _<_}
 use native.Mathlib.Nat.{le-max-left, le-mul-of-pos-right}
 use lib.Ieee.{Float}
 use Rattle.grid.specs.declared.Grid.{Grid}

@@ -1,7 +1,6 @@
 -- What is made of an octet's eight values, one after the other.
-use mathlib.Core.Path.{_≡_, refl, sym, ap, _∙_}
+use mathlib.Core.Path.{_≡_, sym, ap, _∙_}
 use mathlib.Core.List.{List, [], _∷_}
-use Prim.Native.Nat.{ℕ}
 use lib.ListN.{length, getD}
 use lib.Ieee.{Float, binary64, add, div, ofBits}
 use Rattle.model.specs.Part.{plusZero}

@@ -1,6 +1,6 @@
 -- The code's literals are the definitions' counts.
 use mathlib.Core.Path.{_≡_, refl}
-use lib.Ieee.{Float, binary64, ofBits, ofInt}
+use lib.Ieee.{binary64, ofBits, ofInt}
 use Rattle.geometry.specs.Axis.{asFloat}
 
 pub two-point : ofBits binary64 0x4000_0000_0000_0000 ≡ asFloat 2

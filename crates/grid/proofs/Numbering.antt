@@ -4,7 +4,7 @@ use mathlib.Core.Bool.{Bool, true, false, cond}
 use Prim.Native.Nat.{ℕ, _+_, _*_, _≤_, _<_}
 use native.Mathlib.Nat.{mul-pos, mul-comm, mul-assoc, div-lt-iff-lt-mul}
 use native.Mathlib.Omega.{arith}
-use borrow.Author.Tests.{lt-ltb, le-ltb, ltb-true, ltb-false}
+use borrow.Author.Tests.{ltb-true, ltb-false}
 use lib.Dec.{ltb}
 use Rattle.geometry.specs.declared.Vec3i.{Vec3i}
 use Rattle.geometry.specs.Values.{vec3i}
@@ -13,7 +13,7 @@ use Rattle.geometry.proofs.Inverse.{indices-of-place, place-of-indices}
 use Rattle.grid.specs.declared.Grid.{Grid}
 use Rattle.grid.specs.Nodes.{nodeCounts, nodesOf}
 use Rattle.grid.specs.Boxes.{nodeIndices, childIndices}
-use Rattle.grid.specs.Rows.{nextIndices}
+use Rattle.grid.specs.Steps.{nextIndices}
 use Rattle.grid.proofs.Counts.{i-above, j-above}
 use Rattle.grid.proofs.Division.{column-below, line-below}
 

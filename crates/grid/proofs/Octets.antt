@@ -1,8 +1,8 @@
 -- A child's eight corners: their places from the first one, all below the node's (n + 1)³.
-use mathlib.Core.Path.{_≡_, refl, sym, ap, _∙_, subst}
-use mathlib.Core.List.{List, [], _∷_, map}
-use Prim.Native.Nat.{ℕ, zero, suc, _+_, _*_, _/_, _%_, _^_, _≤_, _<_}
-use native.Mathlib.Nat.{mul-pos, mul-comm, mul-assoc, mul-le-mul, mul-le-mul-left, mul-le-mul-right, div-lt-iff-lt-mul}
+use mathlib.Core.Path.{_≡_, refl, subst}
+use mathlib.Core.List.{List, [], _∷_}
+use Prim.Native.Nat.{ℕ, _+_, _*_, _^_, _≤_, _<_}
+use native.Mathlib.Nat.{mul-pos, mul-assoc, mul-le-mul, mul-le-mul-right, div-lt-iff-lt-mul}
 use native.Mathlib.Omega.{arith}
 use lib.ListN.{length, getD}
 use Rattle.geometry.specs.declared.Vec3i.{Vec3i}

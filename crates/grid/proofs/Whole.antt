@@ -1,11 +1,11 @@
 -- A float cut to a whole number of 64 bits, by its comparisons with 1 and 2 ^ 64.
-use mathlib.Core.Path.{_≡_, refl, sym, ap, _∙_, subst}
-use mathlib.Core.Bool.{Bool, true, false, true≢false}
-use Prim.Native.Nat.{ℕ, _+_, _-_, _*_, _/_, _^_, _≤_, _<_, min, max}
+use mathlib.Core.Path.{_≡_, refl, sym}
+use mathlib.Core.Bool.{true, false, true≢false}
+use Prim.Native.Nat.{_+_, _-_, _*_, _/_, _^_, _≤_, _<_, max}
 use native.Mathlib.Nat.{le-min, min-eq-right, min-le-left, max-eq-left, max-eq-right, le-div-iff-mul-le, div-lt-iff-lt-mul}
 use native.Mathlib.Omega.{arith}
 use borrow.Author.Tests.{ltb-true, ltb-false}
-use lib.IntN.{ℤ, pos}
+use lib.IntN.{pos}
 use lib.Dec.{T, lt→ltb}
 use lib.Ieee.{Float, nan, inf, fin, up, down, lt, toUnsigned}
 use lib.Ieee.Fits.{down-pos}

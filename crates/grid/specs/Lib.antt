@@ -8,3 +8,4 @@ pub mod Leaves
 pub mod Pruning
 pub mod Activity
 pub mod Rows
+pub mod Steps

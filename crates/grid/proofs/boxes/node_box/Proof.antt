@@ -2,7 +2,6 @@
 use mathlib.Core.Path.{sym, subst}
 use Prim.Native.Nat.{_<_}
 use Rattle.grid.proofs.Counts.{i-above, j-above}
-use Rattle.grid.specs.Nodes.{nodeCounts, nodesAlong}
 use Rattle.grid.specs.Boxes.{nodeBox}
 use borrow.Author.Needs.{needs}
 use Rattle.grid.proofs.boxes.node_box.Statement.{statement}

@@ -1,10 +1,8 @@
 -- `is_block` meets its contract.
 use Rattle.grid.proofs.Any.{or-sixth}
 use mathlib.Core.Path.{sym, ap}
-use lib.Dec.{eqb}
-use borrow.Author.Tests.{eq-eqb, ne-eqb}
+use borrow.Author.Tests.{ne-eqb}
 use Rattle.grid.specs.Blocks.{isBlock}
-use borrow.Author.Needs.{needs}
 use Rattle.grid.proofs.nodes.is_block.Statement.{statement}
 use Rattle.grid.proofs.nodes.is_block.Tie as tie
 

@@ -1,11 +1,12 @@
 -- `corner_points` meets its contract: the places passed hold their corners.
-use mathlib.Core.Path.{_≡_, refl, sym, ap, _∙_}
-use Prim.Native.Nat.{ℕ, _+_, _-_, _≤_, _<_}
+use mathlib.Core.Path.{_≡_, ap, _∙_}
+use Prim.Native.Nat.{ℕ, _+_, _-_, _≤_}
 use native.Mathlib.Omega.{arith}
 use lib.ListN.{length, getD}
 use Rattle.geometry.specs.Index.{indicesOf}
 use Rattle.grid.specs.Corners.{cornerPoint}
-use Rattle.grid.specs.Rows.{rowOf, cornerAt}
+use Rattle.grid.specs.Rows.{rowOf}
+use Rattle.grid.specs.Steps.{cornerAt}
 use Rattle.grid.proofs.Filled.{filled-none, filled-more, filled-all}
 use Rattle.grid.proofs.Stepped.{corner-stepped}
 use borrow.Author.Needs.{needs}

@@ -1,5 +1,5 @@
 -- `leaf_points` meets its contract: the places passed hold their points, and the indices are those of the next one.
-use mathlib.Core.Path.{_≡_, refl, sym, ap, _∙_, subst}
+use mathlib.Core.Path.{_≡_, sym, ap, _∙_, subst}
 use Rattle.grid.proofs.Division.{column-below, line-below, slab-le}
 use Rattle.grid.proofs.Filled.{filled-none, filled-more, filled-all}
 use native.Mathlib.Nat.{add-zero, add-assoc}
@@ -7,7 +7,8 @@ use Prim.Native.Nat.{ℕ, _+_, _-_, _≤_, _<_}
 use native.Mathlib.Omega.{arith}
 use Rattle.geometry.specs.Index.{indicesOf}
 use Rattle.grid.specs.Leaves.{leafPoint}
-use Rattle.grid.specs.Rows.{rowOf, steppedPoint, nextIndices}
+use Rattle.grid.specs.Rows.{rowOf}
+use Rattle.grid.specs.Steps.{steppedPoint, nextIndices}
 use Rattle.grid.proofs.Numbering.{next-of}
 use Rattle.grid.proofs.Stepped.{leaf-stepped}
 use borrow.Author.Needs.{needs}

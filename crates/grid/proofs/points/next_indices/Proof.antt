@@ -1,6 +1,6 @@
 -- `next_indices` meets its contract.
 use borrow.Author.Tests.{lt-ltb, le-ltb}
-use Rattle.grid.specs.Rows.{nextIndices}
+use Rattle.grid.specs.Steps.{nextIndices}
 use borrow.Author.Needs.{needs}
 use Rattle.grid.proofs.points.next_indices.Statement.{statement}
 use Rattle.grid.proofs.points.next_indices.Tie as tie

@@ -1,5 +1,4 @@
 -- `octet` meets its contract: a child's indices are below n.
-use Prim.Native.Nat.{_<_}
 use mathlib.Core.Path.{sym, ap, _∙_, subst}
 use Rattle.geometry.specs.Octet.{octetPlaces}
 use Rattle.grid.specs.Corners.{octet}

@@ -3,7 +3,6 @@ use Prim.Native.Nat.{_+_, _*_, _^_, _<_}
 use native.Mathlib.Omega.{arith}
 use Rattle.geometry.specs.Values.{vec3i}
 use Rattle.grid.proofs.Octets.{from-first, octet-fits}
-use borrow.Author.Needs.{needs}
 use Rattle.grid.proofs.points.octet_at.Statement.{statement}
 use Rattle.grid.proofs.points.octet_at.Tie as tie
 
