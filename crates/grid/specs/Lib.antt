@@ -6,3 +6,6 @@ pub mod Boxes
 pub mod Corners
 pub mod Leaves
 pub mod Pruning
+pub mod Activity
+pub mod Rows
+pub mod Steps

@@ -2,6 +2,38 @@
 // which are active, which corners they need, and when a child is pruned.
 use geometry::BoundingBox;
 
+mod boxes; // boxes.rt: where nodes and children lie, and which are active
+mod nodes; // nodes.rt: the size and the number of nodes
+mod points; // points.rt: corner points, leaf points and octets
+mod pruning; // pruning.rt: which children become constants
+
+pub use boxes::axis_active;
+pub use boxes::child_box;
+pub use boxes::child_box_at;
+pub use boxes::is_active;
+pub use boxes::node_box;
+pub use boxes::node_box_at;
+pub use boxes::node_least;
+pub use boxes::node_most;
+pub use nodes::indices;
+pub use nodes::is_block;
+pub use nodes::node_counts;
+pub use nodes::node_size;
+pub use nodes::node_total;
+pub use nodes::nodes_along;
+pub use nodes::steps_between;
+pub use points::corner_point;
+pub use points::corner_points;
+pub use points::leaf_point;
+pub use points::leaf_points;
+pub use points::octet;
+pub use points::octet_values;
+pub use pruning::average;
+pub use pruning::half_diagonal;
+pub use pruning::highest;
+pub use pruning::is_pruned;
+pub use pruning::lowest;
+
 // What a grid is made from: the bounds, the cell's size, and how many children (inner) and leaf
 // points (leaf) a node and a leaf have along an axis.
 pub struct Grid {
