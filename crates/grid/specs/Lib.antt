@@ -6,3 +6,5 @@ pub mod Boxes
 pub mod Corners
 pub mod Leaves
 pub mod Pruning
+pub mod CornerList
+pub mod CornerMarks
