@@ -8,3 +8,5 @@ pub mod Leaves
 pub mod Pruning
 pub mod CornerList
 pub mod CornerMarks
+pub mod Activity
+pub mod Counting

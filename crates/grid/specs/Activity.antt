@@ -1,0 +1,14 @@
+-- Document 01: "It is active if the bounds intersect it.", on one axis.
+-- proofs/Active shows that a child is active exactly where the three axes are.
+use Prim.Native.Nat.{ℕ}
+use mathlib.Core.Bool.{Bool, _&&_}
+use lib.Ieee.{Float, le}
+use Rattle.geometry.specs.Axis.{along, alongEnd}
+use Rattle.grid.specs.Boxes.{nodeLeast, nodeMost}
+
+-- whether bounds from `least` to `most` meet child ci of node i, where a node is s long and has n children
+unfoldable pub axisActive : (least most s : Float) → (n i ci : ℕ) → Bool
+axisActive least most s n i ci =
+    let from = nodeLeast least s i in
+    let to = nodeMost least s i in
+    le least (alongEnd from to n ci) && le (along from to n ci) most
