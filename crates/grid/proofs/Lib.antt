@@ -6,3 +6,8 @@ pub mod ListedCorners
 pub mod Active
 pub mod Sums
 pub mod ActiveCounts
+pub mod Division
+pub mod Whole
+pub mod Counts
+pub mod Any
+pub mod CauseLaws

@@ -209,9 +209,6 @@ row-fits (suc k) row small h =
     }
 
 module _ (n row i : ℕ) (kinds list : List ℕ) (small : n ≤ 64) (below : row < n * n) (h : i < n) where
-  at : ℕ
-  at = (row / n * (n + 1) + row % n) * (n + 1) + i
-
   child-below : row * n + i < cube n
   child-below = omega (arith, row-fits n row small below .last)
 

@@ -10,3 +10,4 @@ pub mod CornerList
 pub mod CornerMarks
 pub mod Activity
 pub mod Counting
+pub mod Causes

@@ -2,11 +2,23 @@
 // which are active, which corners they need, and when a child is pruned.
 use geometry::BoundingBox;
 
+mod blocks; // blocks.rt: powers of a block's size
+mod causes; // causes.rt: the causes of open
+mod count; // count.rt: how many children are active
 mod needed; // needed.rt: the list of the corners that a node needs
 mod nodes; // nodes.rt: the size and the number of nodes
 
+pub use causes::open_refusal;
+pub use count::active_children;
+pub use count::active_in;
 pub use needed::corner_list;
+pub use nodes::indices;
 pub use nodes::is_block;
+pub use nodes::node_counts;
+pub use nodes::node_size;
+pub use nodes::node_total;
+pub use nodes::nodes_along;
+pub use nodes::steps_between;
 
 // What a grid is made from: the bounds, the cell's size, and how many children (inner) and leaf
 // points (leaf) a node and a leaf have along an axis.
@@ -21,4 +33,25 @@ pub struct Grid {
 pub enum CornerList {
     Count(usize),
     Refused(u32),
+}
+
+// The values that matter: a child whose values all lie outside becomes a constant.
+pub struct Band {
+    pub min: f64,
+    pub max: f64,
+}
+
+// How long the five slices are that a job is lent.
+pub struct Lengths {
+    pub kinds: usize,
+    pub numbers: usize,
+    pub places: usize,
+    pub store: usize,
+    pub corners: usize,
+}
+
+// The cause of a refusal, if there is one.
+pub enum Refusal {
+    None,
+    By(u32),
 }

@@ -8,6 +8,7 @@ ghost use Rattle.grid.specs.Corners.{needed};
 ghost use Rattle.grid.specs.CornerList.{nonzero, cornerListOf, CornersOnce, HoldsCorners};
 ghost use Rattle.grid.specs.CornerMarks.{marked, eightFrom, Marks, ZeroFrom, Gathered};
 use crate::CornerList;
+use crate::blocks::cube_of;
 use crate::nodes::is_block;
 
 // Zeroes a list from a place on.
@@ -86,14 +87,6 @@ fn gather(corners: usize, list: &mut [u32]) -> usize
         corner += 1;
     }
     count
-}
-
-// The cube of a block's size, or of one more.
-fn cube_of(n: usize) -> usize
-    requires { ⌜ n ≤ 65 ⌝ }
-    ensures { λ r. ⌜ r ≡ cube n ⌝ }
-{
-    n * n * n
 }
 
 // Writes each needed corner once, zeroes the rest of the list, and counts them.

@@ -8,12 +8,6 @@ use Rattle.grid.proofs.ListedCorners.{no-marks, gathered-to, counted, c
 use borrow.Author.Needs.{needs}
 use Rattle.grid.proofs.needed.list_needed.Statement.{statement}
 use Rattle.grid.proofs.needed.list_needed.Tie as tie
-use Rattle.grid.proofs.needed.list_needed.Reads as reads
-use Rattle.grid.proofs.needed.list_needed.Lts as lts
-use Rattle.grid.proofs.needed.cube_of.Reads as cube-of-reads
-use Rattle.grid.proofs.needed.gather.Reads as gather-reads
-use Rattle.grid.proofs.needed.mark.Reads as mark-reads
-use Rattle.grid.proofs.needed.zero_from.Reads as zero-from-reads
 
 zero-from-requires : tie.Need-zero-from-requires
 zero-from-requires c κs = search needs

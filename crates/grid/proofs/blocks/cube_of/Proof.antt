@@ -2,8 +2,8 @@
 use mathlib.Core.Path.{refl}
 use native.Mathlib.Omega.{arith}
 use Rattle.grid.proofs.BlockLaws.{square-le, cube-le}
-use Rattle.grid.proofs.needed.cube_of.Statement.{statement}
-use Rattle.grid.proofs.needed.cube_of.Tie as tie
+use Rattle.grid.proofs.blocks.cube_of.Statement.{statement}
+use Rattle.grid.proofs.blocks.cube_of.Tie as tie
 
 mul-result : tie.Need-mul-result
 mul-result c = omega (arith, square-le 65 (c .args .n) (c .pre))
