@@ -2,12 +2,11 @@
 use mathlib.Core.Path.{_≡_, refl}
 use mathlib.Core.Bool.{Bool, true, false, _&&_}
 use Prim.Native.Nat.{ℕ}
-use lib.Ieee.{Float, le}
-use Rattle.geometry.specs.Axis.{along, alongEnd}
+use lib.Ieee.{le}
 use Rattle.geometry.specs.Box.{intersectsOf}
 use Rattle.grid.specs.declared.Grid.{Grid}
 use Rattle.grid.specs.Nodes.{sizeOf}
-use Rattle.grid.specs.Boxes.{nodeLeast, nodeMost, nodeBoxAt, nodeBox, childBoxAt, childBox, nodeIndices, childIndices, active}
+use Rattle.grid.specs.Boxes.{nodeBoxAt, nodeBox, childBoxAt, childBox, nodeIndices, childIndices, active}
 use Rattle.grid.specs.Activity.{axisActive}
 
 regroup : (x y₁ y₂ z₁ z₂ : Bool) → (x && y₁ && y₂ && z₁ && z₂) ≡ (x && (y₁ && y₂) && (z₁ && z₂))

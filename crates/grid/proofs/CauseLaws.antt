@@ -1,8 +1,8 @@
 -- The causes of open: what each test decides, and what holds of a grid that causes 2 and 5 do not refuse.
-use mathlib.Core.Path.{_≡_, refl, sym, ap, _∙_}
+use mathlib.Core.Path.{_≡_, refl, ap}
 use mathlib.Core.Bool.{Bool, true, false, not, _||_, or-true}
-use Prim.Native.Nat.{ℕ, suc, _+_, _*_, _^_, _≤_, _<_}
-use native.Mathlib.Nat.{mul-le-mul, mul-le-mul-right}
+use Prim.Native.Nat.{ℕ, _+_, _*_, _≤_, _<_}
+use native.Mathlib.Nat.{mul-le-mul}
 use native.Mathlib.Omega.{arith}
 use lib.Dec.{ltb}
 use lib.Ieee.Scale.{finite}
@@ -11,17 +11,15 @@ use Rattle.geometry.proofs.Flags.{or-fifth}
 use Rattle.grid.specs.declared.Grid.{Grid}
 use Rattle.grid.specs.declared.Band.{Band}
 use Rattle.grid.specs.declared.Lengths.{Lengths}
-use Rattle.grid.specs.declared.Refusal.{Refusal}
 use Rattle.grid.specs.declared.Refusal.the-variants.{None, By}
 use Rattle.geometry.specs.Causes.{firstOf}
 use Rattle.model.specs.declared.ImplicitModel.{ImplicitModel}
 use Rattle.model.specs.Model.{refusedByFour}
-use Rattle.grid.specs.Ranges.{countBelow}
 use Rattle.grid.specs.Blocks.{isBlock, cube}
 use Rattle.grid.specs.Nodes.{sizeOf, nodeCounts, nodesOf}
 use Rattle.grid.specs.Boxes.{active}
 use Rattle.grid.specs.Counting.{activeIn, activeOf}
-use Rattle.grid.specs.Causes.{refusedByOne, refusedByTwo, refusedByThree, refusedByFive, refusedBySix, childrenOf, openCauses, refusalOf}
+use Rattle.grid.specs.Causes.{refusedByOne, refusedByTwo, refusedByThree, refusedByFive, refusedBySix, childrenOf, storeNeeded, openCauses, refusalOf}
 use Rattle.grid.proofs.BlockLaws.{Block, block, cube-le}
 use Rattle.grid.proofs.RangeLists.{countBelow-le}
 use Rattle.grid.proofs.Sums.{sum-le}
@@ -143,9 +141,8 @@ pub active-few : (g : Grid) → activeOf g ≤ childrenOf g
 unfolding activeOf activeIn childrenOf
 active-few g = sum-le (nodesOf g) (cube (g .inner)) (activeIn g) (λ v. countBelow-le (cube (g .inner)) (active g v))
 
-pub store-few : (g : Grid) → refusedByFive g ≡ false → g .leaf ≤ 64 → activeOf g * cube (g .leaf) ≤ 4398046511104
-store-few g e h =
-    mul-le-mul {n₂ = 16777216} {m₂ = 262144} (omega (arith, active-few g, few-children g e)) (cube-le 64 (g .leaf) h)
+pub store-few : (a r : ℕ) → a ≤ 16777216 → r ≤ 262144 → a * r ≤ 4398046511104
+store-few a r ha hr = mul-le-mul {n₂ = 16777216} {m₂ = 262144} ha hr
 
 -- ---- cause 6
 
@@ -163,7 +160,7 @@ module _ (g : Grid) (l : Lengths) where
   corners = ltb (l .corners) (cube (g .inner + 1))
 
   abbrev store : Bool
-  store = ltb (l .store) (activeOf g * cube (g .leaf))
+  store = ltb (l .store) (storeNeeded g)
 
   pub six-kinds : l .kinds < childrenOf g → true ≡ refusedBySix g l
   unfolding refusedBySix

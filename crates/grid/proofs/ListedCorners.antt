@@ -13,7 +13,6 @@ use Rattle.grid.specs.Ranges.{anyBelow, countBelow, listBelow}
 use Rattle.grid.specs.Blocks.{isBlock, cube}
 use Rattle.grid.specs.Corners.{among, needed}
 use Rattle.grid.specs.CornerList.{nonzero, cornerListCauses, cornerListOf, CornersOnce}
-use Rattle.grid.specs.declared.CornerList.{CornerList}
 use Rattle.grid.specs.declared.CornerList.the-variants.{Count, Refused}
 use Rattle.grid.specs.CornerMarks.{neededTo, Marks, ZeroFrom, Gathered}
 use Rattle.grid.proofs.RangeLists.{listBelow-cong, countBelow-cong, among-listBelow, no-repeat}

@@ -40,11 +40,15 @@ refusedByFive g =
     let n = nodeCounts g in
     not (finite (sizeOf g)) || ltb 1024 (n .i) || ltb 1024 (n .j) || ltb 1024 (n .k) || ltb 16777216 (childrenOf g)
 
+-- what the store needs: "store active × L³"
+unfoldable pub storeNeeded : Grid → ℕ
+storeNeeded g = activeOf g * cube (g .leaf)
+
 -- 6: "a lent slice too short". "The first three need nodes × n³, corners (n+1)³, store active × L³. Longer is allowed."
 unfoldable pub refusedBySix : Grid → Lengths → Bool
 refusedBySix g l =
     ltb (l .kinds) (childrenOf g) || ltb (l .numbers) (childrenOf g) || ltb (l .places) (childrenOf g)
-    || ltb (l .corners) (cube (g .inner + 1)) || ltb (l .store) (activeOf g * cube (g .leaf))
+    || ltb (l .corners) (cube (g .inner + 1)) || ltb (l .store) (storeNeeded g)
 
 -- the causes of open, in their order
 unfoldable pub openCauses : Grid → Band → ImplicitModel → Lengths → List Cause
@@ -53,8 +57,7 @@ openCauses g band model l =
     ∷ cause (refusedByTwo g) 2
     ∷ cause (refusedByThree band) 3
     ∷ cause (refusedByFour model) 4
-    ∷ cause (refusedByFive g) 5
-    ∷ cause (refusedBySix g l) 6
+    ∷ cause (refusedByFive g) 5 ∷ cause (refusedBySix g l) 6
     ∷ []
 
 -- "The lowest number that applies is returned .. and no other cause refuses."

@@ -1,14 +1,13 @@
 -- `cause_five` meets its contract: each test is a part of cause 5, and the product of small factors fits.
-use mathlib.Core.Path.{_≡_, refl, sym, ap, subst, _∙_}
-use mathlib.Core.Bool.{true, false}
-use Prim.Native.Nat.{ℕ, _+_, _*_, _≤_, _<_}
+use mathlib.Core.Path.{sym, ap, subst, _∙_}
+use Prim.Native.Nat.{_*_, _≤_, _<_}
 use native.Mathlib.Omega.{arith}
 use lib.Dec.{ltb}
 use lib.Ieee.Scale.{finite}
 use borrow.Author.Tests.{not-true, not-false}
 use Rattle.geometry.specs.declared.Vec3i.{Vec3i}
-use Rattle.grid.specs.Nodes.{sizeOf, nodeCounts, nodesOf}
-use Rattle.grid.specs.Causes.{refusedByFive, childrenOf}
+use Rattle.grid.specs.Nodes.{nodesOf}
+use Rattle.grid.specs.Causes.{childrenOf}
 use Rattle.grid.proofs.BlockLaws.{cube-le}
 use Rattle.grid.proofs.CauseLaws.{inner-block, five-size, five-i, five-j, five-k, five-last, area-few, volume-few, product-few}
 use borrow.Author.Needs.{needs}

@@ -1,13 +1,11 @@
 -- `cause_six` meets its contract: each test holds a slice against what it needs.
 use mathlib.Core.Path.{_≡_, _∙_}
-use Prim.Native.Nat.{_+_, _*_, _≤_, _<_}
+use Prim.Native.Nat.{_*_, _≤_}
 use native.Mathlib.Omega.{arith}
 use lib.Dec.{ltb}
-use Rattle.grid.specs.Blocks.{cube}
-use Rattle.grid.specs.Counting.{activeOf}
-use Rattle.grid.specs.Causes.{childrenOf}
-use Rattle.grid.proofs.BlockLaws.{Block, cube-le}
-use Rattle.grid.proofs.CauseLaws.{inner-block, leaf-block, few-nodes, nodes-few, product-few, store-few, six-kinds, six-numbers, six-places, six-corners, six-last}
+use Rattle.grid.specs.Causes.{childrenOf, storeNeeded}
+use Rattle.grid.proofs.BlockLaws.{cube-le}
+use Rattle.grid.proofs.CauseLaws.{inner-block, leaf-block, few-nodes, nodes-few, product-few, few-children, active-few, store-few, six-kinds, six-numbers, six-places, six-corners, six-last}
 use borrow.Author.Needs.{needs}
 use Rattle.grid.proofs.causes.cause_six.Statement.{statement}
 use Rattle.grid.proofs.causes.cause_six.Tie as tie
@@ -72,18 +70,21 @@ cast-cube-of c = search needs
 cube-of-requires-3 : tie.Need-cube-of-requires-3
 cube-of-requires-3 c κs = omega (arith, leaf-block _ (c .before .before .before .before .before .before .before .before .before .before .before .before .before .before .pre .0) .most)
 
--- what the store needs
-needed : (c : tie.After-cube-of3) → let g = c .before .before .before .before .before .before .before .before .before .before .before .before .before .before .before .args .g in c .before .before .active-children .result * c .cube-of3 .result ≡ activeOf g * cube (g .leaf)
-needed c =
-    let active = c .before .before .active-children .ensures in
-    let points = c .cube-of3 .ensures in
-    λ t. active t * points t
-
 mul-result : tie.Need-mul-result
 mul-result c =
     let g = c .before .before .before .before .before .before .before .before .before .before .before .before .before .before .before .args .g in
     let p = c .before .before .before .before .before .before .before .before .before .before .before .before .before .before .before .pre in
-    omega (arith, needed c, store-few g (p .1) (leaf-block g (p .0) .most))
+    let active : c .before .before .active-children .result ≤ 16777216 = omega (arith, active-few g, few-children g (p .1), c .before .before .active-children .ensures) in
+    let points : c .cube-of3 .result ≤ 262144 = omega (arith, cube-le 64 (g .leaf) (leaf-block g (p .0) .most), c .cube-of3 .ensures) in
+    omega (arith, store-few _ _ active points)
+
+-- the product is what the store needs
+needed : (c : tie.After-cube-of3) → c .before .before .active-children .result * c .cube-of3 .result ≡ storeNeeded (c .before .before .before .before .before .before .before .before .before .before .before .before .before .before .before .args .g)
+unfolding storeNeeded
+needed c =
+    let active = c .before .before .active-children .ensures in
+    let points = c .cube-of3 .ensures in
+    λ t. active t * points t
 
 returns-5 : tie.Need-returns-5
 returns-5 c =

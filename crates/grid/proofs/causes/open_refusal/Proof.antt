@@ -1,5 +1,5 @@
 -- `open_refusal` meets its contract: each test is the cause that it stands for, and those before it do not apply.
-use mathlib.Core.Path.{_≡_, sym, _∙_}
+use mathlib.Core.Path.{sym, _∙_}
 use Rattle.grid.proofs.CauseLaws.{by-one, by-two, by-three, by-four, by-five, by-six, by-none}
 use borrow.Author.Needs.{needs}
 use Rattle.grid.proofs.causes.open_refusal.Statement.{statement}

@@ -1,6 +1,6 @@
 -- `active_in` meets its contract: the product of the three counts along the axes.
-use mathlib.Core.Path.{_≡_, sym, subst}
-use Prim.Native.Nat.{_*_, _≤_, _<_}
+use mathlib.Core.Path.{sym, subst}
+use Prim.Native.Nat.{_≤_, _<_}
 use native.Mathlib.Omega.{arith}
 use Rattle.geometry.specs.declared.Vec3i.{Vec3i}
 use Rattle.grid.proofs.ActiveCounts.{active-in-by, count-few}

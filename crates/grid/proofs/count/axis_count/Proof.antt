@@ -1,7 +1,7 @@
 -- `axis_count` meets its contract: the children passed so far are counted.
-use mathlib.Core.Path.{_≡_, refl, sym, ap, _∙_}
+use mathlib.Core.Path.{_≡_, refl, ap, _∙_}
 use mathlib.Core.Bool.{cond}
-use Prim.Native.Nat.{ℕ, _+_, _-_, _≤_, _<_}
+use Prim.Native.Nat.{ℕ, _-_, _≤_}
 use native.Mathlib.Omega.{arith}
 use Rattle.grid.specs.Ranges.{countBelow}
 use Rattle.grid.specs.Activity.{axisActive}

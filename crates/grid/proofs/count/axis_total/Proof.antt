@@ -1,6 +1,6 @@
 -- `axis_total` meets its contract: the nodes passed so far are counted.
-use mathlib.Core.Path.{_≡_, refl, sym, ap, _∙_}
-use Prim.Native.Nat.{ℕ, _+_, _-_, _*_, _≤_, _<_}
+use mathlib.Core.Path.{_≡_, refl, ap, _∙_}
+use Prim.Native.Nat.{_-_, _≤_}
 use native.Mathlib.Omega.{arith}
 use Rattle.grid.specs.Counting.{sumBelow, axisTotal}
 use Rattle.grid.proofs.ActiveCounts.{axisCount-le, total-few, axis-total-more}

@@ -1,13 +1,11 @@
 -- `corner_list` meets its contract: each test is the cause that it stands for, and the rest is `list_needed`.
 use mathlib.Core.Path.{_≡_, refl, sym, ap, _∙_}
 use mathlib.Core.Bool.{true}
-use Prim.Native.Nat.{_+_, _≤_}
 use native.Mathlib.Omega.{arith}
 use borrow.Author.Tests.{not-true, not-false}
-use lib.ListN.{length}
-use Rattle.grid.specs.Blocks.{isBlock, cube}
+use Rattle.grid.specs.Blocks.{isBlock}
 use Rattle.grid.specs.declared.CornerList.the-variants.{Count}
-use Rattle.grid.proofs.BlockLaws.{Block, block}
+use Rattle.grid.proofs.BlockLaws.{block}
 use Rattle.grid.proofs.ListedCorners.{answer-two, answer-kinds, answer-list, answer-count}
 use borrow.Author.Needs.{needs}
 use Rattle.grid.proofs.needed.corner_list.Statement.{statement}

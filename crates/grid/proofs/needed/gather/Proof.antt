@@ -1,9 +1,8 @@
 -- `gather` meets its contract: the places read so far that were marked stand in front.
-use mathlib.Core.Path.{_≡_, refl, sym, _∙_}
+use mathlib.Core.Path.{_≡_}
 use mathlib.Core.Logic.{⊎-elim}
-use Prim.Native.Nat.{ℕ, _+_, _-_, _≤_, _<_}
+use Prim.Native.Nat.{_-_, _≤_}
 use native.Mathlib.Omega.{arith}
-use lib.ListN.{length}
 use Rattle.grid.proofs.GatherLaws.{Gathering, gathering-start, gathering-more, gathering-skip}
 use borrow.Author.Needs.{needs}
 use Rattle.grid.proofs.needed.gather.Statement.{statement}

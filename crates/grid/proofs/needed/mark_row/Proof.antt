@@ -1,11 +1,11 @@
 -- `mark_row` meets its contract: the children of the row passed so far are marked, after all those of the rows before.
-use mathlib.Core.Path.{_≡_, refl, sym, ap, subst, _∙_}
+use mathlib.Core.Path.{_≡_, ap, subst, _∙_}
 use mathlib.Core.Logic.{⊎-elim}
-use Prim.Native.Nat.{ℕ, _+_, _-_, _*_, _/_, _%_, _≤_, _<_}
+use Prim.Native.Nat.{ℕ, _+_, _-_, _*_, _≤_, _<_}
 use native.Mathlib.Nat.{add-zero}
 use native.Mathlib.Omega.{arith}
 use lib.ListN.{length}
-use Rattle.grid.specs.CornerMarks.{Marks, marked, eightFrom}
+use Rattle.grid.specs.CornerMarks.{Marks}
 use Rattle.grid.proofs.MarkLaws.{RowFits, row-fits, row-octet-below, row-more, row-skip, length-marked}
 use borrow.Author.Needs.{needs}
 use Rattle.grid.proofs.needed.mark_row.Statement.{statement}

@@ -1,11 +1,11 @@
 -- `zero_from` meets its contract: what stands before `at` is never written, and each place passed holds 0.
-use mathlib.Core.Path.{_≡_, refl, sym, _∙_}
+use mathlib.Core.Path.{_≡_, refl, _∙_}
 use mathlib.Core.Bool.{Bool, true, false}
 use mathlib.Core.List.{List}
 use Prim.Native.Nat.{ℕ, _+_, _-_, _≤_, _<_}
 use native.Mathlib.Omega.{arith}
 use lib.Dec.{eqb, ltb}
-use lib.ListN.{length, getD, take, set, length-set, List·getD-eq-default}
+use lib.ListN.{length, getD, take, set, List·getD-eq-default}
 use lib.Seq.{take-set-le, getD-set-same, getD-set-other}
 use borrow.Author.Needs.{needs}
 use borrow.Author.Tests.{eqb-true, eqb-false, ltb-true, ltb-false}
