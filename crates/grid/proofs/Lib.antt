@@ -15,3 +15,11 @@ pub mod Folds
 pub mod Any
 pub mod Pruned
 pub mod Needing
+pub mod RangeLists
+pub mod MarkLaws
+pub mod GatherLaws
+pub mod BlockLaws
+pub mod ListedCorners
+pub mod Sums
+pub mod ActiveCounts
+pub mod CauseLaws

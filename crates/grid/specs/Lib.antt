@@ -9,3 +9,7 @@ pub mod Pruning
 pub mod Activity
 pub mod Rows
 pub mod Steps
+pub mod CornerList
+pub mod CornerMarks
+pub mod Counting
+pub mod Causes

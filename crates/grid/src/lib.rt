@@ -2,7 +2,11 @@
 // which are active, which corners they need, and when a child is pruned.
 use geometry::BoundingBox;
 
+mod blocks; // blocks.rt: powers of a block's size
 mod boxes; // boxes.rt: where nodes and children lie, and which are active
+mod causes; // causes.rt: the causes of open
+mod count; // count.rt: how many children are active
+mod needed; // needed.rt: the list of the corners that a node needs
 mod nodes; // nodes.rt: the size and the number of nodes
 mod points; // points.rt: corner points, leaf points and octets
 mod pruning; // pruning.rt: which children become constants
@@ -15,6 +19,10 @@ pub use boxes::node_box;
 pub use boxes::node_box_at;
 pub use boxes::node_least;
 pub use boxes::node_most;
+pub use causes::open_refusal;
+pub use count::active_children;
+pub use count::active_in;
+pub use needed::corner_list;
 pub use nodes::indices;
 pub use nodes::is_block;
 pub use nodes::node_counts;
@@ -41,4 +49,31 @@ pub struct Grid {
     pub cell: f64,
     pub inner: u32,
     pub leaf: u32,
+}
+
+// How many corners a list of them holds, or the cause of a refusal.
+pub enum CornerList {
+    Count(usize),
+    Refused(u32),
+}
+
+// The values that matter: a child whose values all lie outside becomes a constant.
+pub struct Band {
+    pub min: f64,
+    pub max: f64,
+}
+
+// How long the five slices are that a job is lent.
+pub struct Lengths {
+    pub kinds: usize,
+    pub numbers: usize,
+    pub places: usize,
+    pub store: usize,
+    pub corners: usize,
+}
+
+// The cause of a refusal, if there is one.
+pub enum Refusal {
+    None,
+    By(u32),
 }

@@ -1,0 +1,217 @@
+-- The causes of open: what each test decides, and what holds of a grid that causes 2 and 5 do not refuse.
+use mathlib.Core.Path.{_≡_, refl, ap}
+use mathlib.Core.Bool.{Bool, true, false, not, _||_, or-true}
+use Prim.Native.Nat.{ℕ, _+_, _*_, _≤_, _<_}
+use native.Mathlib.Nat.{mul-le-mul}
+use native.Mathlib.Omega.{arith}
+use lib.Dec.{ltb}
+use lib.Ieee.Scale.{finite}
+use borrow.Author.Tests.{ltb-false, lt-ltb, le-ltb, not-false}
+use Rattle.geometry.proofs.Flags.{or-fifth}
+use Rattle.grid.specs.declared.Grid.{Grid}
+use Rattle.grid.specs.declared.Band.{Band}
+use Rattle.grid.specs.declared.Lengths.{Lengths}
+use Rattle.grid.specs.declared.Refusal.the-variants.{None, By}
+use Rattle.geometry.specs.Causes.{firstOf}
+use Rattle.model.specs.declared.ImplicitModel.{ImplicitModel}
+use Rattle.model.specs.Model.{refusedByFour}
+use Rattle.grid.specs.Blocks.{isBlock, cube}
+use Rattle.grid.specs.Nodes.{sizeOf, nodeCounts, nodesOf}
+use Rattle.grid.specs.Boxes.{active}
+use Rattle.grid.specs.Counting.{activeIn, activeOf}
+use Rattle.grid.specs.Causes.{refusedByOne, refusedByTwo, refusedByThree, refusedByFive, refusedBySix, childrenOf, storeNeeded, openCauses, refusalOf}
+use Rattle.grid.proofs.BlockLaws.{Block, block, cube-le}
+use Rattle.grid.proofs.RangeLists.{countBelow-le}
+use Rattle.grid.proofs.Sums.{sum-le}
+
+-- ---- one of five tests that holds
+
+or-left : (a b : Bool) → (a || b) ≡ false → a ≡ false
+or-left true b e = e
+or-left false b e = refl
+
+or-right : (a b : Bool) → (a || b) ≡ false → b ≡ false
+or-right true true e = e
+or-right true false e = refl
+or-right false b e = e
+
+module _ (a b c d e : Bool) where
+  pub or-first : a ≡ true → true ≡ (a || b || c || d || e)
+  or-first h = rw h refl
+
+  pub or-second : b ≡ true → true ≡ (a || b || c || d || e)
+  or-second h = rw (h, or-true a) refl
+
+  pub or-third : c ≡ true → true ≡ (a || b || c || d || e)
+  or-third h = rw (h, or-true (a || b)) refl
+
+  pub or-fourth : d ≡ true → true ≡ (a || b || c || d || e)
+  or-fourth h = rw (h, or-true (a || b || c)) refl
+
+-- ---- cause 2
+
+pub inner-block : (g : Grid) → refusedByTwo g ≡ false → Block (g .inner)
+unfolding refusedByTwo
+inner-block g e = block (g .inner) (not-false _ (or-left _ _ e))
+
+pub leaf-block : (g : Grid) → refusedByTwo g ≡ false → Block (g .leaf)
+unfolding refusedByTwo
+leaf-block g e = block (g .leaf) (not-false _ (or-right (not (isBlock (g .inner))) _ e))
+
+-- ---- cause 5
+
+module _ (g : Grid) where
+  pub five-size : finite (sizeOf g) ≡ false → true ≡ refusedByFive g
+  unfolding refusedByFive
+  five-size h = let n = nodeCounts g in or-first (not (finite (sizeOf g))) (ltb 1024 (n .i)) (ltb 1024 (n .j)) (ltb 1024 (n .k)) _ (ap not h)
+
+  pub five-i : 1024 < nodeCounts g .i → true ≡ refusedByFive g
+  unfolding refusedByFive
+  five-i h = let n = nodeCounts g in or-second (not (finite (sizeOf g))) (ltb 1024 (n .i)) (ltb 1024 (n .j)) (ltb 1024 (n .k)) _ (lt-ltb _ _ h)
+
+  pub five-j : 1024 < nodeCounts g .j → true ≡ refusedByFive g
+  unfolding refusedByFive
+  five-j h = let n = nodeCounts g in or-third (not (finite (sizeOf g))) (ltb 1024 (n .i)) (ltb 1024 (n .j)) (ltb 1024 (n .k)) _ (lt-ltb _ _ h)
+
+  pub five-k : 1024 < nodeCounts g .k → true ≡ refusedByFive g
+  unfolding refusedByFive
+  five-k h = let n = nodeCounts g in or-fourth (not (finite (sizeOf g))) (ltb 1024 (n .i)) (ltb 1024 (n .j)) (ltb 1024 (n .k)) _ (lt-ltb _ _ h)
+
+  pub five-last : finite (sizeOf g) ≡ true → nodeCounts g .i ≤ 1024 → nodeCounts g .j ≤ 1024 → nodeCounts g .k ≤ 1024
+      → ltb 16777216 (childrenOf g) ≡ refusedByFive g
+  unfolding refusedByFive
+  five-last h hi hj hk =
+      let n = nodeCounts g in
+      or-fifth (not (finite (sizeOf g))) (ltb 1024 (n .i)) (ltb 1024 (n .j)) (ltb 1024 (n .k)) (ltb 16777216 (childrenOf g))
+      (ap not h)
+      (le-ltb _ _ hi)
+      (le-ltb _ _ hj)
+      (le-ltb _ _ hk)
+
+-- nodes along the axes that are not too many
+pub record FewNodes (g : Grid) : Type 0 where
+  pub x : nodeCounts g .i ≤ 1024
+  pub y : nodeCounts g .j ≤ 1024
+  pub z : nodeCounts g .k ≤ 1024
+
+pub few-nodes : (g : Grid) → refusedByFive g ≡ false → FewNodes g
+unfolding refusedByFive
+few-nodes g e =
+    let n = nodeCounts g in
+    let d = or-left (not (finite (sizeOf g)) || ltb 1024 (n .i) || ltb 1024 (n .j) || ltb 1024 (n .k)) _ e in
+    let c = or-left (not (finite (sizeOf g)) || ltb 1024 (n .i) || ltb 1024 (n .j)) _ d in
+    let b = or-left (not (finite (sizeOf g)) || ltb 1024 (n .i)) _ c in
+    record {
+      x = ltb-false _ _ (or-right (not (finite (sizeOf g))) _ b);
+      y = ltb-false _ _ (or-right (not (finite (sizeOf g)) || ltb 1024 (n .i)) _ c);
+      z = ltb-false _ _ (or-right (not (finite (sizeOf g)) || ltb 1024 (n .i) || ltb 1024 (n .j)) _ d);
+    }
+
+pub few-children : (g : Grid) → refusedByFive g ≡ false → childrenOf g ≤ 16777216
+unfolding refusedByFive
+few-children g e =
+    let n = nodeCounts g in
+    ltb-false _ _ (or-right (not (finite (sizeOf g)) || ltb 1024 (n .i) || ltb 1024 (n .j) || ltb 1024 (n .k)) _ e)
+
+-- ---- products that fit
+
+pub area-few : (a b : ℕ) → a ≤ 1024 → b ≤ 1024 → a * b ≤ 1048576
+area-few a b ha hb = mul-le-mul {n₂ = 1024} {m₂ = 1024} ha hb
+
+pub volume-few : (a b c : ℕ) → a ≤ 1024 → b ≤ 1024 → c ≤ 1024 → a * b * c ≤ 1073741824
+volume-few a b c ha hb hc = mul-le-mul {n₂ = 1048576} {m₂ = 1024} (area-few a b ha hb) hc
+
+pub nodes-few : (g : Grid) → FewNodes g → nodesOf g ≤ 1073741824
+unfolding nodesOf
+nodes-few g few = volume-few _ _ _ (few .x) (few .y) (few .z)
+
+-- children of so many nodes
+pub product-few : (a r : ℕ) → a ≤ 1073741824 → r ≤ 262144 → a * r ≤ 281474976710656
+product-few a r ha hr = mul-le-mul {n₂ = 1073741824} {m₂ = 262144} ha hr
+
+-- counts along the axes
+pub totals-area : (a b : ℕ) → a ≤ 65536 → b ≤ 65536 → a * b ≤ 4294967296
+totals-area a b ha hb = mul-le-mul {n₂ = 65536} {m₂ = 65536} ha hb
+
+pub totals-volume : (a b c : ℕ) → a ≤ 65536 → b ≤ 65536 → c ≤ 65536 → a * b * c ≤ 281474976710656
+totals-volume a b c ha hb hc = mul-le-mul {n₂ = 4294967296} {m₂ = 65536} (totals-area a b ha hb) hc
+
+-- the active children are no more than the children
+pub active-few : (g : Grid) → activeOf g ≤ childrenOf g
+unfolding activeOf activeIn childrenOf
+active-few g = sum-le (nodesOf g) (cube (g .inner)) (activeIn g) (λ v. countBelow-le (cube (g .inner)) (active g v))
+
+pub store-few : (a r : ℕ) → a ≤ 16777216 → r ≤ 262144 → a * r ≤ 4398046511104
+store-few a r ha hr = mul-le-mul {n₂ = 16777216} {m₂ = 262144} ha hr
+
+-- ---- cause 6
+
+module _ (g : Grid) (l : Lengths) where
+  abbrev kinds : Bool
+  kinds = ltb (l .kinds) (childrenOf g)
+
+  abbrev numbers : Bool
+  numbers = ltb (l .numbers) (childrenOf g)
+
+  abbrev places : Bool
+  places = ltb (l .places) (childrenOf g)
+
+  abbrev corners : Bool
+  corners = ltb (l .corners) (cube (g .inner + 1))
+
+  abbrev store : Bool
+  store = ltb (l .store) (storeNeeded g)
+
+  pub six-kinds : l .kinds < childrenOf g → true ≡ refusedBySix g l
+  unfolding refusedBySix
+  six-kinds h = or-first kinds numbers places corners store (lt-ltb _ _ h)
+
+  pub six-numbers : l .numbers < childrenOf g → true ≡ refusedBySix g l
+  unfolding refusedBySix
+  six-numbers h = or-second kinds numbers places corners store (lt-ltb _ _ h)
+
+  pub six-places : l .places < childrenOf g → true ≡ refusedBySix g l
+  unfolding refusedBySix
+  six-places h = or-third kinds numbers places corners store (lt-ltb _ _ h)
+
+  pub six-corners : l .corners < cube (g .inner + 1) → true ≡ refusedBySix g l
+  unfolding refusedBySix
+  six-corners h = or-fourth kinds numbers places corners store (lt-ltb _ _ h)
+
+  pub six-last : childrenOf g ≤ l .kinds → childrenOf g ≤ l .numbers → childrenOf g ≤ l .places → cube (g .inner + 1) ≤ l .corners
+      → store ≡ refusedBySix g l
+  unfolding refusedBySix
+  six-last hk hn hp hc =
+      or-fifth kinds numbers places corners store (le-ltb _ _ hk) (le-ltb _ _ hn) (le-ltb _ _ hp) (le-ltb _ _ hc)
+
+-- ---- the first cause that applies
+
+module _ (g : Grid) (band : Band) (model : ImplicitModel) (l : Lengths) where
+  pub by-one : refusedByOne g ≡ true → By 1 ≡ refusalOf g band model l
+  unfolding firstOf openCauses refusalOf
+  by-one h1 = rw h1 refl
+
+  pub by-two : refusedByOne g ≡ false → refusedByTwo g ≡ true → By 2 ≡ refusalOf g band model l
+  unfolding firstOf openCauses refusalOf
+  by-two h1 h2 = rw (h1, h2) refl
+
+  pub by-three : refusedByOne g ≡ false → refusedByTwo g ≡ false → refusedByThree band ≡ true → By 3 ≡ refusalOf g band model l
+  unfolding firstOf openCauses refusalOf
+  by-three h1 h2 h3 = rw (h1, h2, h3) refl
+
+  module _ (h1 : refusedByOne g ≡ false) (h2 : refusedByTwo g ≡ false) (h3 : refusedByThree band ≡ false) where
+    pub by-four : refusedByFour model ≡ true → By 4 ≡ refusalOf g band model l
+    unfolding firstOf openCauses refusalOf
+    by-four h4 = rw (h1, h2, h3, h4) refl
+
+    pub by-five : refusedByFour model ≡ false → refusedByFive g ≡ true → By 5 ≡ refusalOf g band model l
+    unfolding firstOf openCauses refusalOf
+    by-five h4 h5 = rw (h1, h2, h3, h4, h5) refl
+
+    pub by-six : refusedByFour model ≡ false → refusedByFive g ≡ false → refusedBySix g l ≡ true → By 6 ≡ refusalOf g band model l
+    unfolding firstOf openCauses refusalOf
+    by-six h4 h5 h6 = rw (h1, h2, h3, h4, h5, h6) refl
+
+    pub by-none : refusedByFour model ≡ false → refusedByFive g ≡ false → refusedBySix g l ≡ false → None ≡ refusalOf g band model l
+    unfolding firstOf openCauses refusalOf
+    by-none h4 h5 h6 = rw (h1, h2, h3, h4, h5, h6) refl

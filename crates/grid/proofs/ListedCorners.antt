@@ -1,0 +1,91 @@
+-- The list that is left when the marked corners have been gathered and the rest zeroed: each needed corner once.
+use mathlib.Core.Path.{_≡_, refl, sym, ap, _∙_}
+use mathlib.Core.Bool.{Bool, true, false, not, cond, _&&_}
+use mathlib.Core.List.{List}
+use Prim.Native.Nat.{ℕ, _+_, _≤_, _<_}
+use native.Mathlib.Omega.{arith}
+use lib.Dec.{eqb, ltb}
+use lib.ListN.{length, getD, take}
+use lib.Seq.{getD-take}
+use borrow.Author.Tests.{ltb-false, eq-eqb, ne-eqb, lt-ltb, le-ltb}
+use Rattle.geometry.specs.Causes.{firstOf}
+use Rattle.grid.specs.Ranges.{anyBelow, countBelow, listBelow}
+use Rattle.grid.specs.Blocks.{isBlock, cube}
+use Rattle.grid.specs.Corners.{among, needed}
+use Rattle.grid.specs.CornerList.{nonzero, cornerListCauses, cornerListOf, CornersOnce}
+use Rattle.grid.specs.declared.CornerList.the-variants.{Count, Refused}
+use Rattle.grid.specs.CornerMarks.{neededTo, Marks, ZeroFrom, Gathered}
+use Rattle.grid.proofs.RangeLists.{listBelow-cong, countBelow-cong, among-listBelow, no-repeat}
+use Rattle.grid.proofs.MarkLaws.{needed-within}
+
+-- ---- the answer
+
+module _ (n : ℕ) (kinds : List ℕ) (list : ℕ) where
+  pub answer-two : isBlock n ≡ false → cornerListOf n kinds list ≡ Refused 2
+  unfolding firstOf cornerListOf cornerListCauses
+  answer-two block = rw block refl
+
+  pub answer-kinds : isBlock n ≡ true → (length kinds ≡ cube n → ⊥) → cornerListOf n kinds list ≡ Refused 6
+  unfolding firstOf cornerListOf cornerListCauses
+  answer-kinds block other = rw (block, ne-eqb (length kinds) (cube n) other) refl
+
+  pub answer-list : isBlock n ≡ true → length kinds ≡ cube n → list < cube (n + 1) → cornerListOf n kinds list ≡ Refused 6
+  unfolding firstOf cornerListOf cornerListCauses
+  answer-list block same short = rw (block, eq-eqb (length kinds) (cube n) same, lt-ltb list (cube (n + 1)) short) refl
+
+  pub answer-count : isBlock n ≡ true → length kinds ≡ cube n → cube (n + 1) ≤ list
+      → cornerListOf n kinds list ≡ Count (countBelow (cube (n + 1)) (needed n (nonzero kinds)))
+  unfolding firstOf cornerListOf cornerListCauses
+  answer-count block same long = rw (block, eq-eqb (length kinds) (cube n) same, le-ltb list (cube (n + 1)) long) refl
+
+-- ---- the list
+
+pub gathered-to : {m n count : ℕ} {before after : List ℕ} → m ≡ n → Gathered m before after count → Gathered n before after count
+gathered-to e g = rw (← e) g
+
+-- a list of zeros has no mark
+pub no-marks : (n : ℕ) (kinds before list : List ℕ) → cube (n + 1) ≤ length before → ZeroFrom 0 before list → Marks n kinds 0 list
+unfolding neededTo anyBelow
+no-marks n kinds before list long z =
+    record { long = omega (arith, z .kept); marks = λ p h. z .rest p (omega arith) }
+
+module _ (n : ℕ) (kinds list : List ℕ) (m : Marks n kinds (cube n) list) where
+  -- a mark stands where a corner is needed
+  marked-needed : (p : ℕ) → p < cube (n + 1) → nonzero list p ≡ needed n (nonzero kinds) p
+  unfolding nonzero needed neededTo
+  marked-needed p h = rw (m .marks p h) (bit (needed n (nonzero kinds) p))
+    where
+      bit : (b : Bool) → not (eqb (cond b 1 0) 0) ≡ b
+      bit true = refl
+      bit false = refl
+
+  module _ (gathered listed : List ℕ) (count : ℕ) (g : Gathered (cube (n + 1)) list gathered count) (z : ZeroFrom count gathered listed) where
+    pub counted : count ≡ countBelow (cube (n + 1)) (needed n (nonzero kinds))
+    counted = g .counted ∙ countBelow-cong (cube (n + 1)) (nonzero list) (needed n (nonzero kinds)) marked-needed
+
+    in-front : take count listed ≡ listBelow (cube (n + 1)) (needed n (nonzero kinds))
+    in-front =
+        z .front ∙ g .front ∙ listBelow-cong (cube (n + 1)) (nonzero list) (needed n (nonzero kinds)) marked-needed
+
+    element : (p : ℕ) → p < count → getD listed p 0 ≡ getD (listBelow (cube (n + 1)) (needed n (nonzero kinds))) p 0
+    element p h = sym (getD-take count listed p 0 h) ∙ ap (λ (l : List ℕ). getD l p 0) in-front
+
+    pub corners-once : CornersOnce (needed n (nonzero kinds)) count listed
+    corners-once =
+        record {
+          within = omega (arith, g .few, m .long, g .kept, z .kept);
+          exactly =
+              λ corner.
+              ap (among corner) in-front
+              ∙ among-listBelow (cube (n + 1)) (needed n (nonzero kinds)) corner
+              ∙ below corner (ltb corner (cube (n + 1))) refl;
+          once =
+              λ p q hp hq same.
+              no-repeat (needed n (nonzero kinds)) (cube (n + 1)) p q (omega (arith, counted)) (omega (arith, counted))
+              (sym (element p hp) ∙ same ∙ element q hq);
+          rest = z .rest;
+        }
+      where
+        below : (corner : ℕ) (b : Bool) → ltb corner (cube (n + 1)) ≡ b → (b && needed n (nonzero kinds) corner) ≡ needed n (nonzero kinds) corner
+        below corner true t = refl
+        below corner false t = sym (needed-within n (nonzero kinds) corner (ltb-false corner (cube (n + 1)) t))

@@ -1,0 +1,41 @@
+-- Document 01, the corner list of one node: "(from n and n³ kinds, nonzero active) writes each needed corner once, in free order, into a lent u32 slice, zeroes its rest and returns the count".
+use mathlib.Core.Path.{_≡_}
+use mathlib.Core.Bool.{Bool, not, _||_}
+use mathlib.Core.List.{List, [], _∷_}
+use Prim.Native.Nat.{ℕ, _+_, _≤_, _<_}
+use lib.Dec.{eqb, ltb}
+use lib.ListN.{length, getD, take}
+use Rattle.geometry.specs.Causes.{Cause, cause, firstOf}
+use Rattle.grid.specs.Ranges.{countBelow}
+use Rattle.grid.specs.Blocks.{isBlock, cube}
+use Rattle.grid.specs.Corners.{among, needed}
+use Rattle.grid.specs.declared.CornerList.{CornerList}
+use Rattle.grid.specs.declared.CornerList.the-variants.{Count, Refused}
+
+-- "nonzero active": the test for active children from one node's kinds
+unfoldable pub nonzero : List ℕ → ℕ → Bool
+nonzero kinds c = not (eqb (getD kinds c 0) 0)
+
+-- "refusals 2, then 6 if kinds are not n³ or the list is below (n+1)³"
+unfoldable pub cornerListCauses : (n kinds list : ℕ) → List Cause
+cornerListCauses n kinds list =
+    cause (not (isBlock n)) 2 ∷ cause (not (eqb kinds (cube n)) || ltb list (cube (n + 1))) 6 ∷ []
+
+-- the answer, from n, the kinds and the list's length: "returns the count"
+unfoldable pub cornerListOf : ℕ → List ℕ → ℕ → CornerList
+cornerListOf n kinds list =
+    firstOf (cornerListCauses n (length kinds) list)
+    Refused
+    (Count (countBelow (cube (n + 1)) (needed n (nonzero kinds))))
+
+-- a list whose first `count` elements are the corners that pass a test, "each .. once, in free order", and which is zero from there on
+pub record CornersOnce (test : ℕ → Bool) (count : ℕ) (list : List ℕ) : Type 0 where
+  pub within : count ≤ length list
+  pub exactly : (corner : ℕ) → among corner (take count list) ≡ test corner
+  pub once : (p q : ℕ) → p < count → q < count → getD list p 0 ≡ getD list q 0 → p ≡ q
+  pub rest : (p : ℕ) → count ≤ p → getD list p 0 ≡ 0
+
+-- what the lent list holds after the answer: a refusal leaves it as it was
+abbrev pub HoldsCorners : CornerList → ℕ → (kinds before after : List ℕ) → Type 0
+HoldsCorners (Count count) n kinds before after = (length after ≡ length before) × CornersOnce (needed n (nonzero kinds)) count after
+HoldsCorners (Refused number) n kinds before after = after ≡ before
