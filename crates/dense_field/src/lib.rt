@@ -1,6 +1,9 @@
 // The dense field and the walks over its points, cells and octets, after dense_field.rs and
 // field_iterator.rs. A field is its origin, its cell's size, its numbers of points along the axes,
 // and a lent slice of values.
+mod smoothing;
+
+pub use smoothing::smooth;
 use geometry::BoundingBox;
 use geometry::Vec3;
 use geometry::Vec3i;
