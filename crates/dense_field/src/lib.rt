@@ -2,11 +2,14 @@
 // field_iterator.rs. A field is its origin, its cell's size, its numbers of points along the axes,
 // and a lent slice of values.
 mod smoothing;
+mod walks;
 
-pub use smoothing::smooth;
 use geometry::BoundingBox;
 use geometry::Vec3;
 use geometry::Vec3i;
+pub use smoothing::smooth;
+pub use walks::cell_step;
+pub use walks::point_step;
 
 // How many points a field has along each axis, or the cause of a refusal.
 pub enum PointCount {

@@ -42,7 +42,12 @@ fn neighbour_sum(n: Vec3i, values: &[f64], p: usize) -> f64
 {
     let row = n.i;
     let slab = n.i * n.j;
-    values[p + 1] + values[p - 1] + values[p + row] + values[p - row] + values[p + slab] + values[p - slab]
+    values[p + 1]
+        + values[p - 1]
+        + values[p + row]
+        + values[p - row]
+        + values[p + slab]
+        + values[p - slab]
 }
 
 // Blends `count` values from `at` on with their neighbours. The compiler makes vector instructions
@@ -153,7 +158,13 @@ fn smooth_refused(n: Vec3i, values: usize, scratch: usize) -> bool
 }
 
 // Smooths the values in so many rounds and sets the whole scratch to +0. A refusal changes nothing.
-pub fn smooth(n: Vec3i, factor: f64, rounds: u32, values: &mut [f64], scratch: &mut [f64]) -> Outcome
+pub fn smooth(
+    n: Vec3i,
+    factor: f64,
+    rounds: u32,
+    values: &mut [f64],
+    scratch: &mut [f64],
+) -> Outcome
     ensures { λ r. ⌜ r ≡ cond (smoothRefused n (length (now (values .entry))) (length (now (scratch .entry)))) (Outcome.Refused 9) Outcome.Done ⌝ }
     ensures { λ _. ⌜ now (values .exit) ≡ cond (smoothRefused n (length (now (values .entry))) (length (now (scratch .entry)))) (now (values .entry)) (smoothed n factor rounds (now (values .entry))) ⌝ }
     ensures { λ _. ⌜ now (scratch .exit) ≡ cond (smoothRefused n (length (now (values .entry))) (length (now (scratch .entry)))) (now (scratch .entry)) (replicate (length (now (scratch .entry))) plusZero) ⌝ }

@@ -3,8 +3,8 @@ use mathlib.Core.Path.{_≡_, refl, sym, ap, _∙_}
 use Prim.Native.Nat.{ℕ}
 use native.Mathlib.Omega.{arith}
 use borrow.Author.Needs.{needs}
-use lib.ListN.{length, replicate}
-use lib.Seq.{length-take-le}
+use lib.ListN.{length, take, replicate}
+use lib.Seq.{length-take-le, length-front}
 use Rattle.model.specs.Part.{plusZero}
 use Rattle.dense_field.proofs.SmoothingLaws.{scratch-long, smooth-slices}
 use Rattle.dense_field.proofs.smoothing.smooth.Statement.{statement}
@@ -59,9 +59,16 @@ same-length-2 c = search needs
 -- src/smoothing.rt:156:1
 returns-2 : tie.Need-returns-2
 returns-2 c =
+    let a = c .before .before .before .before .before .before .before .before .before .before .before .before .before .before .before .args in
     let w = c .before .before .before .before .before .before .before .before .before .before .before in
+    let called = c .before .before .before .before .before .before .before .before .smooth-rounds in
     let e = sym (w .before .smooth-refused .ensures) ∙ w .if1 .left in
-    (simp e, (simp e (c .before .before .before .before .before .before .before .before .smooth-rounds .ensures), simp e (c .before .before .clear .ensures ∙ ?long)))
+    let part = called .last .1 .1 .1 .1 .0 in
+    let kept : length part ≡ length (take (length (a .values .now)) (a .scratch .now)) = search needs in
+    let long = length-front (a .scratch .now) part (length (a .values .now)) kept in (
+      simp e,
+      (simp e (called .ensures), simp e (c .before .before .clear .ensures ∙ ap (λ (m : ℕ). replicate m plusZero) long)),
+    )
 
 pub smooth-spec : {M : Type 1} → statement M
 smooth-spec =
