@@ -9,3 +9,4 @@ pub mod Smoothing
 pub mod Slices
 pub mod Octets
 pub mod Walks
+pub mod Traces

@@ -12,10 +12,6 @@ use Rattle.dense_field.proofs.Filling.{filled-none, filled-store, fille
 use Rattle.dense_field.proofs.SmoothingLaws.{one-as-float, blended-read}
 use Rattle.dense_field.proofs.smoothing.blend_values.Statement.{statement}
 use Rattle.dense_field.proofs.smoothing.blend_values.Tie as tie
-use Rattle.dense_field.proofs.smoothing.blend_values.Reads as reads
-use Rattle.dense_field.proofs.smoothing.blend_values.Lts as lts
-use Rattle.dense_field.proofs.smoothing.neighbour_sum.Reads as neighbour-sum-reads
-use Rattle.float.proofs.computed.Reads as computed-reads
 
 abbrev Inv-loop : tie.InvT-loop
 Inv-loop n factor old new₀ at count keep i₀ new i =
@@ -24,47 +20,36 @@ Inv-loop n factor old new₀ at count keep i₀ new i =
 abbrev μ-loop : tie.MeasureT-loop
 μ-loop n factor old new₀ at count keep i₀ new i = count - i
 
--- src/smoothing.rt:56:5
 loop-holds : tie.Need-loop-holds Inv-loop μ-loop
 loop-holds c = (search needs, search needs, ap (λ (x : Float). sub binary64 x (c .before .before .args .factor)) one-as-float, sym (filled-none _ _ _))
 
--- src/smoothing.rt:57:17
 add-p : tie.Need-add-p Inv-loop μ-loop
 add-p c = search needs
 
--- src/smoothing.rt:58:13
 neighbour-sum-requires : tie.Need-neighbour-sum-requires Inv-loop μ-loop
 neighbour-sum-requires c κs = search needs
 
--- src/smoothing.rt:59:41
 mul-computed : tie.Need-mul-computed Inv-loop μ-loop
 mul-computed c = search needs
 
--- src/smoothing.rt:59:41
 shared-slice-read-computed : tie.Need-shared-slice-read-computed Inv-loop μ-loop
 shared-slice-read-computed c = search needs
 
--- src/smoothing.rt:59:18
 computed-requires : tie.Need-computed-requires Inv-loop μ-loop
 computed-requires c κs = search needs
 
--- src/smoothing.rt:59:9
 mul-new : tie.Need-mul-new Inv-loop μ-loop
 mul-new c = search needs
 
--- src/smoothing.rt:59:9
 slice-write-new : tie.Need-slice-write-new Inv-loop μ-loop
 slice-write-new c = search needs
 
--- src/smoothing.rt:60:9
 add-i : tie.Need-add-i Inv-loop μ-loop
 add-i c = search needs
 
--- src/smoothing.rt:56:5
 loop-less : tie.Need-loop-less Inv-loop μ-loop
 loop-less c = search needs
 
--- src/smoothing.rt:56:5
 loop-again : tie.Need-loop-again Inv-loop μ-loop
 loop-again c =
     let b = c .before .before .before .before in
@@ -74,11 +59,9 @@ loop-again c =
     ∙ blended-read (a .n) (a .factor) (a .old .now) (a .at + b .loop .i) (omega arith) (b .loop .inv .2) (c .before .before .neighbour-sum .ensures) in
     (search needs, search needs, search needs, filled-store _ _ _ _ (b .loop .inv .3) value)
 
--- src/smoothing.rt:50:1
 same-length : tie.Need-same-length Inv-loop μ-loop
 same-length c = search needs
 
--- src/smoothing.rt:50:1
 returns : tie.Need-returns Inv-loop μ-loop
 returns c = filled-done _ _ _ (c .before .loop .inv .3) (omega arith)
 

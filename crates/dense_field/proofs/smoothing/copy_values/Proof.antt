@@ -12,8 +12,6 @@ use Rattle.dense_field.specs.Slices.{valueOf}
 use Rattle.dense_field.proofs.Filling.{filled-none, filled-store, filled-done}
 use Rattle.dense_field.proofs.smoothing.copy_values.Statement.{statement}
 use Rattle.dense_field.proofs.smoothing.copy_values.Tie as tie
-use Rattle.dense_field.proofs.smoothing.copy_values.Reads as reads
-use Rattle.dense_field.proofs.smoothing.copy_values.Lts as lts
 
 abbrev Inv-loop : tie.InvT-loop
 Inv-loop old new₀ at count i₀ new i = (i ≤ count) × (length new ≡ length new₀) × (new ≡ filled at i (valueOf old) new₀)
@@ -21,43 +19,33 @@ Inv-loop old new₀ at count i₀ new i = (i ≤ count) × (length new ≡ lengt
 abbrev μ-loop : tie.MeasureT-loop
 μ-loop old new₀ at count i₀ new i = count - i
 
--- src/smoothing.rt:21:5
 loop-holds : tie.Need-loop-holds Inv-loop μ-loop
 loop-holds c = (search needs, search needs, sym (filled-none _ _ _))
 
--- src/smoothing.rt:22:27
 add-new : tie.Need-add-new Inv-loop μ-loop
 add-new c = search needs
 
--- src/smoothing.rt:22:23
 mul-new : tie.Need-mul-new Inv-loop μ-loop
 mul-new c = search needs
 
--- src/smoothing.rt:22:23
 shared-slice-read-new : tie.Need-shared-slice-read-new Inv-loop μ-loop
 shared-slice-read-new c = search needs
 
--- src/smoothing.rt:22:13
 add-new-2 : tie.Need-add-new-2 Inv-loop μ-loop
 add-new-2 c = search needs
 
--- src/smoothing.rt:22:9
 mul-new-2 : tie.Need-mul-new-2 Inv-loop μ-loop
 mul-new-2 c = search needs
 
--- src/smoothing.rt:22:9
 slice-write-new : tie.Need-slice-write-new Inv-loop μ-loop
 slice-write-new c = search needs
 
--- src/smoothing.rt:23:9
 add-i : tie.Need-add-i Inv-loop μ-loop
 add-i c = search needs
 
--- src/smoothing.rt:21:5
 loop-less : tie.Need-loop-less Inv-loop μ-loop
 loop-less c = search needs
 
--- src/smoothing.rt:21:5
 loop-again : tie.Need-loop-again Inv-loop μ-loop
 loop-again c =
     let b = c .before .before in
@@ -67,11 +55,9 @@ loop-again c =
       filled-store _ _ _ _ (b .loop .inv .2) (getD-any (a .old .now) (a .at + b .loop .i) nan plusZero (omega arith)),
     )
 
--- src/smoothing.rt:16:1
 same-length : tie.Need-same-length Inv-loop μ-loop
 same-length c = search needs
 
--- src/smoothing.rt:16:1
 returns : tie.Need-returns Inv-loop μ-loop
 returns c = filled-done _ _ _ (c .before .loop .inv .2) (omega arith)
 

@@ -9,54 +9,40 @@ use Rattle.model.specs.Part.{plusZero}
 use Rattle.dense_field.proofs.SmoothingLaws.{scratch-long, smooth-slices}
 use Rattle.dense_field.proofs.smoothing.smooth.Statement.{statement}
 use Rattle.dense_field.proofs.smoothing.smooth.Tie as tie
-use Rattle.dense_field.proofs.smoothing.smooth.Reads as reads
-use Rattle.dense_field.proofs.smoothing.smooth.Lts as lts
-use Rattle.dense_field.proofs.smoothing.clear.Reads as clear-reads
-use Rattle.dense_field.proofs.smoothing.smooth_refused.Reads as smooth-refused-reads
-use Rattle.dense_field.proofs.smoothing.smooth_rounds.Reads as smooth-rounds-reads
 
--- src/smoothing.rt:161:8
 smooth-refused-requires : tie.Need-smooth-refused-requires
 smooth-refused-requires c κs = search needs
 
--- src/smoothing.rt:162:9
 returns : tie.Need-returns
 returns c =
     let e = sym (c .before .smooth-refused .ensures) ∙ c .if1 .taken in
     (simp e, (simp e, simp e))
 
--- src/smoothing.rt:165:46
 slice-relend-prefix-smooth-rounds : tie.Need-slice-relend-prefix-smooth-rounds
 slice-relend-prefix-smooth-rounds c =
     let w = c .before in
     scratch-long _ _ _ (sym (w .before .smooth-refused .ensures) ∙ w .if1 .left)
 
--- src/smoothing.rt:165:46
 slice-aggregate-smooth-rounds : tie.Need-slice-aggregate-smooth-rounds
 slice-aggregate-smooth-rounds c =
     let w = c .before .before in
     sym (length-take-le _ _ (scratch-long _ _ _ (sym (w .before .smooth-refused .ensures) ∙ w .if1 .left)))
 
--- src/smoothing.rt:165:5
 smooth-rounds-requires : tie.Need-smooth-rounds-requires
 smooth-rounds-requires c κs =
     let w = c .before .before in
     let passed = sym (w .before .smooth-refused .ensures) ∙ w .if1 .left in
     smooth-slices _ _ _ passed _ (length-take-le _ _ (scratch-long _ _ _ passed))
 
--- src/smoothing.rt:166:5
 clear-requires : tie.Need-clear-requires
 clear-requires c κs = search needs
 
--- src/smoothing.rt:156:1
 same-length : tie.Need-same-length
 same-length c = search needs
 
--- src/smoothing.rt:156:1
 same-length-2 : tie.Need-same-length-2
 same-length-2 c = search needs
 
--- src/smoothing.rt:156:1
 returns-2 : tie.Need-returns-2
 returns-2 c =
     let a = c .before .before .before .before .before .before .before .before .before .before .before .before .before .before .before .args in

@@ -11,9 +11,6 @@ use Rattle.dense_field.proofs.Filling.{filled-none, filled-length, fill
 use Rattle.dense_field.proofs.SmoothingLaws.{all-slabs}
 use Rattle.dense_field.proofs.smoothing.smooth_once.Statement.{statement}
 use Rattle.dense_field.proofs.smoothing.smooth_once.Tie as tie
-use Rattle.dense_field.proofs.smoothing.smooth_once.Reads as reads
-use Rattle.dense_field.proofs.smoothing.smooth_once.Lts as lts
-use Rattle.dense_field.proofs.smoothing.smooth_slab.Reads as smooth-slab-reads
 
 abbrev Inv-loop : tie.InvT-loop
 Inv-loop n factor old new₀ k₀ new k =
@@ -22,14 +19,12 @@ Inv-loop n factor old new₀ k₀ new k =
 abbrev μ-loop : tie.MeasureT-loop
 μ-loop n factor old new₀ k₀ new k = n .k - k
 
--- src/smoothing.rt:117:5
 loop-holds : tie.Need-loop-holds Inv-loop μ-loop
 loop-holds c =
     let a = c .before .before .args in
     let none : 0 ≡ 0 * (a .n .i * a .n .j) = omega arith in
     (search needs, search needs, filled-done _ _ _ (sym (filled-none _ _ _)) none)
 
--- src/smoothing.rt:118:9
 smooth-slab-requires : tie.Need-smooth-slab-requires Inv-loop μ-loop
 smooth-slab-requires c κs =
     let p = c .before .before .before .before .before .before .pre in
@@ -38,15 +33,12 @@ smooth-slab-requires c κs =
       omega arith,
     )
 
--- src/smoothing.rt:119:9
 add-k : tie.Need-add-k Inv-loop μ-loop
 add-k c = search needs
 
--- src/smoothing.rt:117:5
 loop-less : tie.Need-loop-less Inv-loop μ-loop
 loop-less c = search needs
 
--- src/smoothing.rt:117:5
 loop-again : tie.Need-loop-again Inv-loop μ-loop
 loop-again c =
     let b = c .before .before .before .before .before .before in
@@ -60,11 +52,9 @@ loop-again c =
       filled-more _ _ _ _ _ (b .loop .inv .2) (done ∙ ap (λ (p : ℕ). filled p slab (smoothedAt (a .n) (a .factor) (a .old .now)) (b .loop .new)) place) more,
     )
 
--- src/smoothing.rt:112:1
 same-length : tie.Need-same-length Inv-loop μ-loop
 same-length c = search needs
 
--- src/smoothing.rt:112:1
 returns : tie.Need-returns Inv-loop μ-loop
 returns c =
     let b = c .before .before in

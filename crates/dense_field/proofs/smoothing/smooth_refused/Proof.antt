@@ -8,15 +8,10 @@ use Rattle.dense_field.specs.Field.{valuesRefused, scratchNeeded}
 use Rattle.dense_field.specs.Smoothing.{smoothRefused}
 use Rattle.dense_field.proofs.smoothing.smooth_refused.Statement.{statement}
 use Rattle.dense_field.proofs.smoothing.smooth_refused.Tie as tie
-use Rattle.dense_field.proofs.smoothing.smooth_refused.Reads as reads
-use Rattle.dense_field.proofs.smoothing.smooth_refused.Lts as lts
-use Rattle.geometry.proofs.dimensions_refused.Reads as dimensions-refused-reads
 
--- src/smoothing.rt:145:8
 dimensions-refused-requires : tie.Need-dimensions-refused-requires
 dimensions-refused-requires c κs = search needs
 
--- src/smoothing.rt:146:9
 returns : tie.Need-returns
 unfolding smoothRefused valuesRefused
 returns c = simp (sym (c .before .dimensions-refused .ensures) ∙ c .if1 .taken)
@@ -25,22 +20,18 @@ returns c = simp (sym (c .before .dimensions-refused .ensures) ∙ c .if1 .taken
 grid : (c : tie.Else1) → let n = c .before .before .args .n in Accepted (n .i) (n .j) (n .k)
 grid c = accepted _ _ _ (sym (c .before .dimensions-refused .ensures) ∙ c .if1 .left)
 
--- src/smoothing.rt:148:18
 mul-points : tie.Need-mul-points
 mul-points c = omega (arith, area-le (grid (c .before)))
 
--- src/smoothing.rt:148:18
 mul-points-2 : tie.Need-mul-points-2
 mul-points-2 c = omega (arith, grid (c .before .before) .few)
 
--- src/smoothing.rt:150:9
 returns-2 : tie.Need-returns-2
 unfolding smoothRefused valuesRefused
 returns-2 c =
     let e = c .before .before .before in
     simp (sym (e .before .dimensions-refused .ensures) ∙ e .if1 .left, ne-eqb _ _ (c .if2 .taken))
 
--- src/smoothing.rt:142:1
 returns-3 : tie.Need-returns-3
 unfolding smoothRefused valuesRefused scratchNeeded
 returns-3 c =

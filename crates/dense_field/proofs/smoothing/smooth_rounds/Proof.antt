@@ -11,10 +11,6 @@ use Rattle.dense_field.proofs.Filling.{filled-copy}
 use Rattle.dense_field.proofs.SmoothingLaws.{once-length, no-rounds, rounds-done, round-more, other-slices}
 use Rattle.dense_field.proofs.smoothing.smooth_rounds.Statement.{statement}
 use Rattle.dense_field.proofs.smoothing.smooth_rounds.Tie as tie
-use Rattle.dense_field.proofs.smoothing.smooth_rounds.Reads as reads
-use Rattle.dense_field.proofs.smoothing.smooth_rounds.Lts as lts
-use Rattle.dense_field.proofs.smoothing.copy_values.Reads as copy-values-reads
-use Rattle.dense_field.proofs.smoothing.smooth_once.Reads as smooth-once-reads
 
 abbrev Inv-loop : tie.InvT-loop
 Inv-loop n factor rounds values₀ scratch₀ left₀ values scratch left =
@@ -23,33 +19,27 @@ Inv-loop n factor rounds values₀ scratch₀ left₀ values scratch left =
 abbrev μ-loop : tie.MeasureT-loop
 μ-loop n factor rounds values₀ scratch₀ left₀ values scratch left = left
 
--- src/smoothing.rt:130:5
 loop-holds : tie.Need-loop-holds Inv-loop μ-loop
 loop-holds c = (search needs, search needs, search needs, no-rounds _ _ _ _ (omega arith))
 
--- src/smoothing.rt:131:9
 smooth-once-requires : tie.Need-smooth-once-requires Inv-loop μ-loop
 smooth-once-requires c κs =
     let p = c .before .before .before .before .before .before .pre in
     let b = c .before .before .before in
     other-slices _ _ p (b .loop .inv .1 ∙ p .old-long) (b .loop .inv .2 ∙ p .new-long)
 
--- src/smoothing.rt:132:9
 smooth-once-requires-2 : tie.Need-smooth-once-requires-2 Inv-loop μ-loop
 smooth-once-requires-2 c κs =
     let p = c .before .before .before .before .before .before .before .before .before .before .before .pre in
     let b = c .before .before .before .before .before .before .before .before in
     other-slices _ _ p (ap length (c .before .before .before .before .smooth-once .ensures) ∙ once-length _ _ _) (b .loop .inv .1 ∙ p .old-long)
 
--- src/smoothing.rt:133:9
 sub-left : tie.Need-sub-left Inv-loop μ-loop
 sub-left c = search needs
 
--- src/smoothing.rt:130:5
 loop-less : tie.Need-loop-less Inv-loop μ-loop
 loop-less c = search needs
 
--- src/smoothing.rt:130:5
 loop-again : tie.Need-loop-again Inv-loop μ-loop
 loop-again c =
     let b = c .before .before .before .before .before .before .before .before .before .before .before in
@@ -64,14 +54,12 @@ loop-again c =
       round-more (a .n) (a .factor) (a .values .now) so-far second (omega arith),
     )
 
--- src/smoothing.rt:136:9
 smooth-once-requires-3 : tie.Need-smooth-once-requires-3 Inv-loop μ-loop
 smooth-once-requires-3 c κs =
     let p = c .before .before .before .before .before .before .before .pre in
     let b = c .before .before .before .before in
     other-slices _ _ p (b .loop .inv .1 ∙ p .old-long) (b .loop .inv .2 ∙ p .new-long)
 
--- src/smoothing.rt:137:9
 copy-values-requires : tie.Need-copy-values-requires Inv-loop μ-loop
 copy-values-requires c κs =
     let p = c .before .before .before .before .before .before .before .before .before .before .before .before .pre in
@@ -79,15 +67,12 @@ copy-values-requires c κs =
     let long = ap length (c .before .before .before .before .smooth-once3 .ensures) ∙ once-length _ _ _ in
     (omega arith, b .loop .inv .1 ∙ p .old-long ∙ sym long)
 
--- src/smoothing.rt:125:1
 same-length : tie.Need-same-length Inv-loop μ-loop
 same-length c = search needs
 
--- src/smoothing.rt:125:1
 same-length-2 : tie.Need-same-length-2 Inv-loop μ-loop
 same-length-2 c = search needs
 
--- src/smoothing.rt:125:1
 returns : tie.Need-returns Inv-loop μ-loop
 returns c =
     let b = c .before .before .before .before .before .before .before .before .before .before .before .before in
@@ -99,15 +84,12 @@ returns c =
     ∙ filled-copy _ (b .loop .values) plusZero long
     ∙ round-more (a .n) (a .factor) (a .values .now) (b .loop .inv .3) once (omega arith)
 
--- src/smoothing.rt:125:1
 same-length-3 : tie.Need-same-length-3 Inv-loop μ-loop
 same-length-3 c = search needs
 
--- src/smoothing.rt:125:1
 same-length-4 : tie.Need-same-length-4 Inv-loop μ-loop
 same-length-4 c = search needs
 
--- src/smoothing.rt:125:1
 returns-2 : tie.Need-returns-2 Inv-loop μ-loop
 returns-2 c = rounds-done _ _ _ (c .before .before .loop .inv .3) (omega arith)
 

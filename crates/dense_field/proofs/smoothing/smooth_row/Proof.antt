@@ -10,12 +10,7 @@ use Rattle.dense_field.proofs.Filling.{filled-length}
 use Rattle.dense_field.proofs.SmoothingLaws.{RowIn, SlabIn, row-in, slab-in, first-edge, last-edge, thin-row, edge-row, inner-row}
 use Rattle.dense_field.proofs.smoothing.smooth_row.Statement.{statement}
 use Rattle.dense_field.proofs.smoothing.smooth_row.Tie as tie
-use Rattle.dense_field.proofs.smoothing.smooth_row.Reads as reads
-use Rattle.dense_field.proofs.smoothing.smooth_row.Lts as lts
-use Rattle.dense_field.proofs.smoothing.blend_values.Reads as blend-values-reads
-use Rattle.dense_field.proofs.smoothing.copy_values.Reads as copy-values-reads
 
--- src/smoothing.rt:71:19
 mul-at : tie.Need-mul-at
 mul-at c =
     let s = c .before .before .before in
@@ -23,7 +18,6 @@ mul-at c =
     let row = row-in (s .pre .0) (s .args .j) (omega arith) in
     omega arith
 
--- src/smoothing.rt:71:14
 mul-at-2 : tie.Need-mul-at-2
 mul-at-2 c =
     let s = c .before .before .before in
@@ -31,7 +25,6 @@ mul-at-2 c =
     let row = row-in (s .pre .0) (s .args .j) (omega arith) in
     omega arith
 
--- src/smoothing.rt:71:32
 mul-at-3 : tie.Need-mul-at-3
 mul-at-3 c =
     let s = c .before .before .before in
@@ -39,7 +32,6 @@ mul-at-3 c =
     let row = row-in (s .pre .0) (s .args .j) (omega arith) in
     omega arith
 
--- src/smoothing.rt:71:14
 add-at : tie.Need-add-at
 add-at c =
     let s = c .before .before .before in
@@ -47,7 +39,6 @@ add-at c =
     let row = row-in (s .pre .0) (s .args .j) (omega arith) in
     omega arith
 
--- src/smoothing.rt:73:9
 copy-values-requires : tie.Need-copy-values-requires
 copy-values-requires c κs =
     let s = c .before .before .before .before .before in
@@ -55,17 +46,14 @@ copy-values-requires c κs =
     let row = row-in (s .pre .0) (s .args .j) (omega arith) in
     (omega arith, omega arith)
 
--- src/smoothing.rt:74:9
 same-length : tie.Need-same-length
 same-length c = search needs
 
--- src/smoothing.rt:74:9
 returns : tie.Need-returns
 returns c =
     let a = c .before .before .before .before .before .before .before .before .args in
     thin-row (a .n) (a .factor) (a .old .now) (a .j) (a .k) (a .new .now) (omega arith) (omega arith) (c .before .before .copy-values .ensures)
 
--- src/smoothing.rt:77:9
 copy-values-requires-2 : tie.Need-copy-values-requires-2
 copy-values-requires-2 c κs =
     let s = c .before .before .before .before .before .before in
@@ -73,21 +61,17 @@ copy-values-requires-2 c κs =
     let row = row-in (s .pre .0) (s .args .j) (omega arith) in
     (omega arith, omega arith)
 
--- src/smoothing.rt:78:9
 same-length-2 : tie.Need-same-length-2
 same-length-2 c = search needs
 
--- src/smoothing.rt:78:9
 returns-2 : tie.Need-returns-2
 returns-2 c =
     let a = c .before .before .before .before .before .before .before .before .before .args in
     edge-row (a .n) (a .factor) (a .old .now) (a .j) (a .k) (a .new .now) (omega arith) (first-edge _ _ (omega arith)) (c .before .before .copy-values2 .ensures)
 
--- src/smoothing.rt:80:8
 add-if3 : tie.Need-add-if3
 add-if3 c = search needs
 
--- src/smoothing.rt:81:9
 copy-values-requires-3 : tie.Need-copy-values-requires-3
 copy-values-requires-3 c κs =
     let s = c .before .before .before .before .before .before .before .before in
@@ -95,17 +79,14 @@ copy-values-requires-3 c κs =
     let row = row-in (s .pre .0) (s .args .j) (omega arith) in
     (omega arith, omega arith)
 
--- src/smoothing.rt:82:9
 same-length-3 : tie.Need-same-length-3
 same-length-3 c = search needs
 
--- src/smoothing.rt:82:9
 returns-3 : tie.Need-returns-3
 returns-3 c =
     let a = c .before .before .before .before .before .before .before .before .before .before .before .args in
     edge-row (a .n) (a .factor) (a .old .now) (a .j) (a .k) (a .new .now) (omega arith) (last-edge _ _ (omega arith)) (c .before .before .copy-values3 .ensures)
 
--- src/smoothing.rt:84:5
 copy-values-requires-4 : tie.Need-copy-values-requires-4
 copy-values-requires-4 c κs =
     let s = c .before .before .before .before .before .before .before .before in
@@ -113,7 +94,6 @@ copy-values-requires-4 c κs =
     let row = row-in (s .pre .0) (s .args .j) (omega arith) in
     (omega arith, omega arith)
 
--- src/smoothing.rt:85:39
 add-blend-values : tie.Need-add-blend-values
 add-blend-values c =
     let s = c .before .before .before .before .before .before .before .before .before .before .before .before in
@@ -121,11 +101,9 @@ add-blend-values c =
     let row = row-in (s .pre .0) (s .args .j) (omega arith) in
     omega arith
 
--- src/smoothing.rt:85:47
 sub-blend-values : tie.Need-sub-blend-values
 sub-blend-values c = search needs
 
--- src/smoothing.rt:85:5
 blend-values-requires : tie.Need-blend-values-requires
 blend-values-requires c κs =
     let s = c .before .before .before .before .before .before .before .before .before .before .before .before in
@@ -140,7 +118,6 @@ blend-values-requires c κs =
       same = ap length (c .before .before .before .copy-values4 .ensures) ∙ filled-length _ _ _ _ ∙ e;
     }
 
--- src/smoothing.rt:86:27
 add-copy-values : tie.Need-add-copy-values
 add-copy-values c =
     let s = c .before .before .before .before .before .before .before .before .before .before .before .before .before .before .before .before in
@@ -148,11 +125,9 @@ add-copy-values c =
     let row = row-in (s .pre .0) (s .args .j) (omega arith) in
     omega arith
 
--- src/smoothing.rt:86:37
 sub-copy-values : tie.Need-sub-copy-values
 sub-copy-values c = search needs
 
--- src/smoothing.rt:86:27
 add-copy-values-2 : tie.Need-add-copy-values-2
 add-copy-values-2 c =
     let s = c .before .before .before .before .before .before .before .before .before .before .before .before .before .before .before .before in
@@ -160,7 +135,6 @@ add-copy-values-2 c =
     let row = row-in (s .pre .0) (s .args .j) (omega arith) in
     omega arith
 
--- src/smoothing.rt:86:5
 copy-values-requires-5 : tie.Need-copy-values-requires-5
 copy-values-requires-5 c κs =
     let s = c .before .before .before .before .before .before .before .before .before .before .before .before .before .before .before .before in
@@ -175,11 +149,9 @@ copy-values-requires-5 c κs =
     ∙ e in
     (omega arith, long)
 
--- src/smoothing.rt:65:1
 same-length-4 : tie.Need-same-length-4
 same-length-4 c = search needs
 
--- src/smoothing.rt:65:1
 returns-4 : tie.Need-returns-4
 returns-4 c =
     let a = c .before .before .before .before .before .before .before .before .before .before .before .before .before .before .before .before .before .before .before .args in

@@ -12,10 +12,6 @@ use Rattle.dense_field.proofs.Filling.{filled-none, filled-length, fill
 use Rattle.dense_field.proofs.SmoothingLaws.{RowIn, SlabIn, row-in, slab-in, first-edge, last-edge, slab-stays}
 use Rattle.dense_field.proofs.smoothing.smooth_slab.Statement.{statement}
 use Rattle.dense_field.proofs.smoothing.smooth_slab.Tie as tie
-use Rattle.dense_field.proofs.smoothing.smooth_slab.Reads as reads
-use Rattle.dense_field.proofs.smoothing.smooth_slab.Lts as lts
-use Rattle.dense_field.proofs.smoothing.copy_values.Reads as copy-values-reads
-use Rattle.dense_field.proofs.smoothing.smooth_row.Reads as smooth-row-reads
 
 abbrev Inv-loop : tie.InvT-loop
 Inv-loop n factor old new₀ k slab j₀ new j =
@@ -24,73 +20,61 @@ Inv-loop n factor old new₀ k slab j₀ new j =
 abbrev μ-loop : tie.MeasureT-loop
 μ-loop n factor old new₀ k slab j₀ new j = n .j - j
 
--- src/smoothing.rt:95:16
 mul-slab : tie.Need-mul-slab Inv-loop μ-loop
 mul-slab c =
     let s = c .before .before .before in
     let slab = slab-in (s .pre .0) (s .args .k) (omega arith) in
     omega arith
 
--- src/smoothing.rt:97:31
 mul-copy-values : tie.Need-mul-copy-values Inv-loop μ-loop
 mul-copy-values c =
     let s = c .before .before .before .before .before in
     let slab = slab-in (s .pre .0) (s .args .k) (omega arith) in
     omega arith
 
--- src/smoothing.rt:97:9
 copy-values-requires : tie.Need-copy-values-requires Inv-loop μ-loop
 copy-values-requires c κs =
     let s = c .before .before .before .before .before in
     let slab = slab-in (s .pre .0) (s .args .k) (omega arith) in
     (omega arith, omega arith)
 
--- src/smoothing.rt:98:9
 same-length : tie.Need-same-length Inv-loop μ-loop
 same-length c = search needs
 
--- src/smoothing.rt:98:9
 returns : tie.Need-returns Inv-loop μ-loop
 returns c =
     let a = c .before .before .before .before .before .before .before .before .args in
     slab-stays (a .n) (a .factor) (a .old .now) (a .k) (a .new .now) (omega arith) (omega arith) (first-edge _ _ (omega arith)) (c .before .before .copy-values .ensures)
 
--- src/smoothing.rt:100:8
 add-if2 : tie.Need-add-if2 Inv-loop μ-loop
 add-if2 c = search needs
 
--- src/smoothing.rt:101:31
 mul-copy-values-2 : tie.Need-mul-copy-values-2 Inv-loop μ-loop
 mul-copy-values-2 c =
     let s = c .before .before .before .before .before .before .before in
     let slab = slab-in (s .pre .0) (s .args .k) (omega arith) in
     omega arith
 
--- src/smoothing.rt:101:9
 copy-values-requires-2 : tie.Need-copy-values-requires-2 Inv-loop μ-loop
 copy-values-requires-2 c κs =
     let s = c .before .before .before .before .before .before .before in
     let slab = slab-in (s .pre .0) (s .args .k) (omega arith) in
     (omega arith, omega arith)
 
--- src/smoothing.rt:102:9
 same-length-2 : tie.Need-same-length-2 Inv-loop μ-loop
 same-length-2 c = search needs
 
--- src/smoothing.rt:102:9
 returns-2 : tie.Need-returns-2 Inv-loop μ-loop
 returns-2 c =
     let a = c .before .before .before .before .before .before .before .before .before .before .args in
     slab-stays (a .n) (a .factor) (a .old .now) (a .k) (a .new .now) (omega arith) (omega arith) (last-edge _ _ (omega arith)) (c .before .before .copy-values2 .ensures)
 
--- src/smoothing.rt:105:5
 loop-holds : tie.Need-loop-holds Inv-loop μ-loop
 loop-holds c =
     let s = c .before .before .before .before .before .before in
     let none : 0 ≡ 0 * s .args .n .i = omega arith in
     (search needs, search needs, filled-done _ _ _ (sym (filled-none _ _ _)) none)
 
--- src/smoothing.rt:106:9
 smooth-row-requires : tie.Need-smooth-row-requires Inv-loop μ-loop
 smooth-row-requires c κs =
     let s = c .before .before .before .before .before .before .before .before .before .before in
@@ -100,15 +84,12 @@ smooth-row-requires c κs =
       (omega arith, omega arith, omega arith),
     )
 
--- src/smoothing.rt:107:9
 add-j : tie.Need-add-j Inv-loop μ-loop
 add-j c = search needs
 
--- src/smoothing.rt:105:5
 loop-less : tie.Need-loop-less Inv-loop μ-loop
 loop-less c = search needs
 
--- src/smoothing.rt:105:5
 loop-again : tie.Need-loop-again Inv-loop μ-loop
 loop-again c =
     let b = c .before .before .before .before .before .before in
@@ -120,11 +101,9 @@ loop-again c =
       filled-more _ _ _ _ _ (b .loop .inv .2) row more,
     )
 
--- src/smoothing.rt:90:1
 same-length-3 : tie.Need-same-length-3 Inv-loop μ-loop
 same-length-3 c = search needs
 
--- src/smoothing.rt:90:1
 returns-3 : tie.Need-returns-3 Inv-loop μ-loop
 returns-3 c =
     let b = c .before .before in

@@ -1,30 +1,30 @@
+-- `walks::cell_max` meets its contract: the three coordinates of a corner.
+use mathlib.Core.Path.{_≡_, _∙_}
 use borrow.Author.Needs.{needs}
+use Rattle.geometry.specs.Values.{vec3}
+use Rattle.dense_field.specs.Walks.{walkCell}
 use Rattle.dense_field.proofs.walks.cell_max.Statement.{statement}
 use Rattle.dense_field.proofs.walks.cell_max.Tie as tie
-use Rattle.dense_field.proofs.walks.cell_max.Reads as reads
-use Rattle.dense_field.proofs.walks.cell_max.Lts as lts
-use Rattle.geometry.proofs.Vec3.new.Reads as new-reads
-use Rattle.geometry.proofs.along_end.Reads as along-end-reads
 
--- src/walks.rt:89:9
 along-end-requires : tie.Need-along-end-requires
 along-end-requires c κs = search needs
 
--- src/walks.rt:90:9
 along-end-requires-2 : tie.Need-along-end-requires-2
 along-end-requires-2 c κs = search needs
 
--- src/walks.rt:91:9
 along-end-requires-3 : tie.Need-along-end-requires-3
 along-end-requires-3 c κs = search needs
 
--- src/walks.rt:88:5
 new-requires : tie.Need-new-requires
 new-requires c κs = search needs
 
--- src/walks.rt:83:1
 returns : tie.Need-returns
-returns c = ?
+unfolding walkCell
+returns c =
+    let x = c .before .before .before .along-end .ensures in
+    let y = c .before .before .along-end2 .ensures in
+    let z = c .before .along-end3 .ensures in
+    c .new .ensures ∙ (λ i. vec3 (x i) (y i) (z i))
 
 pub cell-max-spec : {M : Type 1} → statement M
 cell-max-spec =

@@ -1,30 +1,30 @@
+-- `walks::cell_min` meets its contract: the three coordinates of a corner.
+use mathlib.Core.Path.{_≡_, _∙_}
 use borrow.Author.Needs.{needs}
+use Rattle.geometry.specs.Values.{vec3}
+use Rattle.dense_field.specs.Walks.{walkCell}
 use Rattle.dense_field.proofs.walks.cell_min.Statement.{statement}
 use Rattle.dense_field.proofs.walks.cell_min.Tie as tie
-use Rattle.dense_field.proofs.walks.cell_min.Reads as reads
-use Rattle.dense_field.proofs.walks.cell_min.Lts as lts
-use Rattle.geometry.proofs.Vec3.new.Reads as new-reads
-use Rattle.geometry.proofs.along.Reads as along-reads
 
--- src/walks.rt:76:9
 along-requires : tie.Need-along-requires
 along-requires c κs = search needs
 
--- src/walks.rt:77:9
 along-requires-2 : tie.Need-along-requires-2
 along-requires-2 c κs = search needs
 
--- src/walks.rt:78:9
 along-requires-3 : tie.Need-along-requires-3
 along-requires-3 c κs = search needs
 
--- src/walks.rt:75:5
 new-requires : tie.Need-new-requires
 new-requires c κs = search needs
 
--- src/walks.rt:70:1
 returns : tie.Need-returns
-returns c = ?
+unfolding walkCell
+returns c =
+    let x = c .before .before .before .along .ensures in
+    let y = c .before .before .along2 .ensures in
+    let z = c .before .along3 .ensures in
+    c .new .ensures ∙ (λ i. vec3 (x i) (y i) (z i))
 
 pub cell-min-spec : {M : Type 1} → statement M
 cell-min-spec =

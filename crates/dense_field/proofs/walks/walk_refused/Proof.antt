@@ -1,41 +1,42 @@
+-- `walks::walk_refused` meets its contract: each test is its part of cause 11.
+use mathlib.Core.Path.{_≡_, sym, _∙_}
 use borrow.Author.Needs.{needs}
+use borrow.Author.Tests.{lt-ltb, le-ltb}
+use Rattle.dense_field.specs.Walks.{walkRefused}
+use Rattle.dense_field.proofs.WalkLaws.{leb-not-ltb}
 use Rattle.dense_field.proofs.walks.walk_refused.Statement.{statement}
 use Rattle.dense_field.proofs.walks.walk_refused.Tie as tie
-use Rattle.dense_field.proofs.walks.walk_refused.Reads as reads
-use Rattle.dense_field.proofs.walks.walk_refused.Lts as lts
-use Rattle.dense_field.proofs.walks.count_refused.Reads as count-refused-reads
 
--- src/walks.rt:26:8
 count-refused-requires : tie.Need-count-refused-requires
 count-refused-requires c κs = search needs
 
--- src/walks.rt:27:9
 returns : tie.Need-returns
-returns c = ?
+unfolding walkRefused
+returns c = simp (sym (c .before .count-refused .ensures) ∙ c .if1 .taken)
 
--- src/walks.rt:29:8
 count-refused-requires-2 : tie.Need-count-refused-requires-2
 count-refused-requires-2 c κs = search needs
 
--- src/walks.rt:30:9
 returns-2 : tie.Need-returns-2
-returns-2 c = ?
+unfolding walkRefused
+returns-2 c = simp (sym (c .before .before .before .count-refused .ensures) ∙ c .before .before .if1 .left, sym (c .before .count-refused2 .ensures) ∙ c .if2 .taken)
 
--- src/walks.rt:32:8
 count-refused-requires-3 : tie.Need-count-refused-requires-3
 count-refused-requires-3 c κs = search needs
 
--- src/walks.rt:33:9
 returns-3 : tie.Need-returns-3
-returns-3 c = ?
+unfolding walkRefused
+returns-3 c = simp (sym (c .before .before .before .before .before .count-refused .ensures) ∙ c .before .before .before .before .if1 .left, sym (c .before .before .before .count-refused2 .ensures) ∙ c .before .before .if2 .left, sym (c .before .count-refused3 .ensures) ∙ c .if3 .taken)
 
--- src/walks.rt:36:9
 returns-4 : tie.Need-returns-4
-returns-4 c = ?
+unfolding walkRefused
+returns-4 c = simp (sym (c .before .before .before .before .before .before .before .before .count-refused .ensures) ∙ c .before .before .before .before .before .before .before .if1 .left, sym (c .before .before .before .before .before .before .count-refused2 .ensures) ∙ c .before .before .before .before .before .if2 .left, sym (c .before .before .before .before .count-refused3 .ensures) ∙ c .before .before .before .if3 .left, le-ltb _ _ (c .if4 .taken))
 
--- src/walks.rt:23:1
 returns-5 : tie.Need-returns-5
-returns-5 c = ?
+unfolding walkRefused
+returns-5 c =
+    let a = c .before .before .before .before .before .before .before .before .before .before .before .args in
+    simp (sym (c .before .before .before .before .before .before .before .before .before .before .count-refused .ensures) ∙ c .before .before .before .before .before .before .before .before .before .if1 .left, sym (c .before .before .before .before .before .before .before .before .count-refused2 .ensures) ∙ c .before .before .before .before .before .before .before .if2 .left, sym (c .before .before .before .before .before .before .count-refused3 .ensures) ∙ c .before .before .before .before .before .if3 .left, lt-ltb _ _ (c .before .before .if4 .left)) (leb-not-ltb (a .cursor .j) (a .n .j))
 
 pub walk-refused-spec : {M : Type 1} → statement M
 walk-refused-spec =
