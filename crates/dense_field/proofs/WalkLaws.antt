@@ -43,6 +43,11 @@ pub record Walk (least : ℕ) (n c : Vec3i) : Type 0 where
   pub z-count : least ≤ n .k
   pub x-in : c .i < n .i
   pub y-in : c .j < n .j
+  pub x-few : n .i ≤ 16777216
+
+count-most : (least n : ℕ) → countRefused least n ≡ false → n ≤ 16777216
+unfolding countRefused
+count-most least n e = ltb-false 16777216 n (or-right (ltb n least) _ e)
 
 count-least : (least n : ℕ) → countRefused least n ≡ false → least ≤ n
 unfolding countRefused
@@ -65,6 +70,7 @@ walk-passed least n c e =
       z-count = count-least least (n .k) (or-right (x || y) z three);
       x-in = ltb-true (c .i) (n .i) (not-false _ (or-right (x || y || z) i four));
       y-in = ltb-true (c .j) (n .j) (not-false _ (or-right (x || y || z || i) j e));
+      x-few = count-most least (n .i) (or-left x y two);
     }
 
 -- the next cursor is the indices of the next place

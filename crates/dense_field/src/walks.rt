@@ -40,7 +40,7 @@ fn walk_refused(least: usize, n: Vec3i, cursor: Vec3i) -> bool
 
 // The cursor after this one, i fastest, then j and k.
 fn next_in(n: Vec3i, cursor: Vec3i) -> Vec3i
-    requires { ⌜ (cursor .i < n .i) × (cursor .j < n .j) × (cursor .k < n .k) ⌝ }
+    requires { ⌜ (cursor .i < n .i) × (cursor .j < n .j) × (cursor .k < n .k) × (n .i ≤ 16777216) ⌝ }
     ensures { λ r. ⌜ r ≡ nextIn n cursor ⌝ }
 {
     if cursor.i + 1 < n.i {

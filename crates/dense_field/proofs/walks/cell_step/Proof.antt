@@ -41,7 +41,7 @@ new-requires c κs = search needs
 next-in-requires : tie.Need-next-in-requires
 next-in-requires c κs =
     let walk = walk-passed _ _ _ (sym (c .before .before .before .before .before .before .before .walk-refused .ensures) ∙ c .before .before .before .before .before .before .if2 .left) in
-    (omega arith, omega arith, omega arith)
+    (omega arith, omega arith, omega arith, omega arith)
 
 returns-4 : tie.Need-returns-4
 unfolding firstOf cellStep walkCell
