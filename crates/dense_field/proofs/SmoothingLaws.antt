@@ -22,6 +22,7 @@ use Rattle.dense_field.specs.Field.{valuesRefused, pointsOf, scratchNeed
 use Rattle.dense_field.specs.Filled.{filled}
 use Rattle.dense_field.specs.Slices.{valueOf, blendedAt, Slices, Between}
 use Rattle.dense_field.specs.Smoothing.{smoothRefused, neighbourSum, blended, smoothedAt, smoothedOnce, smoothed}
+use Rattle.dense_field.proofs.Disjunctions.{or-left, or-right}
 use Rattle.dense_field.proofs.Filling.{filled-join, filled-same, filled-more, filled-all}
 
 -- what is read past the end does not count where the six neighbours stand in the list
@@ -254,15 +255,6 @@ module _ (n : Vec3i) (f : Float) (vs : List Float) where
 pub other-slices : {n : Vec3i} {old new : ℕ} (a b : ℕ) → Slices n old new → a ≡ pointsOf n → b ≡ pointsOf n → Slices n a b
 other-slices a b s ha hb =
     record { x-above = s .x-above; y-above = s .y-above; z-above = s .z-above; few = s .few; old-long = ha; new-long = hb }
-
-or-left : (a b : Bool) → (a || b) ≡ false → a ≡ false
-or-left true b e = e
-or-left false b e = refl
-
-or-right : (a b : Bool) → (a || b) ≡ false → b ≡ false
-or-right true true e = e
-or-right true false e = refl
-or-right false b e = e
 
 -- what holds where cause 9 does not apply
 module _ (n : Vec3i) (len scratch : ℕ) (passed : smoothRefused n len scratch ≡ false) where

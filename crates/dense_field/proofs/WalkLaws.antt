@@ -18,6 +18,7 @@ use Rattle.dense_field.specs.declared.CellStep.the-variants as cell
 use Rattle.dense_field.specs.Field.{pointsOf}
 use Rattle.dense_field.specs.Walks.{nextIn, countRefused, walkRefused, walkPoint, walkCell, pointStep, cellStep}
 use Rattle.dense_field.specs.Traces.{pointAfter, pointTrace, cellAfter, cellTrace}
+use Rattle.dense_field.proofs.Disjunctions.{or-left, or-right}
 
 -- the test of the code and that of the definition
 pub leb-not-ltb : (a b : ℕ) → leb b a ≡ not (ltb a b)
@@ -26,15 +27,6 @@ leb-not-ltb a b = one (ltb a b) refl
     one : (t : Bool) → ltb a b ≡ t → leb b a ≡ not (ltb a b)
     one true e = lt-leb b a (ltb-true a b e) ∙ rw e refl
     one false e = le-leb b a (ltb-false a b e) ∙ rw e refl
-
-or-left : (a b : Bool) → (a || b) ≡ false → a ≡ false
-or-left true b e = e
-or-left false b e = refl
-
-or-right : (a b : Bool) → (a || b) ≡ false → b ≡ false
-or-right true true e = e
-or-right true false e = refl
-or-right false b e = e
 
 -- counts and a cursor that cause 11 does not refuse
 pub record Walk (least : ℕ) (n c : Vec3i) : Type 0 where

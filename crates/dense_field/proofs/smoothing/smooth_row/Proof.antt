@@ -11,39 +11,46 @@ use Rattle.dense_field.proofs.SmoothingLaws.{RowIn, SlabIn, row-in, sla
 use Rattle.dense_field.proofs.smoothing.smooth_row.Statement.{statement}
 use Rattle.dense_field.proofs.smoothing.smooth_row.Tie as tie
 
+-- the slab and the row stand in the field
+slab-of : (s : tie.Start) → SlabIn (s .args .n) (s .args .k)
+slab-of s = slab-in (s .pre .0) (s .args .k) (omega arith)
+
+row-of : (s : tie.Start) → RowIn (s .args .n) (s .args .j)
+row-of s = row-in (s .pre .0) (s .args .j) (omega arith)
+
 mul-at : tie.Need-mul-at
 mul-at c =
     let s = c .before .before .before in
-    let slab = slab-in (s .pre .0) (s .args .k) (omega arith) in
-    let row = row-in (s .pre .0) (s .args .j) (omega arith) in
+    let slab = slab-of s in
+    let row = row-of s in
     omega arith
 
 mul-at-2 : tie.Need-mul-at-2
 mul-at-2 c =
     let s = c .before .before .before in
-    let slab = slab-in (s .pre .0) (s .args .k) (omega arith) in
-    let row = row-in (s .pre .0) (s .args .j) (omega arith) in
+    let slab = slab-of s in
+    let row = row-of s in
     omega arith
 
 mul-at-3 : tie.Need-mul-at-3
 mul-at-3 c =
     let s = c .before .before .before in
-    let slab = slab-in (s .pre .0) (s .args .k) (omega arith) in
-    let row = row-in (s .pre .0) (s .args .j) (omega arith) in
+    let slab = slab-of s in
+    let row = row-of s in
     omega arith
 
 add-at : tie.Need-add-at
 add-at c =
     let s = c .before .before .before in
-    let slab = slab-in (s .pre .0) (s .args .k) (omega arith) in
-    let row = row-in (s .pre .0) (s .args .j) (omega arith) in
+    let slab = slab-of s in
+    let row = row-of s in
     omega arith
 
 copy-values-requires : tie.Need-copy-values-requires
 copy-values-requires c κs =
     let s = c .before .before .before .before .before in
-    let slab = slab-in (s .pre .0) (s .args .k) (omega arith) in
-    let row = row-in (s .pre .0) (s .args .j) (omega arith) in
+    let slab = slab-of s in
+    let row = row-of s in
     (omega arith, omega arith)
 
 same-length : tie.Need-same-length
@@ -57,8 +64,8 @@ returns c =
 copy-values-requires-2 : tie.Need-copy-values-requires-2
 copy-values-requires-2 c κs =
     let s = c .before .before .before .before .before .before in
-    let slab = slab-in (s .pre .0) (s .args .k) (omega arith) in
-    let row = row-in (s .pre .0) (s .args .j) (omega arith) in
+    let slab = slab-of s in
+    let row = row-of s in
     (omega arith, omega arith)
 
 same-length-2 : tie.Need-same-length-2
@@ -75,8 +82,8 @@ add-if3 c = search needs
 copy-values-requires-3 : tie.Need-copy-values-requires-3
 copy-values-requires-3 c κs =
     let s = c .before .before .before .before .before .before .before .before in
-    let slab = slab-in (s .pre .0) (s .args .k) (omega arith) in
-    let row = row-in (s .pre .0) (s .args .j) (omega arith) in
+    let slab = slab-of s in
+    let row = row-of s in
     (omega arith, omega arith)
 
 same-length-3 : tie.Need-same-length-3
@@ -90,15 +97,15 @@ returns-3 c =
 copy-values-requires-4 : tie.Need-copy-values-requires-4
 copy-values-requires-4 c κs =
     let s = c .before .before .before .before .before .before .before .before in
-    let slab = slab-in (s .pre .0) (s .args .k) (omega arith) in
-    let row = row-in (s .pre .0) (s .args .j) (omega arith) in
+    let slab = slab-of s in
+    let row = row-of s in
     (omega arith, omega arith)
 
 add-blend-values : tie.Need-add-blend-values
 add-blend-values c =
     let s = c .before .before .before .before .before .before .before .before .before .before .before .before in
-    let slab = slab-in (s .pre .0) (s .args .k) (omega arith) in
-    let row = row-in (s .pre .0) (s .args .j) (omega arith) in
+    let slab = slab-of s in
+    let row = row-of s in
     omega arith
 
 sub-blend-values : tie.Need-sub-blend-values
@@ -107,8 +114,8 @@ sub-blend-values c = search needs
 blend-values-requires : tie.Need-blend-values-requires
 blend-values-requires c κs =
     let s = c .before .before .before .before .before .before .before .before .before .before .before .before in
-    let slab = slab-in (s .pre .0) (s .args .k) (omega arith) in
-    let row = row-in (s .pre .0) (s .args .j) (omega arith) in
+    let slab = slab-of s in
+    let row = row-of s in
     let e : length (s .args .new .now) ≡ length (s .args .old .now) = omega arith in
     record {
       x-above = omega arith;
@@ -121,8 +128,8 @@ blend-values-requires c κs =
 add-copy-values : tie.Need-add-copy-values
 add-copy-values c =
     let s = c .before .before .before .before .before .before .before .before .before .before .before .before .before .before .before .before in
-    let slab = slab-in (s .pre .0) (s .args .k) (omega arith) in
-    let row = row-in (s .pre .0) (s .args .j) (omega arith) in
+    let slab = slab-of s in
+    let row = row-of s in
     omega arith
 
 sub-copy-values : tie.Need-sub-copy-values
@@ -131,15 +138,15 @@ sub-copy-values c = search needs
 add-copy-values-2 : tie.Need-add-copy-values-2
 add-copy-values-2 c =
     let s = c .before .before .before .before .before .before .before .before .before .before .before .before .before .before .before .before in
-    let slab = slab-in (s .pre .0) (s .args .k) (omega arith) in
-    let row = row-in (s .pre .0) (s .args .j) (omega arith) in
+    let slab = slab-of s in
+    let row = row-of s in
     omega arith
 
 copy-values-requires-5 : tie.Need-copy-values-requires-5
 copy-values-requires-5 c κs =
     let s = c .before .before .before .before .before .before .before .before .before .before .before .before .before .before .before .before in
-    let slab = slab-in (s .pre .0) (s .args .k) (omega arith) in
-    let row = row-in (s .pre .0) (s .args .j) (omega arith) in
+    let slab = slab-of s in
+    let row = row-of s in
     let e : length (s .args .new .now) ≡ length (s .args .old .now) = omega arith in
     let long =
     ap length (c .before .before .before .blend-values .ensures)
