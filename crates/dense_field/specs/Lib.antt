@@ -4,6 +4,9 @@ pub mod Field
 pub mod Sampling
 pub mod Padding
 pub mod Threshold
+pub mod Filled
 pub mod Smoothing
+pub mod Slices
 pub mod Octets
 pub mod Walks
+pub mod Traces

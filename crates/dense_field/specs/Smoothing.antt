@@ -1,7 +1,8 @@
 -- Document 01: "Smoothing, per round from the old values: interior value (1 - f) × v + f × (sum / 6), sum in order i+1, i-1, j+1, j-1, k+1, k-1; others stay."
 use Prim.Native.Nat.{ℕ, zero, suc, _+_, _-_, _*_}
-use mathlib.Core.Bool.{cond}
+use mathlib.Core.Bool.{Bool, cond, _||_}
 use mathlib.Core.List.{List}
+use lib.Dec.{ltb}
 use lib.ListN.{getD}
 use lib.Ieee.{Float, binary64, add, sub, mul, div}
 use Rattle.geometry.specs.declared.Vec3i.{Vec3i}
@@ -9,7 +10,11 @@ use Rattle.geometry.specs.Index.{indicesOf}
 use Rattle.geometry.specs.Axis.{asFloat}
 use Rattle.model.specs.Part.{plusZero}
 use Rattle.model.specs.Tabulate.{tabulate}
-use Rattle.dense_field.specs.Field.{pointsOf, outside}
+use Rattle.dense_field.specs.Field.{valuesRefused, pointsOf, scratchNeeded, outside}
+
+-- cause 9: "a dense dimension 0, product above 16,777,216, values not that long, scratch shorter"
+unfoldable pub smoothRefused : Vec3i → (values scratch : ℕ) → Bool
+smoothRefused n values scratch = valuesRefused n values || ltb scratch (scratchNeeded n)
 
 -- the sum of the six neighbours of an interior point, which stands at p: a row is n.i and a slab n.i * n.j long
 unfoldable pub neighbourSum : Vec3i → List Float → ℕ → Float

@@ -1,0 +1,4 @@
+pub mod Disjunctions
+pub mod Filling
+pub mod SmoothingLaws
+pub mod WalkLaws

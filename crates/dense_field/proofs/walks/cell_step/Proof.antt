@@ -1,0 +1,67 @@
+-- `walks::cell_step` meets its contract: each test is the cause that it stands for.
+use mathlib.Core.Path.{_≡_, sym, ap₂, _∙_}
+use native.Mathlib.Omega.{arith}
+use borrow.Author.Needs.{needs}
+use borrow.Author.Tests.{lt-ltb, le-ltb}
+use Rattle.geometry.specs.Causes.{firstOf}
+use Rattle.geometry.specs.Values.{box}
+use Rattle.dense_field.specs.Walks.{cellStep, walkCell}
+use Rattle.dense_field.specs.declared.CellStep.the-variants.{Cell}
+use Rattle.dense_field.proofs.WalkLaws.{Walk, walk-passed}
+use Rattle.dense_field.proofs.walks.cell_step.Statement.{statement}
+use Rattle.dense_field.proofs.walks.cell_step.Tie as tie
+
+box-refused-requires : tie.Need-box-refused-requires
+box-refused-requires c κs = search needs
+
+returns : tie.Need-returns
+unfolding firstOf cellStep
+returns c = simp (sym (c .before .box-refused .ensures) ∙ c .if1 .taken)
+
+walk-refused-requires : tie.Need-walk-refused-requires
+walk-refused-requires c κs = search needs
+
+returns-2 : tie.Need-returns-2
+unfolding firstOf cellStep
+returns-2 c = simp (sym (c .before .before .before .box-refused .ensures) ∙ c .before .before .if1 .left, sym (c .before .walk-refused .ensures) ∙ c .if2 .taken)
+
+returns-3 : tie.Need-returns-3
+unfolding firstOf cellStep
+returns-3 c = simp (sym (c .before .before .before .before .before .before .box-refused .ensures) ∙ c .before .before .before .before .before .if1 .left, sym (c .before .before .before .before .walk-refused .ensures) ∙ c .before .before .before .if2 .left, le-ltb _ _ (c .if3 .taken))
+
+cell-min-requires : tie.Need-cell-min-requires
+cell-min-requires c κs = search needs
+
+cell-max-requires : tie.Need-cell-max-requires
+cell-max-requires c κs = search needs
+
+new-requires : tie.Need-new-requires
+new-requires c κs = search needs
+
+next-in-requires : tie.Need-next-in-requires
+next-in-requires c κs =
+    let walk = walk-passed _ _ _ (sym (c .before .before .before .before .before .before .before .walk-refused .ensures) ∙ c .before .before .before .before .before .before .if2 .left) in
+    (omega arith, omega arith, omega arith, omega arith)
+
+returns-4 : tie.Need-returns-4
+unfolding firstOf cellStep walkCell
+returns-4 c =
+    let low = c .before .before .before .cell-min .ensures in
+    let high = c .before .before .cell-max .ensures in
+    simp (sym (c .before .before .before .before .before .before .before .before .before .before .box-refused .ensures) ∙ c .before .before .before .before .before .before .before .before .before .if1 .left, sym (c .before .before .before .before .before .before .before .before .walk-refused .ensures) ∙ c .before .before .before .before .before .before .before .if2 .left, lt-ltb _ _ (c .before .before .before .before .if3 .left))
+    (ap₂ Cell (c .before .new .ensures ∙ (λ i. box (low i) (high i))) (c .next-in .ensures))
+
+pub cell-step-spec : {M : Type 1} → statement M
+cell-step-spec =
+    tie.close
+    (tie.spec
+    box-refused-requires
+    returns
+    walk-refused-requires
+    returns-2
+    returns-3
+    cell-min-requires
+    cell-max-requires
+    new-requires
+    next-in-requires
+    returns-4)

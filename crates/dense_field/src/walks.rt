@@ -1,0 +1,129 @@
+// Walks over the points and the cells of a grid that fills a box, after PointGridIter and
+// CellGridIter. The cursor goes by value: it stands at the next point or cell.
+ghost use mathlib.Core.Path.{_≡_};
+ghost use Prim.Native.Nat.{_+_, _≤_, _<_};
+ghost use Rattle.dense_field.specs.Walks.{nextIn, countRefused, walkRefused, walkPoint, walkCell, pointStep, cellStep};
+use crate::CellStep;
+use crate::PointStep;
+use geometry::BoundingBox;
+use geometry::Vec3;
+use geometry::Vec3i;
+
+// Whether a count along an axis is too small or too large.
+fn count_refused(least: usize, n: usize) -> bool
+    ensures { λ r. ⌜ r ≡ countRefused least n ⌝ }
+{
+    if n < least {
+        return true;
+    }
+    geometry::LARGEST_PRODUCT < n
+}
+
+// Whether a walk is refused: cause 11.
+fn walk_refused(least: usize, n: Vec3i, cursor: Vec3i) -> bool
+    ensures { λ r. ⌜ r ≡ walkRefused least n cursor ⌝ }
+{
+    if count_refused(least, n.i) {
+        return true;
+    }
+    if count_refused(least, n.j) {
+        return true;
+    }
+    if count_refused(least, n.k) {
+        return true;
+    }
+    if cursor.i >= n.i {
+        return true;
+    }
+    cursor.j >= n.j
+}
+
+// The cursor after this one, i fastest, then j and k.
+fn next_in(n: Vec3i, cursor: Vec3i) -> Vec3i
+    requires { ⌜ (cursor .i < n .i) × (cursor .j < n .j) × (cursor .k < n .k) × (n .i ≤ 16777216) ⌝ }
+    ensures { λ r. ⌜ r ≡ nextIn n cursor ⌝ }
+{
+    if cursor.i + 1 < n.i {
+        return Vec3i::new(cursor.i + 1, cursor.j, cursor.k);
+    }
+    if cursor.j + 1 < n.j {
+        return Vec3i::new(0, cursor.j + 1, cursor.k);
+    }
+    Vec3i::new(0, 0, cursor.k + 1)
+}
+
+// The point at a cursor. The first point of an axis is its least end and the last its most.
+fn walk_point(bounds: BoundingBox, n: Vec3i, cursor: Vec3i) -> Vec3
+    requires { ⌜ (1 ≤ n .i) × (1 ≤ n .j) × (1 ≤ n .k) ⌝ }
+    ensures { λ r. ⌜ r ≡ walkPoint bounds n cursor ⌝ }
+{
+    let min = bounds.min;
+    let max = bounds.max;
+    Vec3::new(
+        geometry::along(min.x, max.x, (n.i - 1) as u64, cursor.i as u64),
+        geometry::along(min.y, max.y, (n.j - 1) as u64, cursor.j as u64),
+        geometry::along(min.z, max.z, (n.k - 1) as u64, cursor.k as u64),
+    )
+}
+
+// The corner at which a cell begins.
+fn cell_min(bounds: BoundingBox, n: Vec3i, cursor: Vec3i) -> Vec3
+    ensures { λ r. ⌜ r ≡ walkCell bounds n cursor .min ⌝ }
+{
+    let min = bounds.min;
+    let max = bounds.max;
+    Vec3::new(
+        geometry::along(min.x, max.x, n.i as u64, cursor.i as u64),
+        geometry::along(min.y, max.y, n.j as u64, cursor.j as u64),
+        geometry::along(min.z, max.z, n.k as u64, cursor.k as u64),
+    )
+}
+
+// The corner at which a cell ends.
+fn cell_max(bounds: BoundingBox, n: Vec3i, cursor: Vec3i) -> Vec3
+    ensures { λ r. ⌜ r ≡ walkCell bounds n cursor .max ⌝ }
+{
+    let min = bounds.min;
+    let max = bounds.max;
+    Vec3::new(
+        geometry::along_end(min.x, max.x, n.i as u64, cursor.i as u64),
+        geometry::along_end(min.y, max.y, n.j as u64, cursor.j as u64),
+        geometry::along_end(min.z, max.z, n.k as u64, cursor.k as u64),
+    )
+}
+
+// The point at the cursor and the next cursor, or done past the last point, with the cursor
+// unchanged. There are n.i by n.j by n.k points.
+pub fn point_step(bounds: BoundingBox, n: Vec3i, cursor: Vec3i) -> PointStep
+    ensures { λ r. ⌜ r ≡ pointStep bounds n cursor ⌝ }
+{
+    if geometry::box_refused(bounds) {
+        return PointStep::Refused(1);
+    }
+    if walk_refused(2, n, cursor) {
+        return PointStep::Refused(11);
+    }
+    if cursor.k >= n.k {
+        return PointStep::Done(cursor);
+    }
+    PointStep::Point(walk_point(bounds, n, cursor), next_in(n, cursor))
+}
+
+// The box of the cell at the cursor and the next cursor, or done past the last cell, with the
+// cursor unchanged. There are n.i by n.j by n.k cells.
+pub fn cell_step(bounds: BoundingBox, n: Vec3i, cursor: Vec3i) -> CellStep
+    ensures { λ r. ⌜ r ≡ cellStep bounds n cursor ⌝ }
+{
+    if geometry::box_refused(bounds) {
+        return CellStep::Refused(1);
+    }
+    if walk_refused(1, n, cursor) {
+        return CellStep::Refused(11);
+    }
+    if cursor.k >= n.k {
+        return CellStep::Done(cursor);
+    }
+    let min = cell_min(bounds, n, cursor);
+    let max = cell_max(bounds, n, cursor);
+    CellStep::Cell(BoundingBox::new(min, max), next_in(n, cursor))
+}
