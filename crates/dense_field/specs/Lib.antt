@@ -1,9 +1,13 @@
 -- The rules of the dense field and of the walks, from document 01, "Dense field and walks".
 pub mod Points
 pub mod Field
+pub mod Outcomes
+pub mod Lent
 pub mod Sampling
 pub mod Padding
 pub mod Threshold
+pub mod Filled
 pub mod Smoothing
 pub mod Octets
 pub mod Walks
+pub mod Cells

@@ -1,0 +1,111 @@
+-- Stores in a row: how one stretch follows another, which elements they set, and what they leave of a whole list.
+use mathlib.Core.Path.{_≡_, refl, sym, ap, ap₂, _∙_}
+use mathlib.Core.Bool.{Bool, true, false}
+use mathlib.Core.List.{List}
+use Prim.Native.Nat.{ℕ, zero, suc, _+_, _≤_, _<_}
+use native.Mathlib.Nat.{zero-add}
+use native.Mathlib.Numerals.{add-one}
+use native.Mathlib.Omega.{arith}
+use lib.Dec.{eqb}
+use lib.ListN.{length, getD, set, length-set, replicate, length-replicate, getD-replicate}
+use lib.Seq.{ext-getD, getD-set-same, getD-set-other}
+use borrow.Author.Tests.{eqb-true, eqb-false}
+use Rattle.model.specs.Tabulate.{tabulate}
+use Rattle.model.proofs.Tables.{length-tabulate, getD-tabulate}
+use Rattle.dense_field.specs.Filled.{filled}
+
+module _ {A : Type 0} where
+  pub filled-none : (at : ℕ) (g : ℕ → A) (l : List A) → filled at 0 g l ≡ l
+  unfolding filled
+  filled-none at g l = refl
+
+  pub filled-length : (at count : ℕ) (g : ℕ → A) (l : List A) → length (filled at count g l) ≡ length l
+  unfolding filled
+  filled-length at zero g l = refl
+  filled-length at (suc count) g l = length-set (filled at count g l) (at + count) _ ∙ filled-length at count g l
+
+  -- one store more
+  pub filled-next : (at count : ℕ) (g : ℕ → A) (l : List A) → set (filled at count g l) (at + count) (g (at + count)) ≡ filled at (count + 1) g l
+  unfolding filled
+  filled-next at count g l = ap (λ (n : ℕ). filled at n g l) (sym (add-one count))
+
+  -- the same from a list that is already so far, and the last one
+  pub filled-store : (at count : ℕ) (g : ℕ → A) (l : List A) {x : List A} {v : A} → x ≡ filled at count g l → v ≡ g (at + count)
+      → set x (at + count) v ≡ filled at (count + 1) g l
+  filled-store at count g l so-far value =
+      ap₂ (λ (x : List A) (v : A). set x (at + count) v) so-far value ∙ filled-next at count g l
+
+  pub filled-done : (at : ℕ) {i count : ℕ} (g : ℕ → A) (l : List A) {x : List A} → x ≡ filled at i g l → i ≡ count → x ≡ filled at count g l
+  filled-done at g l so-far last = so-far ∙ ap (λ (n : ℕ). filled at n g l) last
+
+  -- a stretch right behind another
+  pub filled-join : (at count more : ℕ) (g : ℕ → A) (l : List A)
+      → filled (at + count) more g (filled at count g l) ≡ filled at (count + more) g l
+  unfolding filled
+  filled-join at count zero g l =
+      let none : count ≡ count + 0 = omega arith in
+      ap (λ (n : ℕ). filled at n g l) none
+  filled-join at count (suc more) g l =
+      let place : at + count + more ≡ at + (count + more) = omega arith in
+      let next : suc (count + more) ≡ count + suc more = omega arith in
+      ap₂ (λ (x : List A) (q : ℕ). set x q (g q)) (filled-join at count more g l) place
+      ∙ ap (λ (n : ℕ). filled at n g l) next
+
+  pub filled-more : (at count more : ℕ) {total : ℕ} (g : ℕ → A) (l : List A) {x y : List A} → x ≡ filled at count g l
+      → y ≡ filled (at + count) more g x → count + more ≡ total → y ≡ filled at total g l
+  filled-more at count more g l so-far next sum =
+      next ∙ ap (filled (at + count) more g) so-far ∙ filled-join at count more g l ∙ ap (λ (n : ℕ). filled at n g l) sum
+
+  -- only the values at the places of the stretch count
+  pub filled-same : (at count : ℕ) (g h : ℕ → A) (l : List A) → ((q : ℕ) → at ≤ q → q < at + count → g q ≡ h q)
+      → filled at count g l ≡ filled at count h l
+  unfolding filled
+  filled-same at zero g h l same = refl
+  filled-same at (suc count) g h l same =
+      ap₂ (λ (x : List A) (v : A). set x (at + count) v)
+      (filled-same at count g h l (λ q from below. same q from (omega arith)))
+      (same (at + count) (omega arith) (omega arith))
+
+  -- an element of the stretch
+  pub getD-filled : (at count : ℕ) (g : ℕ → A) (l : List A) (q : ℕ) (d : A) → at ≤ q → q < at + count → q < length l
+      → getD (filled at count g l) q d ≡ g q
+  unfolding filled
+  getD-filled at zero g l q d from below long = absurd (omega arith)
+  getD-filled at (suc count) g l q d from below long =
+      one (eqb q (at + count)) refl (λ earlier. getD-filled at count g l q d from earlier long)
+    where
+      one : (b : Bool) → eqb q (at + count) ≡ b → (q < at + count → getD (filled at count g l) q d ≡ g q)
+          → getD (set (filled at count g l) (at + count) (g (at + count))) q d ≡ g q
+      one true t before =
+          let last : q ≡ at + count = eqb-true q (at + count) t in
+          rw (← last) (getD-set-same (filled at count g l) q (g q) d (omega (arith, filled-length at count g l)))
+      one false t before =
+          let other : q ≡ at + count → ⊥ = eqb-false q (at + count) t in
+          let earlier : q < at + count = omega arith in
+          getD-set-other (filled at count g l) (at + count) q _ d other ∙ before earlier
+
+  -- all of a list
+  pub filled-all : (n : ℕ) (g : ℕ → A) (l : List A) (d : A) → length l ≡ n → filled 0 n g l ≡ tabulate n g
+  filled-all n g l d long =
+      ext-getD d (filled 0 n g l) (tabulate n g)
+      (filled-length 0 n g l ∙ long ∙ sym (length-tabulate n g))
+      (λ i h.
+      let below : i < n = omega (arith, filled-length 0 n g l) in
+      getD-filled 0 n g l i d (omega arith) (omega arith) (omega arith) ∙ sym (getD-tabulate n g i d below))
+
+  pub filled-constant : (n : ℕ) (v : A) (l : List A) → length l ≡ n → filled 0 n (λ q. v) l ≡ replicate n v
+  filled-constant n v l long =
+      ext-getD v (filled 0 n (λ q. v) l) (replicate n v)
+      (filled-length 0 n (λ q. v) l ∙ long ∙ sym (length-replicate n v))
+      (λ i h.
+      let below : i < n = omega (arith, filled-length 0 n (λ q. v) l) in
+      getD-filled 0 n (λ q. v) l i v (omega arith) (omega arith) (omega arith) ∙ sym (getD-replicate n i v v below))
+
+  -- all of a list by its own elements of another list of its length
+  pub filled-copy : (s l : List A) (d : A) → length l ≡ length s → filled 0 (length s) (λ q. getD s q d) l ≡ s
+  filled-copy s l d long =
+      ext-getD d (filled 0 (length s) (λ q. getD s q d) l) s
+      (filled-length 0 (length s) (λ q. getD s q d) l ∙ long)
+      (λ i h.
+      let below : i < length s = omega (arith, filled-length 0 (length s) (λ q. getD s q d) l) in
+      getD-filled 0 (length s) (λ q. getD s q d) l i d (omega arith) (omega arith) (omega arith))
