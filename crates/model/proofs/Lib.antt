@@ -3,3 +3,10 @@ pub mod InOrder
 pub mod Tables
 pub mod Values
 pub mod ReadBack
+pub mod ByCode
+pub mod FlatValues
+pub mod Accepted
+pub mod Rows
+pub mod Middle
+pub mod RowByCode
+pub mod AllRows

@@ -9,6 +9,9 @@ use Rattle.model.specs.Part.{plusZero, partIn, partValue, inputsBelow}
 use Rattle.model.specs.declared.Part.{Part}
 use Rattle.model.specs.declared.Part.the-variants.{Constant}
 use Rattle.model.specs.declared.ImplicitModel.{ImplicitModel}
+use Rattle.model.specs.declared.Evaluation.{Evaluation}
+use Rattle.model.specs.declared.Evaluation.the-variants.{Value, Refused}
+use Rattle.geometry.specs.Causes.{cause, firstOf}
 
 -- the part at a place of a list
 abbrev pub partOf : List Part → ℕ → Part
@@ -32,3 +35,8 @@ orderedTo parts (suc p) = orderedTo parts p && inputsBelow p (partOf parts p)
 -- cause 4: "part count 0 or above 64, or a part's input not below its own place"
 unfoldable pub refusedByFour : ImplicitModel → Bool
 refusedByFour m = eqb (m .count) 0 || ltb 64 (m .count) || not (orderedTo (map partIn (m .parts)) (m .count))
+
+-- what evaluating a model at a point answers: refused by 4, or its value
+unfoldable pub evaluationOf : ImplicitModel → (x y z : Float) → Evaluation
+evaluationOf m x y z =
+    firstOf (cause (refusedByFour m) 4 ∷ []) Refused (Value (modelValue (map partIn (m .parts)) (m .count) x y z))

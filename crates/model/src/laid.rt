@@ -3,85 +3,70 @@ ghost use mathlib.Core.Path.{_≡_};
 ghost use mathlib.Core.List.{map};
 ghost use Prim.Native.Nat.{_<_};
 ghost use lib.ListN.{length, set};
-ghost use Rattle.model.specs.Part.{partIn};
+ghost use Rattle.geometry.specs.Values.{vec3};
+ghost use Rattle.model.specs.Part.{plusZero, partIn};
 ghost use Rattle.model.specs.Flat.{flat, layoutOf, codeOf, firstInput, secondInput, vectorOf, numberOf};
 use super::ModelComponent;
 use super::Part;
 use geometry::Vec3;
 
-pub fn code(part: Part) -> u32
-    ensures { λ r. ⌜ r ≡ codeOf part ⌝ }
+// A part's entries.
+pub struct Entry {
+    pub code: u32,
+    pub first: u32,
+    pub second: u32,
+    pub vector: Vec3,
+    pub number: f64,
+}
+
+fn shape(code: u32, vector: Vec3, number: f64) -> Entry
+    ensures { λ r. ⌜ (r .code ≡ code) × (r .first ≡ 0) × (r .second ≡ 0) × (r .vector ≡ vector) × (r .number ≡ number) ⌝ }
 {
-    match part {
-        Part::Constant(_) => 0,
-        Part::Sphere(_, _) => 1,
-        Part::Plane(_, _) => 2,
-        Part::Min(_, _) => 3,
-        Part::Max(_, _) => 4,
-        Part::Add(_, _) => 5,
-        Part::Sub(_, _) => 6,
-        Part::Neg(_) => 7,
+    Entry {
+        code,
+        first: 0,
+        second: 0,
+        vector,
+        number,
     }
 }
 
-pub fn first_input(part: Part) -> u32
-    ensures { λ r. ⌜ r ≡ firstInput part ⌝ }
+fn operation(code: u32, first: u32, second: u32) -> Entry
+    ensures { λ r. ⌜ (r .code ≡ code) × (r .first ≡ first) × (r .second ≡ second) × (r .vector ≡ vec3 plusZero plusZero plusZero) × (r .number ≡ plusZero) ⌝ }
 {
-    match part {
-        Part::Constant(_) => 0,
-        Part::Sphere(_, _) => 0,
-        Part::Plane(_, _) => 0,
-        Part::Min(a, _) => a,
-        Part::Max(a, _) => a,
-        Part::Add(a, _) => a,
-        Part::Sub(a, _) => a,
-        Part::Neg(a) => a,
+    Entry {
+        code,
+        first,
+        second,
+        vector: Vec3 {
+            x: 0.0,
+            y: 0.0,
+            z: 0.0,
+        },
+        number: 0.0,
     }
 }
 
-pub fn second_input(part: Part) -> u32
-    ensures { λ r. ⌜ r ≡ secondInput part ⌝ }
+pub fn entries(part: Part) -> Entry
+    ensures { λ r. ⌜ (r .code ≡ codeOf part) × (r .first ≡ firstInput part) × (r .second ≡ secondInput part) × (r .vector ≡ vectorOf part) × (r .number ≡ numberOf part) ⌝ }
 {
     match part {
-        Part::Constant(_) => 0,
-        Part::Sphere(_, _) => 0,
-        Part::Plane(_, _) => 0,
-        Part::Min(_, b) => b,
-        Part::Max(_, b) => b,
-        Part::Add(_, b) => b,
-        Part::Sub(_, b) => b,
-        Part::Neg(_) => 0,
-    }
-}
-
-pub fn vector(part: Part) -> Vec3
-    ensures { λ r. ⌜ r ≡ vectorOf part ⌝ }
-{
-    let none = Vec3::new(0.0, 0.0, 0.0);
-    match part {
-        Part::Constant(_) => none,
-        Part::Sphere(centre, _) => centre,
-        Part::Plane(normal, _) => normal,
-        Part::Min(_, _) => none,
-        Part::Max(_, _) => none,
-        Part::Add(_, _) => none,
-        Part::Sub(_, _) => none,
-        Part::Neg(_) => none,
-    }
-}
-
-pub fn number(part: Part) -> f64
-    ensures { λ r. ⌜ r ≡ numberOf part ⌝ }
-{
-    match part {
-        Part::Constant(value) => value,
-        Part::Sphere(_, radius) => radius,
-        Part::Plane(_, offset) => offset,
-        Part::Min(_, _) => 0.0,
-        Part::Max(_, _) => 0.0,
-        Part::Add(_, _) => 0.0,
-        Part::Sub(_, _) => 0.0,
-        Part::Neg(_) => 0.0,
+        Part::Constant(value) => shape(
+            0,
+            Vec3 {
+                x: 0.0,
+                y: 0.0,
+                z: 0.0,
+            },
+            value,
+        ),
+        Part::Sphere(centre, radius) => shape(1, centre, radius),
+        Part::Plane(normal, offset) => shape(2, normal, offset),
+        Part::Min(a, b) => operation(3, a, b),
+        Part::Max(a, b) => operation(4, a, b),
+        Part::Add(a, b) => operation(5, a, b),
+        Part::Sub(a, b) => operation(6, a, b),
+        Part::Neg(a) => operation(7, a, 0),
     }
 }
 
@@ -106,14 +91,15 @@ pub fn store_part(
     ensures { λ _. ⌜ now (zs .exit) ≡ set (now (zs .entry)) p (vectorOf part .z) ⌝ }
     ensures { λ _. ⌜ now (ws .exit) ≡ set (now (ws .entry)) p (numberOf part) ⌝ }
 {
-    codes[p] = code(part);
-    firsts[p] = first_input(part);
-    seconds[p] = second_input(part);
-    let v = vector(part);
+    let e = entries(part);
+    let v = e.vector;
+    codes[p] = e.code;
+    firsts[p] = e.first;
+    seconds[p] = e.second;
     xs[p] = v.x;
     ys[p] = v.y;
     zs[p] = v.z;
-    ws[p] = number(part);
+    ws[p] = e.number;
 }
 
 // Writes the entries of all 64 parts. Clearing the arrays first makes their lengths known to the proof.
@@ -128,6 +114,7 @@ pub fn lay_parts(
     ws: &mut [f64; 64],
 )
     ensures { λ _. ⌜ flat (now (codes .exit)) (now (firsts .exit)) (now (seconds .exit)) (now (xs .exit)) (now (ys .exit)) (now (zs .exit)) (now (ws .exit)) ≡ layoutOf (map partIn parts) ⌝ }
+    ensures { λ _. ⌜ length parts ≡ 64 ⌝ }
 {
     *codes = [0; 64];
     *firsts = [0; 64];

@@ -2,15 +2,20 @@
 // model_component.rs.
 ghost use mathlib.Core.Path.{_≡_};
 ghost use mathlib.Core.Bool.{_&&_};
-ghost use mathlib.Core.List.{map};
-ghost use Prim.Native.Nat.{_≤_};
+ghost use mathlib.Core.List.{map, _++_};
+ghost use Prim.Native.Nat.{_≤_, min};
+ghost use lib.ListN.{length, drop};
 ghost use lib.Dec.{ltb};
 ghost use Rattle.model.specs.Part.{partIn, inputsBelow};
-ghost use Rattle.model.specs.Flat.{flat, layoutOf};
-ghost use Rattle.model.specs.Model.{orderedTo, refusedByFour};
+ghost use Rattle.model.specs.Flat.{flat, layoutOf, partsOf};
+ghost use Rattle.model.specs.Row.{evaluatedRows, modelRow};
+ghost use Rattle.model.specs.Model.{valuesTo, modelValue, orderedTo, refusedByFour, evaluationOf};
 use geometry::Vec3;
 
 mod laid; // laid.rt: a part's places in the flat arrays
+mod point; // point.rt: the parts' values at a point
+mod lanes; // lanes.rt: a part's values at a row of points
+mod row; // row.rt: all parts' values at a row of points
 
 // The most parts that a model has.
 pub const MOST_PARTS: usize = 64;
@@ -36,6 +41,12 @@ pub struct ModelComponent {
 pub struct ImplicitModel {
     pub parts: [ModelComponent; 64],
     pub count: u32,
+}
+
+// A model's value at a point, or the cause of a refusal.
+pub enum Evaluation {
+    Value(f64),
+    Refused(u32),
 }
 
 fn below(a: u32, p: usize) -> bool
@@ -110,7 +121,166 @@ pub fn lay_out(
     ws: &mut [f64; 64],
 )
     ensures { λ _. ⌜ flat (now (codes .exit)) (now (firsts .exit)) (now (seconds .exit)) (now (xs .exit)) (now (ys .exit)) (now (zs .exit)) (now (ws .exit)) ≡ layoutOf (map partIn (model .parts)) ⌝ }
+    ensures { λ _. ⌜ length (model .parts) ≡ 64 ⌝ }
 {
     let parts = model.parts;
     laid::lay_parts(parts, codes, firsts, seconds, xs, ys, zs, ws);
+}
+
+// n, or 64 where n is more.
+fn at_most_64(n: usize) -> usize
+    ensures { λ r. ⌜ r ≡ min n 64 ⌝ }
+{
+    if n < 64 { n } else { 64 }
+}
+
+// The value at a point of the first `count` parts that flat arrays of any contents stand for, 64 at most. The parts' values
+// are left in `values`, in order.
+pub fn evaluate_flat(
+    codes: &[u32; 64],
+    firsts: &[u32; 64],
+    seconds: &[u32; 64],
+    xs: &[f64; 64],
+    ys: &[f64; 64],
+    zs: &[f64; 64],
+    ws: &[f64; 64],
+    count: usize,
+    x: f64,
+    y: f64,
+    z: f64,
+    values: &mut [f64; 64],
+) -> f64
+    ensures { λ r. ⌜ r ≡ modelValue (partsOf (flat (now (codes .entry)) (now (firsts .entry)) (now (seconds .entry)) (now (xs .entry)) (now (ys .entry)) (now (zs .entry)) (now (ws .entry))) (min count 64)) (min count 64) x y z ⌝ }
+    ensures { λ _. ⌜ now (values .exit) ≡ valuesTo (partsOf (flat (now (codes .entry)) (now (firsts .entry)) (now (seconds .entry)) (now (xs .entry)) (now (ys .entry)) (now (zs .entry)) (now (ws .entry))) (min count 64)) x y z (min count 64) ++ drop (min count 64) (now (values .entry)) ⌝ }
+{
+    let m = at_most_64(count);
+    point::fill_values(codes, firsts, seconds, xs, ys, zs, ws, m, x, y, z, values);
+    if m == 0 {
+        return 0.0;
+    }
+    values[m - 1]
+}
+
+// The model's value at a point: its last part's. A model that cause 4 refuses has none.
+pub fn evaluate_at_coord(model: ImplicitModel, x: f64, y: f64, z: f64) -> Evaluation
+    ensures { λ r. ⌜ r ≡ evaluationOf model x y z ⌝ }
+{
+    if cause_four(model) {
+        return Evaluation::Refused(4);
+    }
+    let mut codes = [0u32; 64];
+    let mut firsts = [0u32; 64];
+    let mut seconds = [0u32; 64];
+    let mut xs = [0.0; 64];
+    let mut ys = [0.0; 64];
+    let mut zs = [0.0; 64];
+    let mut ws = [0.0; 64];
+    let mut values = [0.0; 64];
+    lay_out(
+        model,
+        &mut codes,
+        &mut firsts,
+        &mut seconds,
+        &mut xs,
+        &mut ys,
+        &mut zs,
+        &mut ws,
+    );
+    let count = model.count as usize;
+    let value = evaluate_flat(
+        &codes,
+        &firsts,
+        &seconds,
+        &xs,
+        &ys,
+        &zs,
+        &ws,
+        count,
+        x,
+        y,
+        z,
+        &mut values,
+    );
+    Evaluation::Value(value)
+}
+
+// The values of the first `count` parts at n points, 64 at most of each: part p's value at point i is left at p * 64 + i.
+pub fn evaluate_row(
+    codes: &[u32; 64],
+    firsts: &[u32; 64],
+    seconds: &[u32; 64],
+    xs: &[f64; 64],
+    ys: &[f64; 64],
+    zs: &[f64; 64],
+    ws: &[f64; 64],
+    count: usize,
+    px: &[f64; 64],
+    py: &[f64; 64],
+    pz: &[f64; 64],
+    n: usize,
+    values: &mut [f64; 4096],
+)
+    ensures { λ _. ⌜ now (values .exit) ≡ evaluatedRows (flat (now (codes .entry)) (now (firsts .entry)) (now (seconds .entry)) (now (xs .entry)) (now (ys .entry)) (now (zs .entry)) (now (ws .entry))) (min count 64) (min n 64) (now (px .entry)) (now (py .entry)) (now (pz .entry)) (now (values .entry)) ⌝ }
+{
+    let parts = at_most_64(count);
+    let points = at_most_64(n);
+    row::fill_parts(
+        codes,
+        firsts,
+        seconds,
+        xs,
+        ys,
+        zs,
+        ws,
+        parts,
+        px,
+        py,
+        pz,
+        points,
+        values,
+    );
+}
+
+// The same, with the model's value at each point left at the front of `results`.
+pub fn evaluate_row_into(
+    codes: &[u32; 64],
+    firsts: &[u32; 64],
+    seconds: &[u32; 64],
+    xs: &[f64; 64],
+    ys: &[f64; 64],
+    zs: &[f64; 64],
+    ws: &[f64; 64],
+    count: usize,
+    px: &[f64; 64],
+    py: &[f64; 64],
+    pz: &[f64; 64],
+    n: usize,
+    values: &mut [f64; 4096],
+    results: &mut [f64; 64],
+)
+    ensures { λ _. ⌜ now (values .exit) ≡ evaluatedRows (flat (now (codes .entry)) (now (firsts .entry)) (now (seconds .entry)) (now (xs .entry)) (now (ys .entry)) (now (zs .entry)) (now (ws .entry))) (min count 64) (min n 64) (now (px .entry)) (now (py .entry)) (now (pz .entry)) (now (values .entry)) ⌝ }
+    ensures { λ _. ⌜ now (results .exit) ≡ modelRow (flat (now (codes .entry)) (now (firsts .entry)) (now (seconds .entry)) (now (xs .entry)) (now (ys .entry)) (now (zs .entry)) (now (ws .entry))) (min count 64) (min n 64) (now (px .entry)) (now (py .entry)) (now (pz .entry)) (now (results .entry)) ⌝ }
+{
+    let parts = at_most_64(count);
+    let points = at_most_64(n);
+    row::fill_parts(
+        codes,
+        firsts,
+        seconds,
+        xs,
+        ys,
+        zs,
+        ws,
+        parts,
+        px,
+        py,
+        pz,
+        points,
+        values,
+    );
+    if parts == 0 {
+        row::clear_row(points, results);
+        return;
+    }
+    row::copy_row(values, parts - 1, points, results);
 }

@@ -109,7 +109,7 @@ returns c =
     let ys-done = laid-all yOf (a .t1) plusZero long last (c .before .loop .inv .5) in
     let zs-done = laid-all zOf (a .t1) plusZero long last (c .before .loop .inv .6) in
     let ws-done = laid-all numberOf (a .t1) plusZero long last (c .before .loop .inv .7) in
-    λ i. flat (codes-done i) (firsts-done i) (seconds-done i) (xs-done i) (ys-done i) (zs-done i) (ws-done i)
+    (λ i. flat (codes-done i) (firsts-done i) (seconds-done i) (xs-done i) (ys-done i) (zs-done i) (ws-done i), long)
 
 pub lay-parts-spec : {M : Type 1} → statement M
 lay-parts-spec =

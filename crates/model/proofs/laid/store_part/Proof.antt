@@ -1,10 +1,14 @@
 -- `laid::store_part` meets its contract: each array has its entry stored.
 use borrow.Author.Needs.{needs}
+use mathlib.Core.Path.{ap}
+use lib.ListN.{set}
+use denote.Ref.{now}
+use Rattle.geometry.specs.declared.Vec3.{Vec3}
 use Rattle.model.proofs.laid.store_part.Statement.{statement}
 use Rattle.model.proofs.laid.store_part.Tie as tie
 
-code-requires : tie.Need-code-requires
-code-requires c κs = search needs
+entries-requires : tie.Need-entries-requires
+entries-requires c κs = search needs
 
 mul-codes : tie.Need-mul-codes
 mul-codes c = search needs
@@ -12,26 +16,17 @@ mul-codes c = search needs
 element-write-codes : tie.Need-element-write-codes
 element-write-codes c = search needs
 
-first-input-requires : tie.Need-first-input-requires
-first-input-requires c κs = search needs
-
 mul-firsts : tie.Need-mul-firsts
 mul-firsts c = search needs
 
 element-write-firsts : tie.Need-element-write-firsts
 element-write-firsts c = search needs
 
-second-input-requires : tie.Need-second-input-requires
-second-input-requires c κs = search needs
-
 mul-seconds : tie.Need-mul-seconds
 mul-seconds c = search needs
 
 element-write-seconds : tie.Need-element-write-seconds
 element-write-seconds c = search needs
-
-vector-requires : tie.Need-vector-requires
-vector-requires c κs = search needs
 
 mul-xs : tie.Need-mul-xs
 mul-xs c = search needs
@@ -51,9 +46,6 @@ mul-zs c = search needs
 element-write-zs : tie.Need-element-write-zs
 element-write-zs c = search needs
 
-number-requires : tie.Need-number-requires
-number-requires c κs = search needs
-
 mul-ws : tie.Need-mul-ws
 mul-ws c = search needs
 
@@ -61,29 +53,45 @@ element-write-ws : tie.Need-element-write-ws
 element-write-ws c = search needs
 
 returns : tie.Need-returns
-returns c = ((cc), ((cc), ((cc), ((cc), ((cc), ((cc), (cc)))))))
+returns c =
+    let a = c .before .before .args in
+    let e = c .before .entries .ensures in (
+      ap (set (now (a .codes)) (a .p)) (e .0),
+      (
+        ap (set (now (a .firsts)) (a .p)) (e .1),
+        (
+          ap (set (now (a .seconds)) (a .p)) (e .2),
+          (
+            ap (λ (v : Vec3). set (now (a .xs)) (a .p) (v .x)) (e .3),
+            (
+              ap (λ (v : Vec3). set (now (a .ys)) (a .p) (v .y)) (e .3),
+              (
+                ap (λ (v : Vec3). set (now (a .zs)) (a .p) (v .z)) (e .3),
+                ap (set (now (a .ws)) (a .p)) (e .4),
+              ),
+            ),
+          ),
+        ),
+      ),
+    )
 
 pub store-part-spec : {M : Type 1} → statement M
 store-part-spec =
     tie.close
     (tie.spec
-    code-requires
+    entries-requires
     mul-codes
     element-write-codes
-    first-input-requires
     mul-firsts
     element-write-firsts
-    second-input-requires
     mul-seconds
     element-write-seconds
-    vector-requires
     mul-xs
     element-write-xs
     mul-ys
     element-write-ys
     mul-zs
     element-write-zs
-    number-requires
     mul-ws
     element-write-ws
     returns)

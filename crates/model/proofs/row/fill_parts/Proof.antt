@@ -1,0 +1,56 @@
+-- `row::fill_parts` meets its contract: the rows of the parts passed so far are filled.
+use borrow.Author.Needs.{needs}
+use mathlib.Core.Path.{_≡_, refl, ap, _∙_}
+use Prim.Native.Nat.{_-_, _≤_}
+use denote.Ref.{now}
+use Rattle.model.specs.Flat.{Flat, flat}
+use Rattle.model.proofs.AllRows.{rowsTo, rows-more, all-rows}
+use native.Mathlib.Omega.{arith}
+use Rattle.model.proofs.row.fill_parts.Statement.{statement}
+use Rattle.model.proofs.row.fill_parts.Tie as tie
+
+abbrev Inv-loop : tie.InvT-loop
+Inv-loop codes firsts seconds xs ys zs ws count px py pz n values₀ p₀ values p = (p ≤ count) × (values ≡ rowsTo (flat codes firsts seconds xs ys zs ws) n px py pz values₀ p)
+
+abbrev μ-loop : tie.MeasureT-loop
+μ-loop codes firsts seconds xs ys zs ws count px py pz n values₀ p₀ values p = count - p
+
+abbrev layout : tie.At-loop Inv-loop μ-loop → Flat
+layout c =
+    let a = c .before .args in
+    flat (now (a .codes)) (now (a .firsts)) (now (a .seconds)) (now (a .xs)) (now (a .ys)) (now (a .zs)) (now (a .ws))
+
+loop-holds : tie.Need-loop-holds Inv-loop μ-loop
+unfolding rowsTo
+loop-holds c = (omega arith, refl)
+
+fill-part-requires : tie.Need-fill-part-requires Inv-loop μ-loop
+fill-part-requires c κs = search needs
+
+add-p : tie.Need-add-p Inv-loop μ-loop
+add-p c = search needs
+
+loop-less : tie.Need-loop-less Inv-loop μ-loop
+loop-less c = search needs
+
+loop-again : tie.Need-loop-again Inv-loop μ-loop
+loop-again c =
+    let s = c .before .before .before in
+    let a = s .before .args in (
+      omega arith,
+      rows-more (layout s) (a .n) (now (a .px)) (now (a .py)) (now (a .pz)) (now (a .values)) (s .loop .p) (s .loop .inv .1) (c .fill-part .ensures),
+    )
+
+returns : tie.Need-returns Inv-loop μ-loop
+returns c =
+    let s = c .before in
+    let a = s .before .args in
+    let all : s .loop .p ≡ a .count = omega arith in
+    s .loop .inv .1
+    ∙ ap (rowsTo (layout s) (a .n) (now (a .px)) (now (a .py)) (now (a .pz)) (now (a .values))) all
+    ∙ all-rows (layout s) (a .n) (now (a .px)) (now (a .py)) (now (a .pz)) (now (a .values)) (omega arith) (a .count)
+
+pub fill-parts-spec : {M : Type 1} → statement M
+fill-parts-spec =
+    tie.close
+    (tie.spec Inv-loop μ-loop loop-holds fill-part-requires add-p loop-less loop-again returns)

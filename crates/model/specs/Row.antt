@@ -1,0 +1,40 @@
+-- Values of parts at a row of points: part p's value at lane k stands at p × 64 + k.
+use Prim.Native.Nat.{ℕ, zero, suc, _+_, _*_, _/_, _%_}
+use mathlib.Core.Bool.{cond, _&&_}
+use mathlib.Core.List.{List, _++_}
+use lib.Dec.{ltb}
+use lib.ListN.{length, getD, set, drop}
+use lib.Ieee.{Float}
+use Rattle.model.specs.Part.{past}
+use Rattle.model.specs.Model.{valuesTo, modelValue}
+use Rattle.model.specs.Tabulate.{tabulate}
+use Rattle.model.specs.Flat.{Flat, partsOf}
+
+-- the place of part p's value at lane k
+abbrev pub laneAt : (p k : ℕ) → ℕ
+laneAt p k = p * 64 + k
+
+-- row p with its first n lanes set to f 0, f 1, ..
+unfoldable pub filledRow : List Float → (p n : ℕ) → (ℕ → Float) → List Float
+filledRow values p zero f = values
+filledRow values p (suc n) f = set (filledRow values p n f) (laneAt p n) (f n)
+
+-- the values of the first p parts at lane k
+abbrev pub lane : List Float → (k p : ℕ) → List Float
+lane values k p = tabulate p (λ q. getD values (laneAt q k) past)
+
+-- the values of the first `count` parts at point k of three lists of coordinates
+abbrev pub valuesAt : Flat → ℕ → (px py pz : List Float) → ℕ → List Float
+valuesAt l count px py pz k = valuesTo (partsOf l count) (getD px k past) (getD py k past) (getD pz k past) count
+
+-- the values of `count` parts at n points, each at its place, and every other element as it was
+unfoldable pub evaluatedRows : Flat → (count n : ℕ) → (px py pz values : List Float) → List Float
+evaluatedRows l count n px py pz values =
+    tabulate (length values) (λ j. cond (ltb (j / 64) count && ltb (j % 64) n)
+    (getD (valuesAt l count px py pz (j % 64)) (j / 64) past)
+    (getD values j past))
+
+-- the model's value at each of n points, and every element past them as it was
+unfoldable pub modelRow : Flat → (count n : ℕ) → (px py pz results : List Float) → List Float
+modelRow l count n px py pz results =
+    tabulate n (λ k. modelValue (partsOf l count) count (getD px k past) (getD py k past) (getD pz k past)) ++ drop n results

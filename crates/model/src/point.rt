@@ -1,0 +1,147 @@
+// The values of parts at a point, from the flat arrays.
+ghost use mathlib.Core.Path.{_≡_};
+ghost use mathlib.Core.List.{_++_};
+ghost use Prim.Native.Nat.{_≤_, _<_};
+ghost use lib.ListN.{length, drop};
+ghost use Rattle.geometry.specs.Values.{vec3};
+ghost use Rattle.model.specs.Part.{sphereValue, planeValue, partValue};
+ghost use Rattle.model.specs.Model.{valuesTo};
+ghost use Rattle.model.specs.Flat.{flat, partFrom, placed, partAt, partsOf};
+use geometry::Vec3;
+
+// A place that an array of u32 names, as an index.
+pub fn place(a: u32) -> usize
+    ensures { λ r. ⌜ r ≡ a ⌝ }
+{
+    a as usize
+}
+
+// The distance to a sphere's centre (cx, cy, cz), less its radius.
+pub fn sphere_value(cx: f64, cy: f64, cz: f64, r: f64, x: f64, y: f64, z: f64) -> f64
+    ensures { λ v. ⌜ v ≡ sphereValue (vec3 cx cy cz) r x y z ⌝ }
+{
+    float::computed(Vec3::new(cx, cy, cz).distance_to_coord(x, y, z) - r)
+}
+
+// The plane with the normal (nx, ny, nz) and the offset d.
+pub fn plane_value(nx: f64, ny: f64, nz: f64, d: f64, x: f64, y: f64, z: f64) -> f64
+    ensures { λ v. ⌜ v ≡ planeValue (vec3 nx ny nz) d x y z ⌝ }
+{
+    float::computed(((x * nx + y * ny) + z * nz) - d)
+}
+
+// The value at a point of the part at place p, from its entries and the values of the parts before it.
+pub fn entry_value(
+    code: u32,
+    a: usize,
+    b: usize,
+    vx: f64,
+    vy: f64,
+    vz: f64,
+    w: f64,
+    p: usize,
+    x: f64,
+    y: f64,
+    z: f64,
+    values: &[f64],
+) -> f64
+    requires { ⌜ p ≤ length (now values) ⌝ }
+    ensures { λ r. ⌜ r ≡ partValue (placed p (partFrom code (vec3 vx vy vz) w a b)) x y z (now (values .entry)) ⌝ }
+{
+    if code == 0 {
+        return w;
+    }
+    if code == 1 {
+        return sphere_value(vx, vy, vz, w, x, y, z);
+    }
+    if code == 2 {
+        return plane_value(vx, vy, vz, w, x, y, z);
+    }
+    if a >= p {
+        return 0.0;
+    }
+    if code == 7 {
+        return float::computed(-values[a]);
+    }
+    if b >= p {
+        return 0.0;
+    }
+    let u = values[a];
+    let v = values[b];
+    if code == 3 {
+        return float::min(u, v);
+    }
+    if code == 4 {
+        return float::max(u, v);
+    }
+    if code == 5 {
+        return float::computed(u + v);
+    }
+    if code == 6 {
+        return float::computed(u - v);
+    }
+    0.0
+}
+
+// The value of the part at place p of the flat arrays.
+pub fn part_value(
+    codes: &[u32; 64],
+    firsts: &[u32; 64],
+    seconds: &[u32; 64],
+    xs: &[f64; 64],
+    ys: &[f64; 64],
+    zs: &[f64; 64],
+    ws: &[f64; 64],
+    p: usize,
+    x: f64,
+    y: f64,
+    z: f64,
+    values: &[f64],
+) -> f64
+    requires { ⌜ (p < 64) × (p ≤ length (now values)) ⌝ }
+    ensures { λ r. ⌜ r ≡ partValue (partAt (flat (now (codes .entry)) (now (firsts .entry)) (now (seconds .entry)) (now (xs .entry)) (now (ys .entry)) (now (zs .entry)) (now (ws .entry))) p) x y z (now (values .entry)) ⌝ }
+{
+    let a = place(firsts[p]);
+    let b = place(seconds[p]);
+    entry_value(
+        codes[p],
+        a,
+        b,
+        xs[p],
+        ys[p],
+        zs[p],
+        ws[p],
+        p,
+        x,
+        y,
+        z,
+        values,
+    )
+}
+
+// The values of the first `count` parts, in order.
+pub fn fill_values(
+    codes: &[u32; 64],
+    firsts: &[u32; 64],
+    seconds: &[u32; 64],
+    xs: &[f64; 64],
+    ys: &[f64; 64],
+    zs: &[f64; 64],
+    ws: &[f64; 64],
+    count: usize,
+    x: f64,
+    y: f64,
+    z: f64,
+    values: &mut [f64],
+)
+    requires { ⌜ (count ≤ 64) × (count ≤ length (now values)) ⌝ }
+    ensures { λ _. ⌜ now (values .exit) ≡ valuesTo (partsOf (flat (now (codes .entry)) (now (firsts .entry)) (now (seconds .entry)) (now (xs .entry)) (now (ys .entry)) (now (zs .entry)) (now (ws .entry))) count) x y z count ++ drop count (now (values .entry)) ⌝ }
+    ensures { λ _. ⌜ count ≤ length (now (values .entry)) ⌝ }
+{
+    let mut p: usize = 0;
+    while p < count {
+        let value = part_value(codes, firsts, seconds, xs, ys, zs, ws, p, x, y, z, values);
+        values[p] = value;
+        p += 1;
+    }
+}

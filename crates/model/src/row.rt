@@ -1,0 +1,180 @@
+// The values of parts at a row of points, part by part, from the flat arrays.
+ghost use mathlib.Core.Path.{_≡_};
+ghost use Prim.Native.Nat.{_≤_, _<_};
+ghost use mathlib.Core.List.{_++_};
+ghost use lib.ListN.{length, getD, drop};
+ghost use Rattle.geometry.specs.Values.{vec3};
+ghost use Rattle.model.specs.Part.{plusZero, past, partValue};
+ghost use Rattle.model.specs.Tabulate.{tabulate};
+ghost use Rattle.model.specs.Flat.{flat, partFrom, placed, partAt};
+ghost use Rattle.model.specs.Row.{laneAt, filledRow, lane, evaluatedRows};
+use super::lanes;
+use super::point;
+
+// The row of the part at place p, from its entries and the rows of the parts before it. Its inputs are tested once, and
+// each kind has its own loop.
+pub fn fill_entry(
+    code: u32,
+    a: usize,
+    b: usize,
+    vx: f64,
+    vy: f64,
+    vz: f64,
+    w: f64,
+    p: usize,
+    px: &[f64; 64],
+    py: &[f64; 64],
+    pz: &[f64; 64],
+    n: usize,
+    values: &mut [f64; 4096],
+)
+    requires { ⌜ (p < 64) × (n ≤ 64) ⌝ }
+    ensures { λ _. ⌜ now (values .exit) ≡ filledRow (now (values .entry)) p n (λ k. partValue (placed p (partFrom code (vec3 vx vy vz) w a b)) (getD (now (px .entry)) k past) (getD (now (py .entry)) k past) (getD (now (pz .entry)) k past) (lane (now (values .entry)) k p)) ⌝ }
+{
+    if code == 0 {
+        lanes::fill_constant(values, p, n, w);
+        return;
+    }
+    if code == 1 {
+        lanes::fill_sphere(values, p, n, px, py, pz, vx, vy, vz, w);
+        return;
+    }
+    if code == 2 {
+        lanes::fill_plane(values, p, n, px, py, pz, vx, vy, vz, w);
+        return;
+    }
+    if a >= p {
+        lanes::fill_constant(values, p, n, 0.0);
+        return;
+    }
+    if code == 7 {
+        lanes::fill_neg(values, p, n, a);
+        return;
+    }
+    if b >= p {
+        lanes::fill_constant(values, p, n, 0.0);
+        return;
+    }
+    if code == 3 {
+        lanes::fill_min(values, p, n, a, b);
+        return;
+    }
+    if code == 4 {
+        lanes::fill_max(values, p, n, a, b);
+        return;
+    }
+    if code == 5 {
+        lanes::fill_add(values, p, n, a, b);
+        return;
+    }
+    if code == 6 {
+        lanes::fill_sub(values, p, n, a, b);
+        return;
+    }
+    lanes::fill_constant(values, p, n, 0.0);
+}
+
+// The row of the part at place p of the flat arrays.
+pub fn fill_part(
+    codes: &[u32; 64],
+    firsts: &[u32; 64],
+    seconds: &[u32; 64],
+    xs: &[f64; 64],
+    ys: &[f64; 64],
+    zs: &[f64; 64],
+    ws: &[f64; 64],
+    p: usize,
+    px: &[f64; 64],
+    py: &[f64; 64],
+    pz: &[f64; 64],
+    n: usize,
+    values: &mut [f64; 4096],
+)
+    requires { ⌜ (p < 64) × (n ≤ 64) ⌝ }
+    ensures { λ _. ⌜ now (values .exit) ≡ filledRow (now (values .entry)) p n (λ k. partValue (partAt (flat (now (codes .entry)) (now (firsts .entry)) (now (seconds .entry)) (now (xs .entry)) (now (ys .entry)) (now (zs .entry)) (now (ws .entry))) p) (getD (now (px .entry)) k past) (getD (now (py .entry)) k past) (getD (now (pz .entry)) k past) (lane (now (values .entry)) k p)) ⌝ }
+{
+    let a = point::place(firsts[p]);
+    let b = point::place(seconds[p]);
+    fill_entry(
+        codes[p],
+        a,
+        b,
+        xs[p],
+        ys[p],
+        zs[p],
+        ws[p],
+        p,
+        px,
+        py,
+        pz,
+        n,
+        values,
+    );
+}
+
+// The rows of the first `count` parts, in order.
+pub fn fill_parts(
+    codes: &[u32; 64],
+    firsts: &[u32; 64],
+    seconds: &[u32; 64],
+    xs: &[f64; 64],
+    ys: &[f64; 64],
+    zs: &[f64; 64],
+    ws: &[f64; 64],
+    count: usize,
+    px: &[f64; 64],
+    py: &[f64; 64],
+    pz: &[f64; 64],
+    n: usize,
+    values: &mut [f64; 4096],
+)
+    requires { ⌜ (count ≤ 64) × (n ≤ 64) ⌝ }
+    ensures { λ _. ⌜ now (values .exit) ≡ evaluatedRows (flat (now (codes .entry)) (now (firsts .entry)) (now (seconds .entry)) (now (xs .entry)) (now (ys .entry)) (now (zs .entry)) (now (ws .entry))) count n (now (px .entry)) (now (py .entry)) (now (pz .entry)) (now (values .entry)) ⌝ }
+{
+    let mut p: usize = 0;
+    while p < count {
+        fill_part(
+            codes,
+            firsts,
+            seconds,
+            xs,
+            ys,
+            zs,
+            ws,
+            p,
+            px,
+            py,
+            pz,
+            n,
+            values,
+        );
+        p += 1;
+    }
+}
+
+// The first n lanes of row p, into the front of `results`.
+pub fn copy_row(values: &[f64], p: usize, n: usize, results: &mut [f64])
+    requires { ⌜ laneAt p n ≤ length (now values) ⌝ }
+    requires { ⌜ n ≤ length (now results) ⌝ }
+    ensures { λ _. ⌜ now (results .exit) ≡ tabulate n (λ k. getD (now (values .entry)) (laneAt p k) past) ++ drop n (now (results .entry)) ⌝ }
+    ensures { λ _. ⌜ laneAt p n ≤ length (now (values .entry)) ⌝ }
+{
+    let row = p * 64;
+    let mut i: usize = 0;
+    while i < n {
+        results[i] = values[row + i];
+        i += 1;
+    }
+}
+
+// +0 into the first n elements.
+pub fn clear_row(n: usize, results: &mut [f64])
+    requires { ⌜ n ≤ length (now results) ⌝ }
+    ensures { λ _. ⌜ now (results .exit) ≡ tabulate n (λ k. plusZero) ++ drop n (now (results .entry)) ⌝ }
+{
+    let mut i: usize = 0;
+    while i < n {
+        results[i] = 0.0;
+        i += 1;
+    }
+}
