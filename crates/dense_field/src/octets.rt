@@ -63,46 +63,14 @@ fn corners(origin: Vec3, cell: f64, c: Vec3i) -> [Vec3; 8]
     let y1 = corner_last(origin.y, cell, c.j);
     let z1 = corner_last(origin.z, cell, c.k);
     [
-        Vec3 {
-            x: x0,
-            y: y0,
-            z: z0,
-        },
-        Vec3 {
-            x: x1,
-            y: y0,
-            z: z0,
-        },
-        Vec3 {
-            x: x1,
-            y: y1,
-            z: z0,
-        },
-        Vec3 {
-            x: x0,
-            y: y1,
-            z: z0,
-        },
-        Vec3 {
-            x: x0,
-            y: y0,
-            z: z1,
-        },
-        Vec3 {
-            x: x1,
-            y: y0,
-            z: z1,
-        },
-        Vec3 {
-            x: x1,
-            y: y1,
-            z: z1,
-        },
-        Vec3 {
-            x: x0,
-            y: y1,
-            z: z1,
-        },
+        Vec3::new(x0, y0, z0),
+        Vec3::new(x1, y0, z0),
+        Vec3::new(x1, y1, z0),
+        Vec3::new(x0, y1, z0),
+        Vec3::new(x0, y0, z1),
+        Vec3::new(x1, y0, z1),
+        Vec3::new(x1, y1, z1),
+        Vec3::new(x0, y1, z1),
     ]
 }
 
