@@ -2,3 +2,9 @@ pub mod Disjunctions
 pub mod Filling
 pub mod SmoothingLaws
 pub mod WalkLaws
+pub mod CutLaws
+pub mod CountLaws
+pub mod Lending
+pub mod Edges
+pub mod PadLaws
+pub mod OctetLaws

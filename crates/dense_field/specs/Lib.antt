@@ -1,6 +1,8 @@
 -- The rules of the dense field and of the walks, from document 01, "Dense field and walks".
 pub mod Points
 pub mod Field
+pub mod Outcomes
+pub mod Lent
 pub mod Sampling
 pub mod Padding
 pub mod Threshold
@@ -10,3 +12,4 @@ pub mod Slices
 pub mod Octets
 pub mod Walks
 pub mod Traces
+pub mod Cells

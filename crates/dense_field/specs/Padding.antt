@@ -12,3 +12,7 @@ use Rattle.dense_field.specs.Field.{pointsOf, outside}
 
 unfoldable pub padded : Vec3i → Float → List Float → List Float
 padded n value vs = tabulate (pointsOf n) (λ p. cond (outside n (indicesOf p (n .i) (n .j))) value (getD vs p plusZero))
+
+-- the value at one place of it, for the inner functions' contracts
+unfoldable pub paddedAt : Vec3i → Float → List Float → ℕ → Float
+paddedAt n value vs p = cond (outside n (indicesOf p (n .i) (n .j))) value (getD vs p plusZero)

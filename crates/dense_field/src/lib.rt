@@ -1,15 +1,26 @@
 // The dense field and the walks over its points, cells and octets, after dense_field.rs and
 // field_iterator.rs. A field is its origin, its cell's size, its numbers of points along the axes,
 // and a lent slice of values.
+mod count;
+mod cutting;
+mod octets;
+mod pad;
 mod smoothing;
 mod walks;
+
+pub use count::point_count;
+pub use cutting::threshold;
+pub use octets::cell_corners;
+pub use octets::cell_values;
+pub use octets::octet_step;
+pub use pad::padding;
+pub use smoothing::smooth;
+pub use walks::cell_step;
+pub use walks::point_step;
 
 use geometry::BoundingBox;
 use geometry::Vec3;
 use geometry::Vec3i;
-pub use smoothing::smooth;
-pub use walks::cell_step;
-pub use walks::point_step;
 
 // How many points a field has along each axis, or the cause of a refusal.
 pub enum PointCount {

@@ -1,0 +1,118 @@
+-- `octets::walk_step` meets its contract: each test is its part of the rule, in the rule's order.
+use mathlib.Core.Path.{_≡_, refl, sym, ap, ap₂, _∙_}
+use native.Mathlib.Omega.{arith}
+use borrow.Author.Needs.{needs}
+use borrow.Author.Tests.{lt-ltb, le-ltb, eq-eqb, ne-eqb}
+use mathlib.Core.Bool.{true, false, not, cond, _||_, or-true}
+use Prim.Native.Nat.{_-_, _≤_, _<_}
+use lib.Dec.{eqb, ltb}
+use Rattle.geometry.specs.Values.{vec3i}
+use Rattle.dense_field.specs.Lent.{Lent}
+use Rattle.dense_field.specs.Walks.{octetStep, nextIn}
+use Rattle.dense_field.specs.declared.OctetStep.the-variants.{Cell}
+use Rattle.dense_field.proofs.Lending.{lent}
+use Rattle.dense_field.proofs.octets.walk_step.Statement.{statement}
+use Rattle.dense_field.proofs.octets.walk_step.Tie as tie
+
+values-refused-requires : tie.Need-values-refused-requires
+values-refused-requires c κs = search needs
+
+returns : tie.Need-returns
+unfolding octetStep
+returns c = simp (sym (c .before .values-refused .ensures) ∙ c .if1 .taken)
+
+sub-new : tie.Need-sub-new
+sub-new c =
+    let s = lent _ _ (sym (c .before .before .values-refused .ensures) ∙ c .before .if1 .left) in
+    omega arith
+
+sub-new-2 : tie.Need-sub-new-2
+sub-new-2 c =
+    let s = lent _ _ (sym (c .before .before .before .values-refused .ensures) ∙ c .before .before .if1 .left) in
+    omega arith
+
+sub-new-3 : tie.Need-sub-new-3
+sub-new-3 c =
+    let s = lent _ _ (sym (c .before .before .before .before .values-refused .ensures) ∙ c .before .before .before .if1 .left) in
+    omega arith
+
+new-requires : tie.Need-new-requires
+new-requires c κs = search needs
+
+returns-2 : tie.Need-returns-2
+unfolding octetStep
+returns-2 c =
+    let e = c .before .before .new .ensures in
+    let t = eq-eqb _ _ (sym (ap (λ v. v .i) e) ∙ c .if2 .taken) in
+    simp (sym (c .before .before .before .before .before .before .before .values-refused .ensures) ∙ c .before .before .before .before .before .before .if1 .left, t)
+
+returns-3 : tie.Need-returns-3
+unfolding octetStep
+returns-3 c =
+    let e = c .before .before .before .before .new .ensures in
+    let t = eq-eqb _ _ (sym (ap (λ v. v .j) e) ∙ c .if3 .taken) in
+    simp (sym (c .before .before .before .before .before .before .before .before .before .values-refused .ensures) ∙ c .before .before .before .before .before .before .before .before .if1 .left, t, or-true)
+
+returns-4 : tie.Need-returns-4
+unfolding octetStep
+returns-4 c =
+    let e = c .before .before .before .before .before .before .before .new .ensures in
+    let a = c .before .before .before .before .before .before .before .before .before .before .before .before .before .args in
+    let t : a .n .k - 1 ≤ a .c .k = omega (arith, ap (λ v. v .k) e) in
+    simp (sym (c .before .before .before .before .before .before .before .before .before .before .before .before .values-refused .ensures) ∙ c .before .before .before .before .before .before .before .before .before .before .before .if1 .left, le-ltb _ _ t, or-true)
+
+returns-5 : tie.Need-returns-5
+unfolding octetStep
+returns-5 c =
+    let e = c .before .before .before .before .before .before .before .before .before .before .new .ensures in
+    let a = c .before .before .before .before .before .before .before .before .before .before .before .before .before .before .before .before .args in
+    let i = ne-eqb _ _ (λ z. c .before .before .before .before .before .before .before .before .if2 .left (ap (λ v. v .i) e ∙ z)) in
+    let j = ne-eqb _ _ (λ z. c .before .before .before .before .before .before .if3 .left (ap (λ v. v .j) e ∙ z)) in
+    let k : a .c .k < a .n .k - 1 = omega (arith, ap (λ v. v .k) e) in
+    let t : a .n .i - 1 ≤ a .c .i = omega (arith, ap (λ v. v .i) e) in
+    simp (sym (c .before .before .before .before .before .before .before .before .before .before .before .before .before .before .before .values-refused .ensures) ∙ c .before .before .before .before .before .before .before .before .before .before .before .before .before .before .if1 .left, i, j, lt-ltb _ _ k, le-ltb _ _ t)
+
+returns-6 : tie.Need-returns-6
+unfolding octetStep
+returns-6 c =
+    let e = c .before .before .before .before .before .before .before .before .before .before .before .before .before .new .ensures in
+    let a = c .before .before .before .before .before .before .before .before .before .before .before .before .before .before .before .before .before .before .before .args in
+    let i = ne-eqb _ _ (λ z. c .before .before .before .before .before .before .before .before .before .before .before .if2 .left (ap (λ v. v .i) e ∙ z)) in
+    let j = ne-eqb _ _ (λ z. c .before .before .before .before .before .before .before .before .before .if3 .left (ap (λ v. v .j) e ∙ z)) in
+    let k : a .c .k < a .n .k - 1 = omega (arith, ap (λ v. v .k) e) in
+    let t : a .n .j - 1 ≤ a .c .j = omega (arith, ap (λ v. v .j) e) in
+    simp (sym (c .before .before .before .before .before .before .before .before .before .before .before .before .before .before .before .before .before .before .values-refused .ensures) ∙ c .before .before .before .before .before .before .before .before .before .before .before .before .before .before .before .before .before .if1 .left, i, j, lt-ltb _ _ k, le-ltb _ _ t, or-true)
+
+next-cell-requires : tie.Need-next-cell-requires
+next-cell-requires c κs = search needs
+
+returns-7 : tie.Need-returns-7
+unfolding octetStep
+returns-7 c =
+    let e = c .before .before .before .before .before .before .before .before .before .before .before .before .before .before .new .ensures in
+    let a = c .before .before .before .before .before .before .before .before .before .before .before .before .before .before .before .before .before .before .before .before .args in
+    let i = ne-eqb _ _ (λ z. c .before .before .before .before .before .before .before .before .before .before .before .before .if2 .left (ap (λ v. v .i) e ∙ z)) in
+    let j = ne-eqb _ _ (λ z. c .before .before .before .before .before .before .before .before .before .before .if3 .left (ap (λ v. v .j) e ∙ z)) in
+    let k : a .c .k < a .n .k - 1 = omega (arith, ap (λ v. v .k) e) in
+    let ci : a .c .i < a .n .i - 1 = omega (arith, ap (λ v. v .i) e) in
+    let cj : a .c .j < a .n .j - 1 = omega (arith, ap (λ v. v .j) e) in
+    simp (sym (c .before .before .before .before .before .before .before .before .before .before .before .before .before .before .before .before .before .before .before .values-refused .ensures) ∙ c .before .before .before .before .before .before .before .before .before .before .before .before .before .before .before .before .before .before .if1 .left, i, j, lt-ltb _ _ k, lt-ltb _ _ ci, lt-ltb _ _ cj)
+    (ap Cell (c .next-cell .ensures ∙ ap (λ v. nextIn v (a .c)) e))
+
+pub walk-step-spec : {M : Type 1} → statement M
+walk-step-spec =
+    tie.close
+    (tie.spec
+    values-refused-requires
+    returns
+    sub-new
+    sub-new-2
+    sub-new-3
+    new-requires
+    returns-2
+    returns-3
+    returns-4
+    returns-5
+    returns-6
+    next-cell-requires
+    returns-7)
