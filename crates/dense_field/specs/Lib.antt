@@ -11,3 +11,4 @@ pub mod Smoothing
 pub mod Octets
 pub mod Walks
 pub mod Cells
+pub mod Runs

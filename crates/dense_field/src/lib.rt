@@ -5,6 +5,7 @@ mod count;
 mod cutting;
 mod octets;
 mod pad;
+mod sampling;
 
 pub use count::point_count;
 pub use cutting::threshold;
@@ -15,6 +16,7 @@ pub use octets::cell_corners;
 pub use octets::cell_values;
 pub use octets::octet_step;
 pub use pad::padding;
+pub use sampling::sample;
 
 // How many points a field has along each axis, or the cause of a refusal.
 pub enum PointCount {
