@@ -8,3 +8,5 @@ pub mod Lending
 pub mod Edges
 pub mod PadLaws
 pub mod OctetLaws
+pub mod RunLaws
+pub mod SampleLaws

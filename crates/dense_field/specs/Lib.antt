@@ -13,3 +13,4 @@ pub mod Octets
 pub mod Walks
 pub mod Traces
 pub mod Cells
+pub mod Runs

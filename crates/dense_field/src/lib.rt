@@ -5,22 +5,23 @@ mod count;
 mod cutting;
 mod octets;
 mod pad;
+mod sampling;
 mod smoothing;
 mod walks;
 
 pub use count::point_count;
 pub use cutting::threshold;
+use geometry::BoundingBox;
+use geometry::Vec3;
+use geometry::Vec3i;
 pub use octets::cell_corners;
 pub use octets::cell_values;
 pub use octets::octet_step;
 pub use pad::padding;
+pub use sampling::sample;
 pub use smoothing::smooth;
 pub use walks::cell_step;
 pub use walks::point_step;
-
-use geometry::BoundingBox;
-use geometry::Vec3;
-use geometry::Vec3i;
 
 // How many points a field has along each axis, or the cause of a refusal.
 pub enum PointCount {

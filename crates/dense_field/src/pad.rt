@@ -14,7 +14,7 @@ use crate::count;
 use geometry::Vec3i;
 
 // Sets `count` values from `at` on.
-fn fill(value: f64, values: &mut [f64], at: usize, count: usize)
+pub fn fill(value: f64, values: &mut [f64], at: usize, count: usize)
     requires { ⌜ at + count ≤ length (now values) ⌝ }
     ensures { λ _. ⌜ now (values .exit) ≡ filled at count (λ _. value) (now (values .entry)) ⌝ }
 {

@@ -1,0 +1,59 @@
+-- `sample` meets its contract: a refusal changes nothing, and else each value is the model's at its point.
+use mathlib.Core.Path.{_≡_, refl, sym, ap, ap₂, _∙_}
+use borrow.Author.Needs.{needs}
+use mathlib.Core.Bool.{cond}
+use lib.Dec.{eqb}
+use lib.ListN.{length}
+use borrow.Author.Tests.{eq-eqb, ne-eqb}
+use Rattle.dense_field.specs.Runs.{sampleOutcome}
+use Rattle.dense_field.specs.declared.Outcome.the-variants.{Refused}
+use Rattle.dense_field.proofs.Lending.{lent}
+use Rattle.dense_field.proofs.SampleLaws.{Passed, passed, flat-sampled}
+use Rattle.dense_field.proofs.sampling.sample.Statement.{statement}
+use Rattle.dense_field.proofs.sampling.sample.Tie as tie
+
+sample-cause-requires : tie.Need-sample-cause-requires
+sample-cause-requires c κs = search needs
+
+returns : tie.Need-returns
+unfolding sampleOutcome
+returns c =
+    let number = c .before .sample-cause .ensures in
+    let some = ap (λ m. eqb m 0) (sym number) ∙ ne-eqb _ _ (c .if1 .taken) in
+    (rw some (ap Refused number), rw some refl)
+
+lay-out-requires : tie.Need-lay-out-requires
+lay-out-requires c κs = search needs
+
+cast-count : tie.Need-cast-count
+cast-count c = search needs
+
+sample-rows-requires : tie.Need-sample-rows-requires
+sample-rows-requires c κs =
+    let none = sym (c .before .before .before .before .before .before .before .before .before .before .before .before .before .before .before .before .before .before .before .sample-cause .ensures) ∙ c .before .before .before .before .before .before .before .before .before .before .before .before .before .before .before .before .before .before .if1 .left in
+    lent _ _ (passed _ _ _ _ _ none .right-length)
+
+same-length : tie.Need-same-length
+same-length c = search needs
+
+returns-2 : tie.Need-returns-2
+unfolding sampleOutcome
+returns-2 c =
+    let a = c .before .before .before .before .before .before .before .before .before .before .before .before .before .before .before .before .before .before .before .before .before .before .before .before .args in
+    let none = sym (c .before .before .before .before .before .before .before .before .before .before .before .before .before .before .before .before .before .before .before .before .before .before .sample-cause .ensures) ∙ c .before .before .before .before .before .before .before .before .before .before .before .before .before .before .before .before .before .before .before .before .before .if1 .left in
+    let laid = c .before .before .before .before .before .before .before .before .before .before .before .before .before .lay-out .ensures in
+    let zero = ap (λ m. eqb m 0) none in
+    let in-order = passed _ _ _ _ _ none .in-order in
+    (rw zero refl, rw zero (c .before .before .sample-rows .ensures ∙ flat-sampled (a .model) _ (a .origin) (a .cell) (a .n) in-order (laid .1) (laid .0)))
+
+pub sample-spec : {M : Type 1} → statement M
+sample-spec =
+    tie.close
+    (tie.spec
+    sample-cause-requires
+    returns
+    lay-out-requires
+    cast-count
+    sample-rows-requires
+    same-length
+    returns-2)
