@@ -4,7 +4,6 @@ use mathlib.Core.Bool.{Bool, true, false}
 use Prim.Native.Nat.{ℕ, _+_, _*_}
 use native.Mathlib.Omega.{arith}
 use borrow.Author.Tests.{ltb-false, le-ltb}
-use lib.Dec.{ltb}
 use lib.IntN.{ℤ}
 use lib.Ieee.{Float, nan, inf, fin, up, down, neg, lt, below}
 use Rattle.float.specs.Sign.{absOf}

@@ -1,7 +1,7 @@
 -- Which places of a field stand on its outside. A row is the points of one j and k, and a slab those of one k.
 use mathlib.Core.Path.{_≡_, refl, sym, ap, subst, _∙_}
-use mathlib.Core.Bool.{Bool, true, false, _||_, or-true}
-use Prim.Native.Nat.{ℕ, zero, suc, _+_, _-_, _*_, _/_, _≤_, _<_}
+use mathlib.Core.Bool.{true, false, or-true}
+use Prim.Native.Nat.{ℕ, _+_, _-_, _*_, _≤_, _<_}
 use native.Mathlib.Nat.{mul-assoc, mul-add-div-right, div-eq-of-lt, add-zero}
 use native.Mathlib.Omega.{arith}
 use lib.Dec.{eqb}

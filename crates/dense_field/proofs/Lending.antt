@@ -1,9 +1,8 @@
 -- Values that cause 9 does not refuse.
-use mathlib.Core.Path.{_≡_, refl, sym, _∙_}
+use mathlib.Core.Path.{_≡_, refl}
 use mathlib.Core.Bool.{Bool, true, false, not, _||_}
-use Prim.Native.Nat.{ℕ, _*_}
+use Prim.Native.Nat.{ℕ}
 use borrow.Author.Tests.{eqb-true, not-false}
-use lib.Dec.{eqb}
 use Rattle.geometry.specs.declared.Vec3i.{Vec3i}
 use Rattle.geometry.specs.Index.{dimensionsRefused}
 use Rattle.geometry.proofs.Grid.{Accepted, accepted}

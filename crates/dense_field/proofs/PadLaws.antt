@@ -1,5 +1,5 @@
 -- Padding a stretch of a field: all of an outer slab or row, the two ends of an inner row, and one stretch behind another.
-use mathlib.Core.Path.{_≡_, refl, sym, ap, subst, _∙_}
+use mathlib.Core.Path.{_≡_, refl, sym, ap, _∙_}
 use mathlib.Core.Bool.{Bool, true, false, cond}
 use mathlib.Core.List.{List}
 use Prim.Native.Nat.{ℕ, zero, suc, _+_, _-_, _*_, _≤_, _<_}
@@ -11,15 +11,13 @@ use lib.Seq.{ext-getD, getD-set-same, getD-set-other}
 use lib.Ieee.{Float}
 use borrow.Author.Tests.{eqb-true, eqb-false, ltb-true, ltb-false}
 use Rattle.geometry.specs.declared.Vec3i.{Vec3i}
-use Rattle.geometry.specs.Index.{indicesOf}
 use Rattle.model.specs.Part.{plusZero}
-use Rattle.model.specs.Tabulate.{tabulate}
-use Rattle.dense_field.specs.Field.{pointsOf, onEdge, outside}
+use Rattle.dense_field.specs.Field.{pointsOf, outside}
 use Rattle.dense_field.specs.Filled.{filled}
 use Rattle.dense_field.specs.Lent.{Lent}
 use Rattle.dense_field.specs.Padding.{padded, paddedAt}
 use Rattle.dense_field.proofs.Filling.{filled-length, filled-same, filled-more, getD-filled, filled-all}
-use Rattle.dense_field.proofs.Edges.{rowFrom, pointAt, edge-first, edge-last, outer-slab, outer-row, row-end, row-inner}
+use Rattle.dense_field.proofs.Edges.{rowFrom, pointAt, edge-first, edge-last, row-end, row-inner}
 
 -- an element outside of a stretch is as it was
 pub getD-unfilled : {A : Type 0} (at count : ℕ) (g : ℕ → A) (l : List A) (q : ℕ) (d : A) → (at ≤ q → at + count ≤ q)

@@ -1,14 +1,13 @@
 -- Sampling a run of a row, and the rows of a field.
-use mathlib.Core.Path.{_≡_, refl, sym, ap, subst, _∙_}
-use mathlib.Core.List.{List, _++_}
+use mathlib.Core.Path.{_≡_, sym, ap, _∙_}
+use mathlib.Core.List.{List}
 use Prim.Native.Nat.{ℕ, min, _+_, _-_, _*_, _/_, _%_, _≤_, _<_}
-use native.Mathlib.Nat.{min-eq-left, mul-assoc, mul-comm, div-add-mod', mod-lt, div-lt-iff-lt-mul, le-mul-of-pos-right, mul-le-mul-right, add-zero}
+use native.Mathlib.Nat.{min-eq-left, mul-assoc, mul-comm, div-add-mod', mod-lt, div-lt-iff-lt-mul, le-mul-of-pos-right, mul-le-mul-right}
 use native.Mathlib.Omega.{arith}
 use lib.ListN.{length, getD, drop, replicate, length-replicate, length-append, length-drop, List·getD-append}
-use lib.Ieee.{Float, nan}
+use lib.Ieee.{Float}
 use Rattle.geometry.specs.declared.Vec3.{Vec3}
 use Rattle.geometry.specs.declared.Vec3i.{Vec3i}
-use Rattle.geometry.specs.Values.{vec3i}
 use Rattle.model.specs.Part.{plusZero, past}
 use Rattle.model.specs.Flat.{Flat, partsOf}
 use Rattle.model.specs.Model.{modelValue}

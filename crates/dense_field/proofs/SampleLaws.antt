@@ -1,7 +1,7 @@
 -- A field that sampling does not refuse, and its values from the model's flat layout.
-use mathlib.Core.Path.{_≡_, refl, sym, ap, _∙_}
+use mathlib.Core.Path.{_≡_, refl}
 use mathlib.Core.Bool.{Bool, true, false, cond, _||_}
-use mathlib.Core.List.{List, map}
+use mathlib.Core.List.{map}
 use Prim.Native.Nat.{ℕ, min}
 use native.Mathlib.Omega.{arith}
 use lib.ListN.{length}

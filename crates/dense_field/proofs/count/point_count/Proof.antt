@@ -1,13 +1,12 @@
 -- `count::point_count` meets its contract: dimensions that are cut off right above the largest product are refused where the whole ones are, and are those where they pass.
-use mathlib.Core.Path.{_≡_, refl, sym, ap, ap₂, _∙_}
+use mathlib.Core.Path.{sym, ap, _∙_}
 use borrow.Author.Needs.{needs}
-use mathlib.Core.Bool.{_||_, or-true}
 use Rattle.geometry.specs.Causes.{firstOf}
 use Rattle.geometry.specs.Values.{vec3i}
 use Rattle.geometry.specs.Index.{dimensionsRefused}
-use Rattle.dense_field.specs.Points.{pointCountOf, pointCounts, pointsAlong}
+use Rattle.dense_field.specs.Points.{pointCountOf, pointCounts}
 use Rattle.dense_field.specs.declared.PointCount.the-variants.{Points}
-use Rattle.dense_field.proofs.CountLaws.{capped, capped-passes, capped-refused}
+use Rattle.dense_field.proofs.CountLaws.{capped-passes, capped-refused}
 use Rattle.dense_field.proofs.count.point_count.Statement.{statement}
 use Rattle.dense_field.proofs.count.point_count.Tie as tie
 

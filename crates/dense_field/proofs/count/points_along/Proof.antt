@@ -1,5 +1,5 @@
 -- `count::points_along` meets its contract: one point more than the steps.
-use mathlib.Core.Path.{_≡_, refl, sym, ap, ap₂, _∙_}
+use mathlib.Core.Path.{ap}
 use native.Mathlib.Omega.{arith}
 use borrow.Author.Needs.{needs}
 use lib.Ieee.{toUnsigned}

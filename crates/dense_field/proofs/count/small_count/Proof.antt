@@ -1,10 +1,8 @@
 -- `count::small_count` meets its contract: below 2 ^ 24 the cast gives the count, and from there on the answer is 2 ^ 24.
-use mathlib.Core.Path.{_≡_, sym, _∙_, subst}
+use mathlib.Core.Path.{sym, subst}
 use native.Mathlib.Omega.{arith}
-use borrow.Author.Needs.{needs}
-use mathlib.Core.Bool.{true}
 use lib.Dec.{T}
-use lib.Ieee.{neg, ofBits, toUnsigned}
+use lib.Ieee.{neg, ofBits}
 use Rattle.dense_field.proofs.CountLaws.{below-most, count-below, count-none, count-nan, count-most}
 use Rattle.dense_field.proofs.count.small_count.Statement.{statement}
 use Rattle.dense_field.proofs.count.small_count.Tie as tie

@@ -1,9 +1,7 @@
 -- `count::values_refused` meets its contract: the product is taken once it is known to be small.
-use mathlib.Core.Path.{_≡_, refl, sym, ap, ap₂, _∙_}
+use mathlib.Core.Path.{sym, _∙_}
 use native.Mathlib.Omega.{arith}
 use borrow.Author.Needs.{needs}
-use mathlib.Core.Bool.{Bool, true, false, not, _||_}
-use borrow.Author.Tests.{eq-eqb, ne-eqb}
 use Rattle.geometry.proofs.Grid.{Accepted, accepted, area-le}
 use Rattle.dense_field.specs.Field.{valuesRefused}
 use Rattle.dense_field.proofs.count.values_refused.Statement.{statement}

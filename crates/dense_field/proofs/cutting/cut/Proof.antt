@@ -1,7 +1,4 @@
 -- `cutting::cut` meets its contract: the two comparisons are the one of |v|.
-use mathlib.Core.Path.{_≡_, refl, sym, ap, ap₂, _∙_}
-use borrow.Author.Needs.{needs}
-use lib.Ieee.{ofBits}
 use Rattle.dense_field.specs.Threshold.{cut}
 use Rattle.dense_field.proofs.CutLaws.{both-below, not-below, minus-not-below}
 use Rattle.dense_field.proofs.cutting.cut.Statement.{statement}

@@ -1,8 +1,6 @@
 -- `threshold` meets its contract: a refusal changes nothing, and else every value is cut.
-use mathlib.Core.Path.{_≡_, refl, sym, ap, ap₂, _∙_}
+use mathlib.Core.Path.{refl, sym, _∙_}
 use borrow.Author.Needs.{needs}
-use mathlib.Core.List.{map}
-use lib.ListN.{length}
 use Rattle.geometry.specs.Causes.{firstOf}
 use Rattle.dense_field.specs.Outcomes.{outcomeOf}
 use Rattle.dense_field.specs.Threshold.{cut}

@@ -1,11 +1,9 @@
 -- `cell_corners` meets its contract: the corners where no cause applies.
-use mathlib.Core.Path.{_≡_, refl, sym, ap, ap₂, _∙_}
+use mathlib.Core.Path.{sym, ap, _∙_}
 use borrow.Author.Needs.{needs}
-use borrow.Author.Tests.{lt-ltb, le-ltb, eq-eqb, ne-eqb}
-use mathlib.Core.Bool.{cond}
+use borrow.Author.Tests.{eq-eqb, ne-eqb}
 use lib.Dec.{eqb}
 use Rattle.dense_field.specs.Cells.{cellCornersOf, noPoints}
-use Rattle.dense_field.specs.Octets.{cornersOf}
 use Rattle.dense_field.proofs.octets.cell_corners.Statement.{statement}
 use Rattle.dense_field.proofs.octets.cell_corners.Tie as tie
 

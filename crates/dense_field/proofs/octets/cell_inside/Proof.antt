@@ -1,10 +1,9 @@
 -- `octets::cell_inside` meets its contract: an index that is not below its dimension has no point after it.
-use mathlib.Core.Path.{_≡_, refl, sym, ap, ap₂, _∙_}
-use mathlib.Core.Bool.{_&&_, and-false}
-use Prim.Native.Nat.{_+_, _≤_, _<_}
+use mathlib.Core.Bool.{and-false}
+use Prim.Native.Nat.{_+_, _≤_}
 use native.Mathlib.Omega.{arith}
 use borrow.Author.Needs.{needs}
-use borrow.Author.Tests.{lt-ltb, le-ltb, eq-eqb, ne-eqb}
+use borrow.Author.Tests.{lt-ltb, le-ltb}
 use Rattle.dense_field.specs.Octets.{cellInside}
 use Rattle.dense_field.proofs.OctetLaws.{and-third}
 use Rattle.dense_field.proofs.octets.cell_inside.Statement.{statement}

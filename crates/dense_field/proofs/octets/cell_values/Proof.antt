@@ -1,12 +1,9 @@
 -- `cell_values` meets its contract: the octet where no cause applies.
-use mathlib.Core.Path.{_≡_, refl, sym, ap, ap₂, _∙_}
+use mathlib.Core.Path.{sym, ap, _∙_}
 use borrow.Author.Needs.{needs}
-use borrow.Author.Tests.{lt-ltb, le-ltb, eq-eqb, ne-eqb}
-use native.Mathlib.Omega.{arith}
-use mathlib.Core.Bool.{cond}
+use borrow.Author.Tests.{eq-eqb, ne-eqb}
 use lib.Dec.{eqb}
 use Rattle.dense_field.specs.Cells.{cellValuesOf, noValues}
-use Rattle.dense_field.specs.Octets.{octetOf}
 use Rattle.dense_field.specs.Lent.{Lent}
 use Rattle.dense_field.proofs.OctetLaws.{Inside, Found, found}
 use Rattle.dense_field.proofs.octets.cell_values.Statement.{statement}

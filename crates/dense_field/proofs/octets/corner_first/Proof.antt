@@ -1,5 +1,5 @@
 -- `octets::corner_first` meets its contract.
-use mathlib.Core.Path.{_≡_, refl, sym, ap, ap₂, _∙_}
+use mathlib.Core.Path.{_∙_}
 use borrow.Author.Needs.{needs}
 use lib.Ieee.{binary64, add, mul}
 use Rattle.dense_field.specs.Octets.{cornerIndex}

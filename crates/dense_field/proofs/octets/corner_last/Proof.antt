@@ -1,5 +1,5 @@
 -- `octets::corner_last` meets its contract: one is added to the index as a float.
-use mathlib.Core.Path.{_≡_, refl, sym, ap, ap₂, _∙_}
+use mathlib.Core.Path.{_≡_, refl, _∙_}
 use borrow.Author.Needs.{needs}
 use lib.Ieee.{binary64, add, mul, ofBits, ofInt}
 use Rattle.geometry.specs.Axis.{asFloat}

@@ -1,5 +1,5 @@
 -- `octets::corners` meets its contract: the six coordinates in octet order.
-use mathlib.Core.Path.{_≡_, refl, sym, ap, ap₂, _∙_}
+use mathlib.Core.Path.{_∙_}
 use borrow.Author.Needs.{needs}
 use mathlib.Core.List.{[], _∷_}
 use Rattle.geometry.specs.Values.{vec3}

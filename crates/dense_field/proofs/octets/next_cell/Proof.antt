@@ -1,8 +1,6 @@
 -- `octets::next_cell` meets its contract.
-use mathlib.Core.Path.{_≡_, refl, sym, ap, ap₂, _∙_}
 use borrow.Author.Needs.{needs}
-use borrow.Author.Tests.{lt-ltb, le-ltb, eq-eqb, ne-eqb}
-use mathlib.Core.Bool.{cond}
+use borrow.Author.Tests.{lt-ltb, le-ltb}
 use Rattle.dense_field.specs.Walks.{nextIn}
 use Rattle.dense_field.proofs.octets.next_cell.Statement.{statement}
 use Rattle.dense_field.proofs.octets.next_cell.Tie as tie

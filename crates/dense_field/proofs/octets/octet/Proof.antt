@@ -1,8 +1,5 @@
 -- `octets::octet` meets its contract: the eight places stand in the field, and are those of the octet.
-use mathlib.Core.Path.{_≡_, refl, sym, ap, ap₂, _∙_}
 use native.Mathlib.Omega.{arith}
-use borrow.Author.Needs.{needs}
-use lib.ListN.{length}
 use Rattle.dense_field.specs.Lent.{Lent}
 use Rattle.dense_field.proofs.OctetLaws.{Inside, Reach, reach, octet-read}
 use Rattle.dense_field.proofs.octets.octet.Statement.{statement}

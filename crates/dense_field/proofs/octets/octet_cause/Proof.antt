@@ -1,5 +1,5 @@
 -- `octets::octet_cause` meets its contract.
-use mathlib.Core.Path.{_≡_, refl, sym, ap, ap₂, _∙_}
+use mathlib.Core.Path.{sym, _∙_}
 use borrow.Author.Needs.{needs}
 use Rattle.geometry.specs.Causes.{firstOf}
 use Rattle.dense_field.specs.Cells.{octetCause}

@@ -1,12 +1,10 @@
 -- `octet_step` meets its contract: a cell comes with its octet, and any other step with zeros.
-use mathlib.Core.Path.{_≡_, refl, sym, ap, ap₂, _∙_}
+use mathlib.Core.Path.{_≡_, refl, sym, ap, _∙_}
 use borrow.Author.Needs.{needs}
 use mathlib.Core.Logic.{_⊎_, ⊎-elim}
-use lib.ListN.{length}
 use Rattle.dense_field.specs.Cells.{octetWalkOf, stepValues, noValues}
 use Rattle.dense_field.specs.Lent.{Lent}
 use Rattle.dense_field.specs.Octets.{octetOf}
-use Rattle.dense_field.specs.Walks.{octetStep}
 use Rattle.dense_field.proofs.OctetLaws.{Inside, Found, stepped}
 use mathlib.Core.List.{List}
 use native.Mathlib.Omega.{arith}

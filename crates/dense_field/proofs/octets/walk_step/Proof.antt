@@ -1,12 +1,10 @@
 -- `octets::walk_step` meets its contract: each test is its part of the rule, in the rule's order.
-use mathlib.Core.Path.{_≡_, refl, sym, ap, ap₂, _∙_}
+use mathlib.Core.Path.{sym, ap, _∙_}
 use native.Mathlib.Omega.{arith}
 use borrow.Author.Needs.{needs}
 use borrow.Author.Tests.{lt-ltb, le-ltb, eq-eqb, ne-eqb}
-use mathlib.Core.Bool.{true, false, not, cond, _||_, or-true}
+use mathlib.Core.Bool.{or-true}
 use Prim.Native.Nat.{_-_, _≤_, _<_}
-use lib.Dec.{eqb, ltb}
-use Rattle.geometry.specs.Values.{vec3i}
 use Rattle.dense_field.specs.Lent.{Lent}
 use Rattle.dense_field.specs.Walks.{octetStep, nextIn}
 use Rattle.dense_field.specs.declared.OctetStep.the-variants.{Cell}

@@ -1,8 +1,8 @@
 -- `pad::fill` meets its contract: at each turn the first i values of the stretch are set.
-use mathlib.Core.Path.{_≡_, refl, sym, ap, ap₂, _∙_}
+use mathlib.Core.Path.{_≡_, refl, sym, ap, _∙_}
 use native.Mathlib.Omega.{arith}
 use borrow.Author.Needs.{needs}
-use Prim.Native.Nat.{_+_, _≤_, _-_}
+use Prim.Native.Nat.{_≤_, _-_}
 use lib.ListN.{length}
 use Rattle.dense_field.specs.Filled.{filled}
 use Rattle.dense_field.proofs.Filling.{filled-none, filled-length, filled-store, filled-done}

@@ -1,8 +1,7 @@
 -- `pad::pad_row` meets its contract: an outer row is set whole, and an inner one at its two ends.
-use mathlib.Core.Path.{_≡_, refl, sym, ap, ap₂, _∙_}
 use native.Mathlib.Omega.{arith}
 use borrow.Author.Needs.{needs}
-use lib.ListN.{length, length-set}
+use lib.ListN.{length-set}
 use Rattle.dense_field.specs.Lent.{Lent}
 use Rattle.dense_field.proofs.Edges.{edge-first, edge-last, outer-row}
 use Rattle.dense_field.proofs.PadLaws.{Within, within, outer-stretch, inner-row}

@@ -1,10 +1,9 @@
 -- `pad::pad_slab` meets its contract: an outer slab is set whole, and of an inner one the rows before j are padded.
-use mathlib.Core.Path.{_≡_, refl, sym, ap, ap₂, _∙_}
+use mathlib.Core.Path.{_≡_, sym, ap, _∙_}
 use native.Mathlib.Omega.{arith}
 use borrow.Author.Needs.{needs}
 use Prim.Native.Nat.{_+_, _*_, _-_, _≤_}
 use native.Mathlib.Nat.{mul-comm}
-use native.Mathlib.Omega.{arith}
 use lib.ListN.{length}
 use Rattle.dense_field.specs.Lent.{Lent}
 use Rattle.dense_field.specs.Filled.{filled}

@@ -1,12 +1,11 @@
 -- `pad::pad_slabs` meets its contract: the slabs before k are padded.
-use mathlib.Core.Path.{_≡_, refl, sym, ap, ap₂, _∙_}
+use mathlib.Core.Path.{_≡_, sym, ap, _∙_}
 use native.Mathlib.Omega.{arith}
 use borrow.Author.Needs.{needs}
 use Prim.Native.Nat.{_+_, _*_, _-_, _≤_}
 use native.Mathlib.Nat.{mul-comm}
 use lib.ListN.{length}
 use Rattle.dense_field.specs.Lent.{Lent}
-use Rattle.dense_field.specs.Field.{pointsOf}
 use Rattle.dense_field.specs.Filled.{filled}
 use Rattle.dense_field.specs.Padding.{paddedAt}
 use Rattle.dense_field.proofs.Filling.{filled-none, filled-length, filled-done}

@@ -1,7 +1,6 @@
 -- `padding` meets its contract: a refusal changes nothing, and else the outside is set.
-use mathlib.Core.Path.{_≡_, refl, sym, ap, ap₂, _∙_}
+use mathlib.Core.Path.{refl, sym, _∙_}
 use borrow.Author.Needs.{needs}
-use lib.ListN.{length}
 use Rattle.geometry.specs.Causes.{firstOf}
 use Rattle.dense_field.specs.Outcomes.{outcomeOf}
 use Rattle.dense_field.proofs.Lending.{lent}

@@ -1,5 +1,4 @@
 -- `sampling::axis_point` meets its contract.
-use mathlib.Core.Path.{_≡_, refl, sym, ap, ap₂, _∙_}
 use borrow.Author.Needs.{needs}
 use lib.Ieee.{binary64, add, mul}
 use Rattle.dense_field.proofs.sampling.axis_point.Statement.{statement}

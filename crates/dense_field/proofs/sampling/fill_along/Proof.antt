@@ -1,10 +1,9 @@
 -- `sampling::fill_along` meets its contract: at each turn the first t places are set.
-use mathlib.Core.Path.{_≡_, refl, sym, ap, ap₂, _∙_}
+use mathlib.Core.Path.{_≡_, sym, ap, _∙_}
 use native.Mathlib.Omega.{arith}
 use borrow.Author.Needs.{needs}
 use lib.Ieee.{Float}
 use Prim.Native.Nat.{ℕ, _+_, _≤_, _-_}
-use native.Mathlib.Nat.{zero-add}
 use lib.ListN.{length, set}
 use Rattle.dense_field.specs.Filled.{filled}
 use Rattle.dense_field.specs.Runs.{axisPoint}

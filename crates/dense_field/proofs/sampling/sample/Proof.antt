@@ -1,10 +1,8 @@
 -- `sample` meets its contract: a refusal changes nothing, and else each value is the model's at its point.
-use mathlib.Core.Path.{_≡_, refl, sym, ap, ap₂, _∙_}
+use mathlib.Core.Path.{refl, sym, ap, _∙_}
 use borrow.Author.Needs.{needs}
-use mathlib.Core.Bool.{cond}
 use lib.Dec.{eqb}
-use lib.ListN.{length}
-use borrow.Author.Tests.{eq-eqb, ne-eqb}
+use borrow.Author.Tests.{ne-eqb}
 use Rattle.dense_field.specs.Runs.{sampleOutcome}
 use Rattle.dense_field.specs.declared.Outcome.the-variants.{Refused}
 use Rattle.dense_field.proofs.Lending.{lent}

@@ -1,7 +1,6 @@
 -- `sampling::sample_cause` meets its contract: each test is the cause that it stands for.
-use mathlib.Core.Path.{_≡_, refl, sym, ap, ap₂, _∙_}
+use mathlib.Core.Path.{sym, _∙_}
 use borrow.Author.Needs.{needs}
-use mathlib.Core.Bool.{_||_, or-true}
 use Rattle.geometry.specs.Causes.{firstOf}
 use Rattle.dense_field.specs.Runs.{sampleCause}
 use Rattle.dense_field.proofs.sampling.sample_cause.Statement.{statement}

@@ -1,10 +1,9 @@
 -- `sampling::sample_row` meets its contract: at each turn the first i points of the row are sampled.
-use mathlib.Core.Path.{_≡_, refl, sym, ap, ap₂, _∙_}
+use mathlib.Core.Path.{_≡_, refl, sym, ap, _∙_}
 use native.Mathlib.Omega.{arith}
 use borrow.Author.Needs.{needs}
 use Prim.Native.Nat.{min, _+_, _*_, _≤_, _-_}
 use lib.ListN.{length}
-use Rattle.geometry.specs.Values.{vec3i}
 use Rattle.model.specs.Flat.{flat}
 use Rattle.dense_field.specs.Lent.{Lent}
 use Rattle.dense_field.specs.Filled.{filled}

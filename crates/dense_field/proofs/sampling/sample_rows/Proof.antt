@@ -1,5 +1,5 @@
 -- `sampling::sample_rows` meets its contract: at each turn the first r rows are sampled.
-use mathlib.Core.Path.{_≡_, refl, sym, ap, ap₂, _∙_}
+use mathlib.Core.Path.{_≡_, sym, ap, _∙_}
 use native.Mathlib.Omega.{arith}
 use borrow.Author.Needs.{needs}
 use Prim.Native.Nat.{min, _+_, _*_, _≤_, _-_}
