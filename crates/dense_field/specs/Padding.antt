@@ -10,9 +10,9 @@ use Rattle.model.specs.Part.{plusZero}
 use Rattle.model.specs.Tabulate.{tabulate}
 use Rattle.dense_field.specs.Field.{pointsOf, outside}
 
-unfoldable pub padded : Vec3i → Float → List Float → List Float
-padded n value vs = tabulate (pointsOf n) (λ p. cond (outside n (indicesOf p (n .i) (n .j))) value (getD vs p plusZero))
-
--- the value at one place of it, for the inner functions' contracts
+-- the value at one place
 unfoldable pub paddedAt : Vec3i → Float → List Float → ℕ → Float
 paddedAt n value vs p = cond (outside n (indicesOf p (n .i) (n .j))) value (getD vs p plusZero)
+
+unfoldable pub padded : Vec3i → Float → List Float → List Float
+padded n value vs = tabulate (pointsOf n) (paddedAt n value vs)
