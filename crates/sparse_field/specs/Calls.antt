@@ -1,0 +1,35 @@
+-- What open, step and drop hand back and leave in the lent slices, for every record and memory.
+use Prim.Native.Nat.{ℕ}
+use mathlib.Core.List.{List}
+use lib.Ieee.{Float}
+use Rattle.schedule.specs.Schedule.{Memory}
+use Rattle.schedule.specs.Calls as calls
+use Rattle.schedule.specs.Engine.{Engine, engineCall}
+use Rattle.sparse_field.specs.declared.Record.{Record}
+use Rattle.sparse_field.specs.declared.Answer.{Answer}
+use Rattle.sparse_field.specs.declared.Answer.the-variants.{Accepted, Refused}
+use Rattle.sparse_field.specs.declared.Outcome.{Outcome}
+use Rattle.sparse_field.specs.Records.{sparse, recordIn, recordOut}
+
+-- the memory that five slices hold
+abbrev pub memoryOf : (kinds : List ℕ) (numbers : List Float) (places : List ℕ) (store corners : List Float) → Memory
+memoryOf kinds numbers places store corners =
+    record { kinds = kinds; numbers = numbers; places = places; store = store; corners = corners }
+
+-- what a call hands back, and the memory after it
+pub record Handed : Type 0 where
+  pub outcome : Outcome
+  pub memory : Memory
+
+-- what the engine's outcome is in the code: a refused call hands back the record that it was given
+abbrev pub handed : Record → calls.Answer → Engine sparse → Handed
+handed r calls.accepted e =
+    record { outcome = record { answer = Accepted; next = recordOut (e .jobRecord) }; memory = e .memory }
+handed r (calls.refused n) e =
+    record { outcome = record { answer = Refused n; next = r }; memory = e .memory }
+
+-- a call on a record and a memory
+unfoldable pub called : calls.Call sparse → Record → Memory → Handed
+called c r m =
+    let o = engineCall sparse c (record { jobRecord = recordIn r; memory = m }) in
+    handed r (o .answer) (o .next)

@@ -1,0 +1,6 @@
+-- The sparse field: the plan of an input, the record, and what open, step and drop do.
+pub mod Plan
+pub mod Runs
+pub mod CornerRun
+pub mod Records
+pub mod Calls

@@ -1,0 +1,57 @@
+-- Document 01, "Sparse field": the plan of an input, all that its schedule uses of it.
+use Prim.Native.Nat.{ℕ, _+_}
+use mathlib.Core.Bool.{cond}
+use mathlib.Core.List.{List, map}
+use lib.Ieee.{Float}
+use Rattle.geometry.specs.declared.Vec3.{Vec3}
+use Rattle.geometry.specs.declared.BoundingBox.{BoundingBox}
+use Rattle.model.specs.declared.ImplicitModel.{ImplicitModel}
+use Rattle.model.specs.Part.{partIn}
+use Rattle.model.specs.Model.{modelValue}
+use Rattle.grid.specs.declared.Grid.{Grid}
+use Rattle.grid.specs.declared.Band.{Band}
+use Rattle.grid.specs.Blocks.{cube}
+use Rattle.grid.specs.Nodes.{nodesOf}
+use Rattle.grid.specs.Boxes as boxes
+use Rattle.grid.specs.Corners as corners
+use Rattle.grid.specs.Leaves.{leafPoint}
+use Rattle.grid.specs.Pruning as pruning
+use Rattle.schedule.specs.Schedule.{Plan, Decision, constant, leaf}
+use Rattle.sparse_field.specs.declared.Input.{Input}
+
+-- "an active child becomes constant exactly when hi + h < min_val or lo - h > max_val, else a leaf. A constant is (0 + c0 + .. + c7) / 8": by its box and its octet's values
+unfoldable pub decideOf : Band → BoundingBox → List Float → Decision
+decideOf band b octet =
+    cond (pruning.pruned (band .min) (band .max) (pruning.lowest octet) (pruning.highest octet) (pruning.halfDiagonal b))
+    (constant 1 (pruning.average octet))
+    leaf
+
+-- a function's value at a point
+abbrev pub at : (Float → Float → Float → Float) → Vec3 → Float
+at value p = value (p .x) (p .y) (p .z)
+
+-- the box of child c of node v
+unfoldable pub boxOf : Grid → (v c : ℕ) → BoundingBox
+boxOf g v c = boxes.childBox (boxes.nodeBox g v) (g .inner) c
+
+-- the plan of a grid, a band and a function of points
+unfoldable pub planWith : Grid → Band → (Float → Float → Float → Float) → Plan
+planWith g band value = record {
+  nodes = nodesOf g;
+  children = cube (g .inner);
+  corners = cube (g .inner + 1);
+  leafPoints = cube (g .leaf);
+  active = boxes.active g;
+  needed = λ v i. corners.needed (g .inner) (boxes.active g v) i;
+  cornerValue = λ v i. at value (corners.cornerPoint (boxes.nodeBox g v) (g .inner) i);
+  decide = λ v c read. decideOf band (boxOf g v c) (map read (corners.octet (g .inner) c));
+  pointValue = λ v c p. at value (leafPoint (boxOf g v c) (g .leaf) p);
+}
+
+-- a model's value at a point
+abbrev pub valueOf : ImplicitModel → (x y z : Float) → Float
+valueOf m x y z = modelValue (map partIn (m .parts)) (m .count) x y z
+
+-- the plan of an input
+abbrev pub planOf : Input → Plan
+planOf i = planWith (i .grid) (i .band) (valueOf (i .model))

@@ -1,0 +1,51 @@
+// The sparse field, after sparse_field.rs: open, step and drop of a job on five lent slices.
+use grid::Band;
+use grid::Grid;
+use grid::Lengths;
+use model::ImplicitModel;
+
+mod zeroing; // zeroing.rt: slices set to zero
+
+// What a job is made from.
+pub struct Input {
+    pub grid: Grid,
+    pub band: Band,
+    pub model: ImplicitModel,
+}
+
+// Nodes, active children, leaves so far, their points, and evaluations so far.
+pub struct Counts {
+    pub nodes: u64,
+    pub active: u64,
+    pub leaves: u64,
+    pub sampled: u64,
+    pub evaluations: u64,
+}
+
+// The next evaluation, or the end: a corner of a node, or a point of a node's child.
+pub enum Cursor {
+    End,
+    Corner(usize, usize),
+    Point(usize, usize, usize),
+}
+
+// What calls hand on. Where `job` is false there is no job, and the other fields count for nothing.
+pub struct Record {
+    pub job: bool,
+    pub input: Input,
+    pub lengths: Lengths,
+    pub counts: Counts,
+    pub cursor: Cursor,
+}
+
+// Whether a call was accepted, or the number of the cause that refused it.
+pub enum Answer {
+    Accepted,
+    Refused(u32),
+}
+
+// What a call hands back.
+pub struct Outcome {
+    pub answer: Answer,
+    pub next: Record,
+}
