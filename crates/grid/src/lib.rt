@@ -11,6 +11,7 @@ mod nodes; // nodes.rt: the size and the number of nodes
 mod points; // points.rt: corner points, leaf points and octets
 mod pruning; // pruning.rt: which children become constants
 
+pub use blocks::cube_of;
 pub use boxes::axis_active;
 pub use boxes::child_box;
 pub use boxes::child_box_at;

@@ -4,6 +4,9 @@ use grid::Grid;
 use grid::Lengths;
 use model::ImplicitModel;
 
+mod children; // children.rt: a node's children, decided in order
+mod corners; // corners.rt: a node's needed corners, evaluated in rows
+mod points; // points.rt: a leaf's points, evaluated in rows
 mod zeroing; // zeroing.rt: slices set to zero
 
 // What a job is made from.
@@ -27,6 +30,19 @@ pub enum Cursor {
     End,
     Corner(usize, usize),
     Point(usize, usize, usize),
+}
+
+// Whether a function came through to its end, or stopped before an evaluation.
+pub enum Stop {
+    Through,
+    At(Cursor),
+}
+
+// How many leaves there are, how much of the budget is left, and where it stopped.
+pub struct Progress {
+    pub leaves: u64,
+    pub left: u64,
+    pub stop: Stop,
 }
 
 // What calls hand on. Where `job` is false there is no job, and the other fields count for nothing.

@@ -1,0 +1,3 @@
+-- Laws of the engine.
+pub mod Stretch
+pub mod RunLaws
