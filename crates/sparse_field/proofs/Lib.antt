@@ -1,3 +1,4 @@
 -- Laws of the engine.
 pub mod Stretch
 pub mod RunLaws
+pub mod Turns

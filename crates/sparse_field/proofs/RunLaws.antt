@@ -11,7 +11,7 @@ use Rattle.schedule.specs.Totals.{sumFrom, bit}
 use Rattle.schedule.proofs.Next.{corner-evaluate, corner-skip, point-evaluate}
 use Rattle.sparse_field.specs.Runs.{Run, runOf}
 use Rattle.sparse_field.specs.CornerRun.{neededFrom, evaluatedFrom}
-use Rattle.sparse_field.specs.Filled.{filled}
+use Rattle.lists.specs.Filled.{filled}
 
 module _ (P : Plan) where
   -- work is made at once
@@ -43,3 +43,81 @@ module _ (P : Plan) where
   run-end b s =
       let all : b - 0 ≡ b = omega arith in
       λ i. record { state = s; cursor = end; left = all i }
+
+  -- a state with other corners, and with another store
+  abbrev pub withCorners : State → List Float → State
+  withCorners s l = let m = s .memory in state (m .kinds) (m .numbers) (m .places) (m .store) l (s .leaves)
+
+  abbrev pub withStore : State → List Float → State
+  withStore s l = let m = s .memory in state (m .kinds) (m .numbers) (m .places) l (m .corners) (s .leaves)
+
+  module _ (v : ℕ) where
+    -- what is left from corner i on, in a state with corners l
+    abbrev pub cornersRun : ℕ → ℕ → State → List Float → Run
+    cornersRun b i s l = runOf P b (eventsFrom P (at (corner v i)) (reading (withCorners s l))) (withCorners s l)
+
+    -- r corners from i on, as far as they are needed
+    pub run-corners : (r i b : ℕ) (s : State) (l : List Float) → i + r ≤ P .corners → P .corners ≤ length l → neededFrom (P .needed v) r i ≤ b
+        → cornersRun b i s l
+        ≡ cornersRun (b - neededFrom (P .needed v) r i) (i + r) s (evaluatedFrom (P .needed v) (P .cornerValue v) r i l)
+    unfolding sumFrom evaluatedFrom apply
+    run-corners zero i b s l within long enough =
+        let all : b ≡ b - 0 = omega arith in
+        let here : i ≡ i + 0 = omega arith in
+        ap₂ (λ b i. cornersRun b i s l) all here
+    run-corners (suc r) i b s l within long enough = one (P .needed v i) refl enough (λ b l. run-corners r (suc i) b s l (omega arith))
+      where
+        one : (n : Bool) → P .needed v i ≡ n → bit n + neededFrom (P .needed v) r (suc i) ≤ b
+            → ((b : ℕ) (l : List Float) → P .corners ≤ length l → neededFrom (P .needed v) r (suc i) ≤ b
+              → cornersRun b (suc i) s l
+              ≡ cornersRun (b - neededFrom (P .needed v) r (suc i)) (suc i + r) s (evaluatedFrom (P .needed v) (P .cornerValue v) r (suc i) l))
+            → cornersRun b i s l
+            ≡ cornersRun (b - (bit n + neededFrom (P .needed v) r (suc i))) (i + suc r) s
+              (evaluatedFrom (P .needed v) (P .cornerValue v) r (suc i) (cond n (set l i (P .cornerValue v i)) l))
+        one true e h later =
+            let more : b ≡ suc (b - 1) = omega arith in
+            let place : suc i + r ≡ i + suc r = omega arith in
+            let spent : b - 1 - neededFrom (P .needed v) r (suc i) ≡ b - (1 + neededFrom (P .needed v) r (suc i)) = omega arith in
+            ap (λ es. runOf P b es (withCorners s l)) (corner-evaluate P v i (omega arith) e (withCorners s l) (omega arith))
+            ∙ ap (λ b. runOf P b (evaluate (corner v i) (P .cornerValue v i) ∷ eventsFrom P (at (corner v (suc i))) (reading (withCorners s (set l i (P .cornerValue v i))))) (withCorners s l)) more
+            ∙ run-evaluate (b - 1) (corner v i) (P .cornerValue v i) _ (withCorners s l)
+            ∙ later (b - 1) (set l i (P .cornerValue v i)) (rw length-set long) (omega arith)
+            ∙ ap₂ (λ b i′. cornersRun b i′ s (evaluatedFrom (P .needed v) (P .cornerValue v) r (suc i) (set l i (P .cornerValue v i)))) spent place
+        one false e h later =
+            let place : suc i + r ≡ i + suc r = omega arith in
+            let none : b - neededFrom (P .needed v) r (suc i) ≡ b - (0 + neededFrom (P .needed v) r (suc i)) = omega arith in
+            ap (λ es. runOf P b es (withCorners s l)) (corner-skip P v i (omega arith) e (reading (withCorners s l)))
+            ∙ later b l long (omega arith)
+            ∙ ap₂ (λ b i′. cornersRun b i′ s (evaluatedFrom (P .needed v) (P .cornerValue v) r (suc i) l)) none place
+
+    module _ (c : ℕ) (read : ℕ → Float) where
+      -- what is left from point p on, in a state with a store l
+      abbrev pub pointsRun : ℕ → ℕ → State → List Float → Run
+      pointsRun b p s l = runOf P b (eventsFrom P (at (point v c p)) read) (withStore s l)
+
+      -- where the last leaf's stretch of the store begins
+      abbrev pub stretch : State → ℕ
+      stretch s = (s .leaves - 1) * P .leafPoints
+
+      -- r points from p on
+      pub run-points : (r p b : ℕ) (s : State) (l : List Float) → p + r ≤ P .leafPoints → r ≤ b
+          → pointsRun b p s l
+          ≡ pointsRun (b - r) (p + r) s (filled (stretch s + p) r (λ q. P .pointValue v c (q - stretch s)) l)
+      unfolding filled apply
+      run-points zero p b s l within enough =
+          let all : b ≡ b - 0 = omega arith in
+          let here : p ≡ p + 0 = omega arith in
+          ap₂ (λ b p. pointsRun b p s l) all here
+      run-points (suc r) p b s l within enough =
+          let f : ℕ → Float = λ q. P .pointValue v c (q - stretch s) in
+          let before : List Float = filled (stretch s + p) r f l in
+          let more : b - r ≡ suc (b - suc r) = omega arith in
+          let next : suc (p + r) ≡ p + suc r = omega arith in
+          let place : stretch s + (p + r) ≡ stretch s + p + r = omega arith in
+          let which : p + r ≡ stretch s + p + r - stretch s = omega arith in
+          run-points r p b s l (omega arith) (omega arith)
+          ∙ ap (λ es. runOf P (b - r) es (withStore s before)) (point-evaluate P v c (p + r) (omega arith) read)
+          ∙ ap (λ b. runOf P b (evaluate (point v c (p + r)) (P .pointValue v c (p + r)) ∷ eventsFrom P (at (point v c (suc (p + r)))) read) (withStore s before)) more
+          ∙ run-evaluate (b - suc r) (point v c (p + r)) (P .pointValue v c (p + r)) _ (withStore s before)
+          ∙ ap₂ (λ q x. pointsRun (b - suc r) (suc (p + r)) s (set before q x)) place (ap (P .pointValue v c) which)
+          ∙ ap (λ p′. pointsRun (b - suc r) p′ s (set before (stretch s + p + r) (f (stretch s + p + r)))) next

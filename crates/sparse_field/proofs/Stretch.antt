@@ -4,20 +4,16 @@ use mathlib.Core.Path.{_≡_, refl, sym, ap, _∙_}
 use mathlib.Core.List.{List, [], _∷_, _++_}
 use native.Mathlib.Nat.{zero-add, suc-add}
 use native.Mathlib.Omega.{arith}
-use lib.ListN.{length, take, drop, set, length-set, length-take, length-drop}
+use lib.ListN.{length, take, drop, set, length-drop}
 use lib.Seq.{set-append-left, length-take-le}
 use borrow.Rule.Slice.PartMut.{putMid, midOf, postOf, put-same}
-use Rattle.sparse_field.specs.Filled.{filled}
+use Rattle.lists.specs.Filled.{filled}
+use Rattle.lists.proofs.Filling.{filled-length}
 
 module _ {A : Type 0} where
   set-append-right : (xs ys : List A) (j : ℕ) (v : A) → set (xs ++ ys) (length xs + j) v ≡ xs ++ set ys j v
   set-append-right [] ys j v = rw zero-add
   set-append-right (x ∷ xs) ys j v = rw suc-add (ap (λ l. x ∷ l) (set-append-right xs ys j v))
-
-  filled-length : (at count : ℕ) (g : ℕ → A) (l : List A) → length (filled at count g l) ≡ length l
-  unfolding filled
-  filled-length at zero g l = refl
-  filled-length at (suc count) g l = length-set (filled at count g l) (at + count) _ ∙ filled-length at count g l
 
   -- what is filled in the k elements from a on is filled in the whole
   pub put-filled : (a k p r : ℕ) (g : ℕ → A) (xs : List A) → a + k ≤ length xs → p + r ≤ k

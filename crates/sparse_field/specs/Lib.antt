@@ -3,7 +3,6 @@ pub mod Plan
 pub mod Runs
 pub mod CornerRun
 pub mod FlatValue
-pub mod Filled
 pub mod Records
 pub mod Progress
 pub mod Calls

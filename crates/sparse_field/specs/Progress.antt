@@ -1,20 +1,23 @@
 -- How far a function of the engine has come, and what is left to do after it.
-use Prim.Native.Nat.{ℕ, zero, suc, _+_, _*_, _≤_, _<_}
+use Prim.Native.Nat.{ℕ, suc, _+_, _*_, _-_, _≤_, _<_, min}
+use mathlib.Core.Bool.{cond}
+use lib.Dec.{ltb}
 use mathlib.Core.Path.{_≡_}
 use mathlib.Core.List.{List}
-use lib.ListN.{length}
+use lib.ListN.{length, getD}
 use lib.Ieee.{Float}
 use Rattle.grid.specs.declared.Grid.{Grid}
 use Rattle.grid.specs.declared.Band.{Band}
 use Rattle.grid.specs.Blocks.{cube}
 use Rattle.grid.specs.Nodes.{nodesOf}
-use Rattle.schedule.specs.Schedule as schedule
-use Rattle.schedule.specs.Schedule.{Plan, Memory, State, Event, plusZero, reading}
+use Rattle.schedule.specs.Schedule.{Plan, Memory, State, Event, childrenLeft, nodesLeft}
+use Rattle.float.specs.Zero.{plusZero}
 use Rattle.schedule.specs.Totals.{activeBefore, activeAll}
 use Rattle.schedule.specs.Opened.{ActiveKinds}
 use Rattle.sparse_field.specs.declared.Progress.{Progress}
 use Rattle.sparse_field.specs.declared.Stop.{Stop}
 use Rattle.sparse_field.specs.declared.Stop.the-variants.{Through, At}
+use Rattle.sparse_field.specs.declared.Cursor.the-variants.{Point}
 use Rattle.sparse_field.specs.Plan.{planWith}
 use Rattle.sparse_field.specs.FlatValue.{flatValue}
 use Rattle.sparse_field.specs.Runs.{Run, runOf}
@@ -51,14 +54,43 @@ abbrev pub IfThrough : Stop → Type 0 → Type 0
 IfThrough Through A = A
 IfThrough (At a) A = Unit {0}
 
--- From state s with budget b the events `from` are left, and a function has gone as far as r says, to state t: `to` is left if it has come
--- through. Then at most `most` leaves are there.
-pub record Advanced (P : Plan) (b : ℕ) (s t : State) (from to : List Event) (r : Progress) (most : ℕ) : Type 0 where
-  pub leaves : t .leaves ≡ r .leaves
-  pub same : runOf P b from s ≡ afterStop P t (r .left) (r .stop) to
-  pub lent : Lent P (t .memory)
+-- a state by its memory and its leaves
+abbrev pub stateIn : Memory → ℕ → State
+stateIn m leaves = record { memory = m; leaves = leaves }
+
+-- From memory m and so many leaves, with budget b, the events `from` are left. A function has gone as far as r says, to memory m′: `to` is
+-- left if it has come through, and then at most `most` leaves are there.
+pub record Advanced (P : Plan) (b leaves : ℕ) (m m′ : Memory) (from to : List Event) (r : Progress) (most : ℕ) : Type 0 where
+  pub same : runOf P b from (stateIn m leaves) ≡ afterStop P (stateIn m′ (r .leaves)) (r .left) (r .stop) to
+  pub lent : Lent P m′
   pub atMost : IfThrough (r .stop) (r .leaves ≤ most)
 
+-- lent memory before child c of node v, with leaves that the children before it can have made
+pub record Ready (P : Plan) (v c leaves : ℕ) (m : Memory) : Type 0 where
+  pub lent : Lent P m
+  pub node : v < P .nodes
+  pub atMost : leaves ≤ activeBefore P v c
+
+-- what the corners of a memory hold
+abbrev pub readingIn : Memory → ℕ → Float
+readingIn m i = getD (m .corners) i plusZero
+
+-- children c up to c′ of node v
+abbrev pub ChildrenAdvanced : Plan → (v c c′ b leaves : ℕ) → (m m′ : Memory) → Progress → Type 0
+ChildrenAdvanced P v c c′ b leaves m m′ r =
+    Advanced P b leaves m m′ (childrenLeft P v c (readingIn m)) (childrenLeft P v c′ (readingIn m)) r (activeBefore P v c′)
+
 -- every corner holds +0
-abbrev pub ZeroCorners : List Float → Type 0
-ZeroCorners corners = (i : ℕ) → lib.ListN.getD corners i plusZero ≡ plusZero
+abbrev pub ZeroCorners : Memory → Type 0
+ZeroCorners m = (i : ℕ) → readingIn m i ≡ plusZero
+
+-- the rest of node v, of which `from` is left
+pub record NodeAdvanced (P : Plan) (v b leaves : ℕ) (m m′ : Memory) (from : List Event) (r : Progress) : Type 0 where
+  pub advanced : Advanced P b leaves m m′ from (nodesLeft P (suc v)) r (activeBefore P (suc v) 0)
+  pub cleared : IfThrough (r .stop) (ZeroCorners m′)
+
+-- points of a leaf from p on: how far a budget goes
+unfoldable pub leafProgress : (leaves b v c p points : ℕ) → Progress
+leafProgress leaves b v c p points =
+    let r = min b (points - p) in
+    record { leaves = leaves; left = b - r; stop = cond (ltb (p + r) points) (At (Point v c (p + r))) Through }

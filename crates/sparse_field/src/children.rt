@@ -3,17 +3,14 @@
 ghost use mathlib.Core.Path.{_≡_};
 ghost use Prim.Native.Nat.{_+_, _-_, _*_, suc, _≤_, _<_, min};
 ghost use lib.ListN.{length};
+ghost use Rattle.lists.specs.Filled.{filled};
 ghost use Rattle.grid.specs.Blocks.{cube};
-ghost use Rattle.grid.specs.Boxes.{nodeBox, childBox};
-ghost use Rattle.grid.specs.Nodes.{nodesOf};
+ghost use Rattle.grid.specs.Boxes.{nodeBox};
 ghost use Rattle.grid.specs.Leaves.{leafPoint};
-ghost use Rattle.schedule.specs.Schedule.{state, reading, childrenLeft};
-ghost use Rattle.schedule.specs.Totals.{activeBefore};
 ghost use Rattle.sparse_field.specs.Calls.{memoryOf};
-ghost use Rattle.sparse_field.specs.Filled.{filled};
 ghost use Rattle.sparse_field.specs.FlatValue.{flatValue};
 ghost use Rattle.sparse_field.specs.Plan.{at};
-ghost use Rattle.sparse_field.specs.Progress.{plan, Sized, Lent, Advanced};
+ghost use Rattle.sparse_field.specs.Progress.{plan, Sized, Ready, ChildrenAdvanced, leafProgress};
 use crate::Cursor;
 use crate::Progress;
 use crate::Stop;
@@ -52,4 +49,171 @@ pub fn fill_leaf(
         scratch,
         &mut store[ordinal * points..],
     )
+}
+
+// Points of the last of so many leaves, from point p on: how far the budget goes.
+pub fn leaf_from(
+    words: &[u32; 192],
+    reals: &[f64; 256],
+    parts: usize,
+    b: BoundingBox,
+    l: u32,
+    v: usize,
+    c: usize,
+    p: usize,
+    leaves: u64,
+    budget: u64,
+    scratch: &mut [f64; 4096],
+    store: &mut [f64],
+) -> Progress
+    requires { ⌜ (0 < l) × (l ≤ 64) × (p ≤ cube l) × (0 < leaves) × (leaves * cube l ≤ length (now store)) × (parts ≤ 64) ⌝ }
+    ensures { λ r. ⌜ r ≡ leafProgress leaves budget v c p (cube l) ⌝ }
+    ensures { λ _. ⌜ now (store .exit) ≡ filled ((leaves - 1) * cube l + p) (min budget (cube l - p)) (λ q. at (flatValue (now (words .entry)) (now (reals .entry)) parts) (leafPoint b l (q - (leaves - 1) * cube l))) (now (store .entry)) ⌝ }
+{
+    let ordinal = (leaves as usize) - 1;
+    let next = fill_leaf(
+        words,
+        reals,
+        parts,
+        b,
+        l,
+        p,
+        ordinal,
+        budget,
+        scratch,
+        store,
+    );
+    let left = budget - ((next - p) as u64);
+    if next < grid::cube_of(l as usize) {
+        let stop = Stop::At(Cursor::Point(v, c, next));
+        return Progress { leaves, left, stop };
+    }
+    Progress {
+        leaves,
+        left,
+        stop: Stop::Through,
+    }
+}
+
+// Child c of node v, which has the box b. An active child becomes a constant or a leaf, and a leaf's
+// points are evaluated while the budget lasts.
+fn child_turn(
+    g: Grid,
+    band: Band,
+    words: &[u32; 192],
+    reals: &[f64; 256],
+    parts: usize,
+    b: BoundingBox,
+    v: usize,
+    c: usize,
+    leaves: u64,
+    budget: u64,
+    scratch: &mut [f64; 4096],
+    kinds: &mut [u8],
+    numbers: &mut [f64],
+    places: &mut [u32],
+    store: &mut [f64],
+    corners: &[f64],
+) -> Progress
+    requires { ⌜ Sized g × (b ≡ nodeBox g v) × (c < cube (g .inner)) × (parts ≤ 64) ⌝ }
+    requires { ⌜ Ready (plan g band (now words) (now reals) parts) v c leaves (memoryOf (now kinds) (now numbers) (now places) (now store) (now corners)) ⌝ }
+    ensures { λ r. ⌜ ChildrenAdvanced (plan g band (now (words .entry)) (now (reals .entry)) parts) v c (suc c) budget leaves (memoryOf (now (kinds .entry)) (now (numbers .entry)) (now (places .entry)) (now (store .entry)) (now (corners .entry))) (memoryOf (now (kinds .exit)) (now (numbers .exit)) (now (places .exit)) (now (store .exit)) (now (corners .entry))) r ⌝ }
+{
+    let n = g.inner;
+    let j = v * grid::cube_of(n as usize) + c;
+    if kinds[j] == 0 {
+        return Progress {
+            leaves,
+            left: budget,
+            stop: Stop::Through,
+        };
+    }
+    let child = grid::child_box(b, n, c);
+    let octet = grid::octet_values(corners, n, c);
+    if grid::is_pruned(band.min, band.max, octet, grid::half_diagonal(child)) {
+        kinds[j] = 1;
+        numbers[j] = grid::average(octet);
+        return Progress {
+            leaves,
+            left: budget,
+            stop: Stop::Through,
+        };
+    }
+    kinds[j] = 2;
+    places[j] = leaves as u32;
+    leaf_from(
+        words,
+        reals,
+        parts,
+        child,
+        g.leaf,
+        v,
+        c,
+        0,
+        leaves + 1,
+        budget,
+        scratch,
+        store,
+    )
+}
+
+// The children of node v, which has the box b, from child `first` on.
+pub fn run_children(
+    g: Grid,
+    band: Band,
+    words: &[u32; 192],
+    reals: &[f64; 256],
+    parts: usize,
+    b: BoundingBox,
+    v: usize,
+    first: usize,
+    leaves: u64,
+    budget: u64,
+    scratch: &mut [f64; 4096],
+    kinds: &mut [u8],
+    numbers: &mut [f64],
+    places: &mut [u32],
+    store: &mut [f64],
+    corners: &[f64],
+) -> Progress
+    requires { ⌜ Sized g × (b ≡ nodeBox g v) × (first ≤ cube (g .inner)) × (parts ≤ 64) ⌝ }
+    requires { ⌜ Ready (plan g band (now words) (now reals) parts) v first leaves (memoryOf (now kinds) (now numbers) (now places) (now store) (now corners)) ⌝ }
+    ensures { λ r. ⌜ ChildrenAdvanced (plan g band (now (words .entry)) (now (reals .entry)) parts) v first (cube (g .inner)) budget leaves (memoryOf (now (kinds .entry)) (now (numbers .entry)) (now (places .entry)) (now (store .entry)) (now (corners .entry))) (memoryOf (now (kinds .exit)) (now (numbers .exit)) (now (places .exit)) (now (store .exit)) (now (corners .entry))) r ⌝ }
+{
+    let children = grid::cube_of(g.inner as usize);
+    let mut c = first;
+    let mut made = leaves;
+    let mut left = budget;
+    while c < children {
+        let turn = child_turn(
+            g,
+            band,
+            words,
+            reals,
+            parts,
+            b,
+            v,
+            c,
+            made,
+            left,
+            scratch,
+            kinds,
+            numbers,
+            places,
+            store,
+            corners,
+        );
+        made = turn.leaves;
+        left = turn.left;
+        let stop = turn.stop;
+        if let Stop::At(_) = stop {
+            return turn;
+        }
+        c += 1;
+    }
+    Progress {
+        leaves: made,
+        left,
+        stop: Stop::Through,
+    }
 }

@@ -4,7 +4,7 @@ ghost use Prim.Native.Nat.{_+_, _-_, _<_, _≤_, min};
 ghost use lib.ListN.{length};
 ghost use Rattle.grid.specs.Blocks.{cube};
 ghost use Rattle.grid.specs.Leaves.{leafPoint};
-ghost use Rattle.sparse_field.specs.Filled.{filled};
+ghost use Rattle.lists.specs.Filled.{filled};
 ghost use Rattle.sparse_field.specs.FlatValue.{flatValue};
 ghost use Rattle.sparse_field.specs.Plan.{at};
 use geometry::BoundingBox;

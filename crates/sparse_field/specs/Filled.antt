@@ -1,6 +1,0 @@
-use Prim.Native.Nat.{ℕ, zero, suc, _+_}
-use mathlib.Core.List.{List}
-use lib.ListN.{set}
-unfoldable pub filled : {A : Type 0} → (at count : ℕ) → (ℕ → A) → List A → List A
-filled at zero g l = l
-filled at (suc count) g l = set (filled at count g l) (at + count) (g (at + count))
