@@ -2,3 +2,4 @@
 pub mod Stretch
 pub mod RunLaws
 pub mod Turns
+pub mod ChildLaws

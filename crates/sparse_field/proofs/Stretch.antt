@@ -32,3 +32,14 @@ module _ {A : Type 0} where
       ∙ ap (λ q. set (putMid a k xs lower) q (g (p + r))) place
       ∙ ap (λ q. set (putMid a k xs lower) (a + p + r) (g q)) (sym back)
       ∙ ap (λ l. set l (a + p + r) (g (a + p + r - a))) (put-filled a k p r g xs long (omega arith))
+
+  -- the same for a stretch that goes to the end of the list
+  pub stretch-filled : (o p r : ℕ) (g : ℕ → A) (xs : List A) {ys : List A} → o ≤ length xs → p + r ≤ length xs - o
+      → ys ≡ filled p r g (midOf o (length xs - o) xs)
+      → putMid o (length xs - o) xs ys ≡ filled (o + p) r (λ q. g (q - o)) xs
+  stretch-filled o p r g xs within fits same =
+      ap (putMid o (length xs - o) xs) same ∙ put-filled o (length xs - o) p r g xs (omega arith) fits
+
+  -- its length
+  pub stretch-long : (o : ℕ) (xs : List A) → length (midOf o (length xs - o) xs) ≡ length xs - o
+  stretch-long o xs = length-take-le (length xs - o) (drop o xs) (omega (arith, length-drop o xs))

@@ -47,6 +47,17 @@ module _ (P : Plan) where
     atMost = then .atMost;
   }
 
+  -- one that has come through, by its parts
+  pub advanced-through : {b leaves : ℕ} {m m₁ : Memory} {from to : List Event} {r : Progress} {most : ℕ}
+      → Advanced P b leaves m m₁ from to r most → r .stop ≡ Through → Advanced P b leaves m m₁ from to (progress (r .leaves) (r .left) Through) most
+  advanced-through {b} {leaves} {m} {m₁} {from} {to} {r} {most} first through =
+      subst (λ x. Advanced P b leaves m m₁ from to (progress (r .leaves) (r .left) x) most) through first
+
+  -- before a function has begun
+  pub advanced-start : (b leaves : ℕ) (m : Memory) (es : List Event) (most : ℕ) → Lent P m → leaves ≤ most
+      → Advanced P b leaves m m es es (progress leaves b Through) most
+  advanced-start b leaves m es most lent below = record { same = refl; lent = lent; atMost = below }
+
   -- a function that has stopped leaves nothing to the next
   pub advanced-stopped : {b leaves : ℕ} {m m₁ : Memory} {from mid to : List Event} {r : Progress} {most most₂ : ℕ} (a : Cursor)
       → Advanced P b leaves m m₁ from mid r most → r .stop ≡ At a → Advanced P b leaves m m₁ from to r most₂
@@ -56,6 +67,11 @@ module _ (P : Plan) where
     lent = first .lent;
     atMost = subst (λ x. IfThrough x (r .leaves ≤ most₂)) (sym stopped) tt;
   }
+
+  -- the children up to a number that is the same
+  pub children-upto : (v c c₁ c₂ b leaves : ℕ) {m m₁ : Memory} {r : Progress} → c₁ ≡ c₂
+      → ChildrenAdvanced P v c c₁ b leaves m m₁ r → ChildrenAdvanced P v c c₂ b leaves m m₁ r
+  children-upto v c c₁ c₂ b leaves {m} {m₁} {r} same = subst (λ n. ChildrenAdvanced P v c n b leaves m m₁ r) same
 
   -- a child's place is one of the kinds
   place-inside : (v c n : ℕ) → v < P .nodes → c < P .children → P .nodes * P .children ≤ n → v * P .children + c < n

@@ -1,0 +1,170 @@
+-- A child's turn, from what the code reads: its kind, its octet, and the points of its leaf.
+use Prim.Native.Nat.{ℕ, zero, suc, _+_, _*_, _-_, _≤_, _<_, min}
+use mathlib.Core.Path.{_≡_, refl, sym, ap, subst, _∙_}
+use mathlib.Core.Bool.{Bool, true, false, not, cond}
+use mathlib.Core.List.{List}
+use native.Mathlib.Nat.{mul-le-mul-right}
+use native.Mathlib.Numerals.{add-one}
+use native.Mathlib.Omega.{arith}
+use lib.ListN.{set, getD, length}
+use lib.Dec.{eqb, ltb}
+use lib.Ieee.{Float}
+use borrow.Author.Tests.{eqb-true, eqb-false, lt-ltb, le-ltb}
+use Rattle.lists.specs.Filled.{filled}
+use Rattle.geometry.specs.declared.BoundingBox.{BoundingBox}
+use Rattle.grid.specs.declared.Grid.{Grid}
+use Rattle.grid.specs.declared.Band.{Band}
+use Rattle.grid.specs.Blocks.{cube}
+use Rattle.grid.specs.Nodes.{nodesOf}
+use Rattle.grid.specs.Boxes.{nodeBox, childBox}
+use Rattle.grid.specs.Leaves.{leafPoint}
+use Rattle.grid.specs.Corners.{octetValues}
+use Rattle.grid.specs.Pruning as pruning
+use Rattle.schedule.specs.Schedule.{Plan, Memory, constant, leaf}
+use Rattle.schedule.specs.Opened.{nonzero}
+use Rattle.schedule.specs.Totals.{countOf, countAll, activeAll}
+use Rattle.schedule.proofs.Sums.{before-below, before-most, sumFrom-most, sumBits-most}
+use Rattle.sparse_field.specs.declared.Progress.{Progress}
+use Rattle.sparse_field.specs.declared.Cursor.the-variants.{Point}
+use Rattle.sparse_field.specs.declared.Stop.the-variants.{Through, At}
+use Rattle.sparse_field.specs.Calls.{memoryOf}
+use Rattle.sparse_field.specs.FlatValue.{flatValue}
+use Rattle.sparse_field.specs.Plan.{decideOf, at, boxOf, planWith}
+use Rattle.sparse_field.specs.Progress.{plan, Sized, Ready, readingIn, ChildrenAdvanced, leafProgress}
+use Rattle.sparse_field.proofs.Turns.{progress, turn-active, turn-skip, turn-constant, turn-leaf, filledStore}
+
+-- ---- how far a leaf's points have come
+
+module _ (leaves b v c p points next : ℕ) (filled : next ≡ p + min b (points - p)) where
+  left-over : b - (next - p) ≡ b - min b (points - p)
+  left-over = omega (arith, filled)
+
+  pub leaf-stopped : next < points → progress leaves (b - (next - p)) (At (Point v c next)) ≡ leafProgress leaves b v c p points
+  unfolding leafProgress
+  leaf-stopped short =
+      let so : ltb (p + min b (points - p)) points ≡ true = sym (ap (λ n. ltb n points) filled) ∙ lt-ltb next points short in
+      λ i. record {
+        leaves = leaves;
+        left = left-over i;
+        stop = (ap (λ n. At (Point v c n)) filled ∙ sym (ap (λ x. cond x (At (Point v c (p + min b (points - p)))) Through) so)) i;
+      }
+
+  pub leaf-through : points ≤ next → progress leaves (b - (next - p)) Through ≡ leafProgress leaves b v c p points
+  unfolding leafProgress
+  leaf-through long =
+      let so : ltb (p + min b (points - p)) points ≡ false = sym (ap (λ n. ltb n points) filled) ∙ le-ltb next points long in
+      λ i. record {
+        leaves = leaves;
+        left = left-over i;
+        stop = sym (ap (λ x. cond x (At (Point v c (p + min b (points - p)))) Through) so) i;
+      }
+
+-- ---- a child's place
+
+pub place-few : (g : Grid) (v c : ℕ) → Sized g → v < nodesOf g → c < cube (g .inner) → v * cube (g .inner) + c < 16777216
+place-few g v c sized hv hc = omega (arith, mul-le-mul-right (cube (g .inner)) hv, sized .children)
+
+-- there are few active children
+pub active-few : (g : Grid) (band : Band) (words : List ℕ) (reals : List Float) (parts : ℕ) → Sized g → activeAll (plan g band words reals parts) ≤ 16777216
+unfolding planWith countAll
+active-few g band words reals parts sized =
+    let P : Plan = plan g band words reals parts in
+    omega (arith, sized .children,
+      sumFrom-most (λ v. countOf (P .active) v (P .children)) (P .children) (λ v. sumBits-most (P .active v) (P .children)) (P .nodes) 0)
+
+-- so are the leaves before a child
+pub leaves-few : (g : Grid) (band : Band) (words : List ℕ) (reals : List Float) (parts v c leaves : ℕ) (m : Memory) → Sized g → c < cube (g .inner)
+    → Ready (plan g band words reals parts) v c leaves m → leaves ≤ 16777216
+unfolding planWith
+leaves-few g band words reals parts v c leaves m sized below ready =
+    let P : Plan = plan g band words reals parts in
+    omega (arith, ready .atMost, active-few g band words reals parts sized, before-most P (P .active) v c (ready .node) (omega arith))
+
+-- an element is zero where the test says so
+nonzero-of : (k : ℕ) (b : Bool) → eqb k 0 ≡ b → nonzero k ≡ not b
+nonzero-of k true e = rw (eqb-true k 0 e)
+nonzero-of k false e = above k (eqb-false k 0 e)
+  where
+    above : (k : ℕ) → ¬ (k ≡ 0) → nonzero k ≡ true
+    above zero n = absurd (n refl)
+    above (suc k) n = refl
+
+module _ (g : Grid) (band : Band) (words : List ℕ) (reals : List Float) (parts v c b leaves : ℕ) (m : Memory) (box : BoundingBox) (boxed : box ≡ nodeBox g v)
+    (below : c < cube (g .inner)) (ready : Ready (plan g band words reals parts) v c leaves m) (r : ℕ) (cubed : r ≡ cube (g .inner)) where
+  abbrev P : Plan
+  P = plan g band words reals parts
+
+  -- the child's place among the kinds
+  activity : (x : Bool) → eqb (getD (m .kinds) (v * r + c) 0) 0 ≡ x → P .active v c ≡ not x
+  unfolding planWith
+  activity x test =
+      sym (turn-active P v c b leaves m ready below)
+      ∙ nonzero-of _ x (sym (ap (λ n. eqb (getD (m .kinds) (v * n + c) 0) 0) cubed) ∙ test)
+
+  -- a child that is not active
+  pub skipped : eqb (getD (m .kinds) (v * r + c) 0) 0 ≡ true → ChildrenAdvanced P v c (suc c) b leaves m m (progress leaves b Through)
+  unfolding planWith
+  skipped test = turn-skip P v c b leaves m ready below (activity true test)
+
+  module _ {octet : List Float} {child : BoundingBox} {h : Float} (read : octet ≡ octetValues (m .corners) (g .inner) c)
+      (lies : child ≡ childBox box (g .inner) c) (half : h ≡ pruning.halfDiagonal child)
+      (active : eqb (getD (m .kinds) (v * r + c) 0) 0 ≡ false) where
+    -- the decision, by the pruning rule
+    decided : (x : Bool) → pruning.pruned (band .min) (band .max) (pruning.lowest octet) (pruning.highest octet) h ≡ x
+        → P .decide v c (readingIn m) ≡ cond x (constant 1 (pruning.average octet)) leaf
+    unfolding planWith decideOf boxOf octetValues
+    decided x test =
+        let lies′ : child ≡ childBox (nodeBox g v) (g .inner) c = lies ∙ ap (λ n. childBox n (g .inner) c) boxed in
+        let same : pruning.pruned (band .min) (band .max) (pruning.lowest (octetValues (m .corners) (g .inner) c))
+          (pruning.highest (octetValues (m .corners) (g .inner) c)) (pruning.halfDiagonal (childBox (nodeBox g v) (g .inner) c)) ≡ x
+          = sym (ap (λ l. pruning.pruned (band .min) (band .max) (pruning.lowest l) (pruning.highest l) (pruning.halfDiagonal (childBox (nodeBox g v) (g .inner) c))) read)
+            ∙ sym (ap (λ y. pruning.pruned (band .min) (band .max) (pruning.lowest octet) (pruning.highest octet) y) (half ∙ ap pruning.halfDiagonal lies′))
+            ∙ test in
+        ap (λ y. cond y (constant 1 (pruning.average (octetValues (m .corners) (g .inner) c))) leaf) same
+        ∙ sym (ap (λ l. cond x (constant 1 (pruning.average l)) leaf) read)
+
+    -- a child that becomes a constant
+    pub constant-turn : {x : Float} → pruning.pruned (band .min) (band .max) (pruning.lowest octet) (pruning.highest octet) h ≡ true → x ≡ pruning.average octet
+        → ChildrenAdvanced P v c (suc c) b leaves m
+          (memoryOf (set (m .kinds) (v * r + c) 1) (set (m .numbers) (v * r + c) x) (m .places) (m .store) (m .corners)) (progress leaves b Through)
+    unfolding planWith
+    constant-turn {x} test mean =
+        let turn = turn-constant P v c b leaves m ready below (activity false active) 1 (pruning.average octet) (omega arith) (decided true test) in
+        subst (λ n. ChildrenAdvanced P v c (suc c) b leaves m
+          (memoryOf (set (m .kinds) (v * n + c) 1) (set (m .numbers) (v * n + c) x) (m .places) (m .store) (m .corners)) (progress leaves b Through)) (sym cubed)
+        (subst (λ y. ChildrenAdvanced P v c (suc c) b leaves m
+          (memoryOf (set (m .kinds) (v * cube (g .inner) + c) 1) (set (m .numbers) (v * cube (g .inner) + c) y) (m .places) (m .store) (m .corners)) (progress leaves b Through)) (sym mean) turn)
+
+    -- a leaf more is one of all active children
+    pub leaf-inside : (leaves + 1) * cube (g .leaf) ≤ length (m .store)
+    unfolding planWith
+    leaf-inside =
+        let more = before-below P (P .active) v c (ready .node) below (activity false active) in
+        omega (arith, ready .lent .store, ready .atMost, mul-le-mul-right (cube (g .leaf)) more, mul-le-mul-right (cube (g .leaf)) (ready .atMost))
+
+    -- a child that becomes a leaf
+    pub leaf-turn : {store : List Float} {turn : Progress} → pruning.pruned (band .min) (band .max) (pruning.lowest octet) (pruning.highest octet) h ≡ false
+        → turn ≡ leafProgress (leaves + 1) b v c 0 (cube (g .leaf))
+        → store ≡ filled ((leaves + 1 - 1) * cube (g .leaf) + 0) (min b (cube (g .leaf) - 0))
+          (λ q. at (flatValue words reals parts) (leafPoint child (g .leaf) (q - (leaves + 1 - 1) * cube (g .leaf)))) (m .store)
+        → ChildrenAdvanced P v c (suc c) b leaves m
+          (memoryOf (set (m .kinds) (v * r + c) 2) (m .numbers) (set (m .places) (v * r + c) leaves) store (m .corners)) turn
+    unfolding planWith boxOf
+    leaf-turn {store} {turn} test goes stored =
+        let lies′ : child ≡ childBox (nodeBox g v) (g .inner) c = lies ∙ ap (λ n. childBox n (g .inner) c) boxed in
+        let one : leaves + 1 ≡ suc leaves = add-one leaves in
+        let stored′ : store ≡ filledStore P v c 0 b (suc leaves) (m .store) =
+          stored
+          ∙ ap (λ n. filled ((n - 1) * cube (g .leaf) + 0) (min b (cube (g .leaf) - 0))
+            (λ q. at (flatValue words reals parts) (leafPoint child (g .leaf) (q - (n - 1) * cube (g .leaf)))) (m .store)) one
+          ∙ ap (λ x. filled ((suc leaves - 1) * cube (g .leaf) + 0) (min b (cube (g .leaf) - 0))
+            (λ q. at (flatValue words reals parts) (leafPoint x (g .leaf) (q - (suc leaves - 1) * cube (g .leaf)))) (m .store)) lies′ in
+        let goes′ : turn ≡ leafProgress (suc leaves) b v c 0 (cube (g .leaf)) = goes ∙ ap (λ n. leafProgress n b v c 0 (cube (g .leaf))) one in
+        let whole = turn-leaf P v c b leaves m ready below (activity false active) (decided false test) in
+        subst (λ n. ChildrenAdvanced P v c (suc c) b leaves m
+          (memoryOf (set (m .kinds) (v * n + c) 2) (m .numbers) (set (m .places) (v * n + c) leaves) store (m .corners)) turn) (sym cubed)
+        (subst (λ l. ChildrenAdvanced P v c (suc c) b leaves m
+          (memoryOf (set (m .kinds) (v * cube (g .inner) + c) 2) (m .numbers) (set (m .places) (v * cube (g .inner) + c) leaves) l (m .corners)) turn) (sym stored′)
+        (subst (λ t. ChildrenAdvanced P v c (suc c) b leaves m
+          (memoryOf (set (m .kinds) (v * cube (g .inner) + c) 2) (m .numbers) (set (m .places) (v * cube (g .inner) + c) leaves)
+          (filledStore P v c 0 b (suc leaves) (m .store)) (m .corners)) t) (sym goes′) whole))

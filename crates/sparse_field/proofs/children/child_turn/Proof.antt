@@ -1,0 +1,205 @@
+-- `children::child_turn` meets its contract: by its kind and its octet the child is passed over, becomes a constant or a leaf.
+use Prim.Native.Nat.{ℕ, suc, _+_, _-_, _*_, _≤_, _<_, min}
+use mathlib.Core.Path.{_≡_, sym, ap, _∙_}
+use native.Mathlib.Omega.{arith}
+use native.Mathlib.Nat.{mul-le-mul-right}
+use lib.ListN.{length}
+use Rattle.grid.specs.Blocks.{cube}
+use Rattle.grid.specs.Nodes.{nodesOf}
+use Rattle.schedule.specs.Schedule.{Memory}
+use Rattle.sparse_field.specs.Plan.{planWith}
+use Rattle.sparse_field.specs.Calls.{memoryOf}
+use Rattle.sparse_field.proofs.ChildLaws.{place-few, leaves-few, skipped, constant-turn, leaf-inside, leaf-turn}
+use borrow.Author.Needs.{needs}
+use Rattle.sparse_field.proofs.children.child_turn.Statement.{statement}
+use Rattle.sparse_field.proofs.children.child_turn.Tie as tie
+
+-- the memory at entry
+abbrev memory : tie.Start → Memory
+memory s = memoryOf (s .args .kinds .now) (s .args .numbers .now) (s .args .places .now) (s .args .store .now) (s .args .corners .now)
+
+-- the node is one of the grid's
+node : (s : tie.Start) → s .args .v < nodesOf (s .args .g)
+unfolding planWith
+node s = s .pre .1 .node
+
+-- the child's place is inside the slices
+inside : (s : tie.Start) → let j = s .args .v * cube (s .args .g .inner) + s .args .c in
+    (j < length (s .args .kinds .now)) × (j < length (s .args .numbers .now)) × (j < length (s .args .places .now))
+unfolding planWith
+inside s =
+    let lent = s .pre .1 .lent in
+    let slab = mul-le-mul-right (cube (s .args .g .inner)) (s .pre .1 .node) in
+    (omega (arith, slab, lent .kinds, s .pre .0 .2), omega (arith, slab, lent .numbers, s .pre .0 .2), omega (arith, slab, lent .places, s .pre .0 .2))
+
+-- the corners are all there
+long : (s : tie.Start) → cube (s .args .g .inner + 1) ≤ length (s .args .corners .now)
+unfolding planWith
+long s = s .pre .1 .lent .corners
+
+cast-cube-of : tie.Need-cast-cube-of
+cast-cube-of c = search needs
+
+cube-of-requires : tie.Need-cube-of-requires
+cube-of-requires c κs = search needs
+
+mul-j : tie.Need-mul-j
+mul-j c =
+    let s = c .before .before .before .before .before .before in
+    let at = ap (λ k. s .args .v * k) (c .cube-of .ensures) in
+    omega (arith, at, place-few (s .args .g) (s .args .v) (s .args .c) (s .pre .0 .0) (node s) (s .pre .0 .2))
+
+add-j : tie.Need-add-j
+add-j c =
+    let s = c .before .before .before .before .before .before in
+    let at = ap (λ k. s .args .v * k) (c .cube-of .ensures) in
+    omega (arith, at, place-few (s .args .g) (s .args .v) (s .args .c) (s .pre .0 .0) (node s) (s .pre .0 .2))
+
+slice-read-if1 : tie.Need-slice-read-if1
+slice-read-if1 c =
+    let s = c .before .before .before .before .before .before .before in
+    let at = ap (λ k. s .args .v * k) (c .before .cube-of .ensures) in
+    omega (arith, at, inside s)
+
+returns : tie.Need-returns
+returns c =
+    let s = c .before .before .before .before .before .before .before .before in
+    let a = s .args in
+    skipped (a .g) (a .band) (a .words .now) (a .reals .now) (a .parts) (a .v) (a .c) (a .budget) (a .leaves) (memory s) (a .b) (s .pre .0 .1) (s .pre .0 .2) (s .pre .1)
+    (c .before .before .cube-of .result) (c .before .before .cube-of .ensures) (c .if1 .taken)
+
+child-box-requires : tie.Need-child-box-requires
+child-box-requires c κs = search needs
+
+octet-values-requires : tie.Need-octet-values-requires
+octet-values-requires c κs =
+    let s = c .before .before .before .before .before .before .before .before .before in
+    (s .pre .0 .0 .innerLeast, s .pre .0 .0 .innerMost, s .pre .0 .2, long s)
+
+half-diagonal-requires : tie.Need-half-diagonal-requires
+half-diagonal-requires c κs = search needs
+
+is-pruned-requires : tie.Need-is-pruned-requires
+is-pruned-requires c κs = search needs
+
+slice-write-kinds : tie.Need-slice-write-kinds
+slice-write-kinds c =
+    let s = c .before .before .before .before .before .before .before .before .before .before .before .before .before in
+    let at = ap (λ k. s .args .v * k) (c .before .before .before .before .before .before .before .cube-of .ensures) in
+    omega (arith, at, inside s)
+
+average-requires : tie.Need-average-requires
+average-requires c κs = search needs
+
+mul-numbers : tie.Need-mul-numbers
+mul-numbers c =
+    let s = c .before .before .before .before .before .before .before .before .before .before .before .before .before .before in
+    let at = ap (λ k. s .args .v * k) (c .before .before .before .before .before .before .before .before .cube-of .ensures) in
+    omega (arith, at, place-few (s .args .g) (s .args .v) (s .args .c) (s .pre .0 .0) (node s) (s .pre .0 .2))
+
+slice-write-numbers : tie.Need-slice-write-numbers
+slice-write-numbers c =
+    let s = c .before .before .before .before .before .before .before .before .before .before .before .before .before .before in
+    let at = ap (λ k. s .args .v * k) (c .before .before .before .before .before .before .before .before .cube-of .ensures) in
+    omega (arith, at, inside s)
+
+same-length : tie.Need-same-length
+same-length c = search needs
+
+same-length-2 : tie.Need-same-length-2
+same-length-2 c = search needs
+
+returns-2 : tie.Need-returns-2
+returns-2 c =
+    let s = c .before .before .before .before .before .before .before .before .before .before .before .before .before .before in
+    let a = s .args in
+    constant-turn (a .g) (a .band) (a .words .now) (a .reals .now) (a .parts) (a .v) (a .c) (a .budget) (a .leaves) (memory s) (a .b) (s .pre .0 .1) (s .pre .0 .2) (s .pre .1)
+    (c .before .before .before .before .before .before .before .before .cube-of .result) (c .before .before .before .before .before .before .before .before .cube-of .ensures) (c .before .before .before .before .octet-values .ensures) (c .before .before .before .before .before .child-box .ensures) (c .before .before .before .half-diagonal .ensures) (c .before .before .before .before .before .before .if1 .left)
+    (sym (c .before .before .is-pruned .ensures) ∙ c .before .if2 .taken) (c .average .ensures)
+
+slice-write-kinds-2 : tie.Need-slice-write-kinds-2
+slice-write-kinds-2 c =
+    let s = c .before .before .before .before .before .before .before .before .before .before .before .before .before in
+    let at = ap (λ k. s .args .v * k) (c .before .before .before .before .before .before .before .cube-of .ensures) in
+    omega (arith, at, inside s)
+
+cast-places : tie.Need-cast-places
+cast-places c =
+    let s = c .before .before .before .before .before .before .before .before .before .before .before .before .before in
+    let a = s .args in
+    omega (arith, leaves-few (a .g) (a .band) (a .words .now) (a .reals .now) (a .parts) (a .v) (a .c) (a .leaves) (memory s) (s .pre .0 .0) (s .pre .0 .2) (s .pre .1))
+
+mul-places : tie.Need-mul-places
+mul-places c =
+    let s = c .before .before .before .before .before .before .before .before .before .before .before .before .before in
+    let at = ap (λ k. s .args .v * k) (c .before .before .before .before .before .before .before .cube-of .ensures) in
+    omega (arith, at, place-few (s .args .g) (s .args .v) (s .args .c) (s .pre .0 .0) (node s) (s .pre .0 .2))
+
+slice-write-places : tie.Need-slice-write-places
+slice-write-places c =
+    let s = c .before .before .before .before .before .before .before .before .before .before .before .before .before in
+    let at = ap (λ k. s .args .v * k) (c .before .before .before .before .before .before .before .cube-of .ensures) in
+    omega (arith, at, inside s)
+
+add-leaf-from : tie.Need-add-leaf-from
+add-leaf-from c =
+    let s = c .before .before .before .before .before .before .before .before .before .before .before .before .before in
+    let a = s .args in
+    omega (arith, leaves-few (a .g) (a .band) (a .words .now) (a .reals .now) (a .parts) (a .v) (a .c) (a .leaves) (memory s) (s .pre .0 .0) (s .pre .0 .2) (s .pre .1))
+
+leaf-from-requires : tie.Need-leaf-from-requires
+leaf-from-requires c κs =
+    let s = c .before .before .before .before .before .before .before .before .before .before .before .before .before .before .before in
+    let a = s .args in
+    let long = leaf-inside (a .g) (a .band) (a .words .now) (a .reals .now) (a .parts) (a .v) (a .c) (a .budget) (a .leaves) (memory s) (a .b) (s .pre .0 .1) (s .pre .0 .2) (s .pre .1)
+    (c .before .before .before .before .before .before .before .before .before .cube-of .result) (c .before .before .before .before .before .before .before .before .before .cube-of .ensures) (c .before .before .before .before .before .octet-values .ensures) (c .before .before .before .before .before .before .child-box .ensures) (c .before .before .before .before .half-diagonal .ensures) (c .before .before .before .before .before .before .before .if1 .left) in
+    (s .pre .0 .0 .leafLeast, s .pre .0 .0 .leafMost, omega arith, omega arith, long, s .pre .0 .3)
+
+same-length-3 : tie.Need-same-length-3
+same-length-3 c = search needs
+
+same-length-4 : tie.Need-same-length-4
+same-length-4 c = search needs
+
+same-length-5 : tie.Need-same-length-5
+same-length-5 c = search needs
+
+returns-3 : tie.Need-returns-3
+returns-3 c =
+    let s = c .before .before .before .before .before .before .before .before .before .before .before .before .before .before .before .before .before .before in
+    let a = s .args in
+    leaf-turn (a .g) (a .band) (a .words .now) (a .reals .now) (a .parts) (a .v) (a .c) (a .budget) (a .leaves) (memory s) (a .b) (s .pre .0 .1) (s .pre .0 .2) (s .pre .1)
+    (c .before .before .before .before .before .before .before .before .before .before .before .before .cube-of .result) (c .before .before .before .before .before .before .before .before .before .before .before .before .cube-of .ensures) (c .before .before .before .before .before .before .before .before .octet-values .ensures) (c .before .before .before .before .before .before .before .before .before .child-box .ensures) (c .before .before .before .before .before .before .before .half-diagonal .ensures) (c .before .before .before .before .before .before .before .before .before .before .if1 .left)
+    (sym (c .before .before .before .before .before .before .is-pruned .ensures) ∙ c .before .before .before .before .before .if2 .left) (c .before .before .leaf-from .ensures .0) (c .before .before .leaf-from .ensures .1)
+
+pub child-turn-spec : {M : Type 1} → statement M
+child-turn-spec =
+    tie.close
+    (tie.spec
+    cast-cube-of
+    cube-of-requires
+    mul-j
+    add-j
+    slice-read-if1
+    returns
+    child-box-requires
+    octet-values-requires
+    half-diagonal-requires
+    is-pruned-requires
+    slice-write-kinds
+    average-requires
+    mul-numbers
+    slice-write-numbers
+    same-length
+    same-length-2
+    returns-2
+    slice-write-kinds-2
+    cast-places
+    mul-places
+    slice-write-places
+    add-leaf-from
+    leaf-from-requires
+    same-length-3
+    same-length-4
+    same-length-5
+    returns-3)

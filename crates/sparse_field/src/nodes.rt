@@ -1,0 +1,254 @@
+// A node's corners, then its children, then the next node: what is left of a job from its cursor on,
+// while the budget lasts.
+ghost use mathlib.Core.Path.{_≡_};
+ghost use mathlib.Core.List.{[]};
+ghost use Prim.Native.Nat.{_+_, suc, _≤_, _<_};
+ghost use Rattle.grid.specs.Blocks.{cube};
+ghost use Rattle.grid.specs.Boxes.{nodeBox};
+ghost use Rattle.grid.specs.Nodes.{nodesOf};
+ghost use Rattle.schedule.specs.Schedule.{eventsFrom, childrenLeft, nodesLeft, at, corner, point};
+ghost use Rattle.schedule.specs.Totals.{activeBefore, activeAll};
+ghost use Rattle.sparse_field.specs.Calls.{memoryOf};
+ghost use Rattle.sparse_field.specs.Progress.{plan, Sized, Lent, Ready, Advanced, NodeAdvanced, ZeroCorners, readingIn};
+use crate::Cursor;
+use crate::Progress;
+use crate::Stop;
+use crate::children;
+use crate::corners;
+use crate::zeroing;
+use geometry::BoundingBox;
+use grid::Band;
+use grid::Grid;
+
+// The rest of node v, which has the box b, from child `first` on. Its corners are cleared at its end.
+fn rest_of_node(
+    g: Grid,
+    band: Band,
+    words: &[u32; 192],
+    reals: &[f64; 256],
+    parts: usize,
+    b: BoundingBox,
+    v: usize,
+    first: usize,
+    leaves: u64,
+    budget: u64,
+    scratch: &mut [f64; 4096],
+    kinds: &mut [u8],
+    numbers: &mut [f64],
+    places: &mut [u32],
+    store: &mut [f64],
+    corners: &mut [f64],
+) -> Progress
+    requires { ⌜ Sized g × (b ≡ nodeBox g v) × (first ≤ cube (g .inner)) × (parts ≤ 64) ⌝ }
+    requires { ⌜ Ready (plan g band (now words) (now reals) parts) v first leaves (memoryOf (now kinds) (now numbers) (now places) (now store) (now corners)) ⌝ }
+    ensures { λ r. ⌜ NodeAdvanced (plan g band (now (words .entry)) (now (reals .entry)) parts) v budget leaves (memoryOf (now (kinds .entry)) (now (numbers .entry)) (now (places .entry)) (now (store .entry)) (now (corners .entry))) (memoryOf (now (kinds .exit)) (now (numbers .exit)) (now (places .exit)) (now (store .exit)) (now (corners .exit))) (childrenLeft (plan g band (now (words .entry)) (now (reals .entry)) parts) v first (readingIn (memoryOf (now (kinds .entry)) (now (numbers .entry)) (now (places .entry)) (now (store .entry)) (now (corners .entry))))) r ⌝ }
+{
+    let turn = children::run_children(
+        g,
+        band,
+        words,
+        reals,
+        parts,
+        b,
+        v,
+        first,
+        leaves,
+        budget,
+        scratch,
+        kinds,
+        numbers,
+        places,
+        store,
+        corners,
+    );
+    let stop = turn.stop;
+    if let Stop::At(_) = stop {
+        return turn;
+    }
+    zeroing::zero_floats(corners);
+    turn
+}
+
+// Node v from corner i on.
+fn node_from_corner(
+    g: Grid,
+    band: Band,
+    words: &[u32; 192],
+    reals: &[f64; 256],
+    parts: usize,
+    v: usize,
+    i: usize,
+    leaves: u64,
+    budget: u64,
+    scratch: &mut [f64; 4096],
+    kinds: &mut [u8],
+    numbers: &mut [f64],
+    places: &mut [u32],
+    store: &mut [f64],
+    corners: &mut [f64],
+) -> Progress
+    requires { ⌜ Sized g × (i ≤ cube (g .inner + 1)) × (parts ≤ 64) ⌝ }
+    requires { ⌜ Ready (plan g band (now words) (now reals) parts) v 0 leaves (memoryOf (now kinds) (now numbers) (now places) (now store) (now corners)) ⌝ }
+    ensures { λ r. ⌜ NodeAdvanced (plan g band (now (words .entry)) (now (reals .entry)) parts) v budget leaves (memoryOf (now (kinds .entry)) (now (numbers .entry)) (now (places .entry)) (now (store .entry)) (now (corners .entry))) (memoryOf (now (kinds .exit)) (now (numbers .exit)) (now (places .exit)) (now (store .exit)) (now (corners .exit))) (eventsFrom (plan g band (now (words .entry)) (now (reals .entry)) parts) (at (corner v i)) (readingIn (memoryOf (now (kinds .entry)) (now (numbers .entry)) (now (places .entry)) (now (store .entry)) (now (corners .entry))))) r ⌝ }
+{
+    let n = g.inner as usize;
+    let b = grid::node_box(g, v);
+    let children = grid::cube_of(n);
+    let first = v * children;
+    let end = corners::run_corners(
+        words,
+        reals,
+        parts,
+        b,
+        g.inner,
+        &kinds[first..first + children],
+        i,
+        budget,
+        scratch,
+        corners,
+    );
+    let left = end.left;
+    if end.next < grid::cube_of(n + 1) {
+        let stop = Stop::At(Cursor::Corner(v, end.next));
+        return Progress { leaves, left, stop };
+    }
+    rest_of_node(
+        g,
+        band,
+        words,
+        reals,
+        parts,
+        b,
+        v,
+        0,
+        leaves,
+        left,
+        scratch,
+        kinds,
+        numbers,
+        places,
+        store,
+        corners,
+    )
+}
+
+// Node v from point p of its child c on.
+fn node_from_point(
+    g: Grid,
+    band: Band,
+    words: &[u32; 192],
+    reals: &[f64; 256],
+    parts: usize,
+    v: usize,
+    c: usize,
+    p: usize,
+    leaves: u64,
+    budget: u64,
+    scratch: &mut [f64; 4096],
+    kinds: &mut [u8],
+    numbers: &mut [f64],
+    places: &mut [u32],
+    store: &mut [f64],
+    corners: &mut [f64],
+) -> Progress
+    requires { ⌜ Sized g × (c < cube (g .inner)) × (p ≤ cube (g .leaf)) × (0 < leaves) × (parts ≤ 64) ⌝ }
+    requires { ⌜ Ready (plan g band (now words) (now reals) parts) v (suc c) leaves (memoryOf (now kinds) (now numbers) (now places) (now store) (now corners)) ⌝ }
+    ensures { λ r. ⌜ NodeAdvanced (plan g band (now (words .entry)) (now (reals .entry)) parts) v budget leaves (memoryOf (now (kinds .entry)) (now (numbers .entry)) (now (places .entry)) (now (store .entry)) (now (corners .entry))) (memoryOf (now (kinds .exit)) (now (numbers .exit)) (now (places .exit)) (now (store .exit)) (now (corners .exit))) (eventsFrom (plan g band (now (words .entry)) (now (reals .entry)) parts) (at (point v c p)) (readingIn (memoryOf (now (kinds .entry)) (now (numbers .entry)) (now (places .entry)) (now (store .entry)) (now (corners .entry))))) r ⌝ }
+{
+    let b = grid::node_box(g, v);
+    let child = grid::child_box(b, g.inner, c);
+    let turn = children::leaf_from(
+        words,
+        reals,
+        parts,
+        child,
+        g.leaf,
+        v,
+        c,
+        p,
+        leaves,
+        budget,
+        scratch,
+        store,
+    );
+    let stop = turn.stop;
+    if let Stop::At(_) = stop {
+        return turn;
+    }
+    rest_of_node(
+        g,
+        band,
+        words,
+        reals,
+        parts,
+        b,
+        v,
+        c + 1,
+        leaves,
+        turn.left,
+        scratch,
+        kinds,
+        numbers,
+        places,
+        store,
+        corners,
+    )
+}
+
+// The nodes from node `first` on, each from its first corner on.
+pub fn run_nodes(
+    g: Grid,
+    band: Band,
+    words: &[u32; 192],
+    reals: &[f64; 256],
+    parts: usize,
+    first: usize,
+    leaves: u64,
+    budget: u64,
+    scratch: &mut [f64; 4096],
+    kinds: &mut [u8],
+    numbers: &mut [f64],
+    places: &mut [u32],
+    store: &mut [f64],
+    corners: &mut [f64],
+) -> Progress
+    requires { ⌜ Sized g × (first ≤ nodesOf g) × (parts ≤ 64) × (leaves ≤ activeBefore (plan g band (now words) (now reals) parts) first 0) ⌝ }
+    requires { ⌜ Lent (plan g band (now words) (now reals) parts) (memoryOf (now kinds) (now numbers) (now places) (now store) (now corners)) × ZeroCorners (memoryOf (now kinds) (now numbers) (now places) (now store) (now corners)) ⌝ }
+    ensures { λ r. ⌜ Advanced (plan g band (now (words .entry)) (now (reals .entry)) parts) budget leaves (memoryOf (now (kinds .entry)) (now (numbers .entry)) (now (places .entry)) (now (store .entry)) (now (corners .entry))) (memoryOf (now (kinds .exit)) (now (numbers .exit)) (now (places .exit)) (now (store .exit)) (now (corners .exit))) (nodesLeft (plan g band (now (words .entry)) (now (reals .entry)) parts) first) [] r (activeAll (plan g band (now (words .entry)) (now (reals .entry)) parts)) ⌝ }
+{
+    let nodes = grid::node_total(g);
+    let mut v = first;
+    let mut made = leaves;
+    let mut left = budget;
+    while v < nodes {
+        let turn = node_from_corner(
+            g,
+            band,
+            words,
+            reals,
+            parts,
+            v,
+            0,
+            made,
+            left,
+            scratch,
+            kinds,
+            numbers,
+            places,
+            store,
+            corners,
+        );
+        made = turn.leaves;
+        left = turn.left;
+        let stop = turn.stop;
+        if let Stop::At(_) = stop {
+            return turn;
+        }
+        v += 1;
+    }
+    Progress {
+        leaves: made,
+        left,
+        stop: Stop::Through,
+    }
+}
