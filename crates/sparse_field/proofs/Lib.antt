@@ -3,3 +3,4 @@ pub mod Stretch
 pub mod RunLaws
 pub mod Turns
 pub mod ChildLaws
+pub mod NodeLaws

@@ -73,6 +73,14 @@ module _ (P : Plan) where
       → ChildrenAdvanced P v c c₁ b leaves m m₁ r → ChildrenAdvanced P v c c₂ b leaves m m₁ r
   children-upto v c c₁ c₂ b leaves {m} {m₁} {r} same = subst (λ n. ChildrenAdvanced P v c n b leaves m m₁ r) same
 
+  -- where a function has stopped, nothing is claimed of its end
+  pub if-stopped : (A : Type 0) {x : Stop} (a : Cursor) → x ≡ At a → IfThrough x A
+  if-stopped A a stop = subst (λ x. IfThrough x A) (sym stop) tt
+
+  -- where it has come through, what is claimed holds
+  pub came-through : (A : Type 0) {x : Stop} → IfThrough x A → x ≡ Through → A
+  came-through A claim through = subst (λ x. IfThrough x A) through claim
+
   -- a child's place is one of the kinds
   place-inside : (v c n : ℕ) → v < P .nodes → c < P .children → P .nodes * P .children ≤ n → v * P .children + c < n
   place-inside v c n hv hc long = omega (arith, mul-le-mul-right (P .children) hv)
@@ -122,7 +130,7 @@ module _ (P : Plan) where
   leafState v c p b n m = stateIn (memoryOf (m .kinds) (m .numbers) (m .places) (filledStore v c p b n (m .store)) (m .corners)) n
 
   -- a stop before an evaluation, at which no budget is left
-  stopped : (k : ℕ) → k ≡ 0 → (t : Site) (x : Float) (es : List Event) (s : State)
+  pub stopped : (k : ℕ) → k ≡ 0 → (t : Site) (x : Float) (es : List Event) (s : State)
       → runOf P k (evaluate t x ∷ es) s ≡ record { state = s; cursor = at t; left = k }
   stopped k none t x es s =
       ap (λ k. runOf P k (evaluate t x ∷ es) s) none
@@ -216,31 +224,34 @@ module _ (P : Plan) where
           atMost = points .atMost;
         }
 
-  -- the memory after a node's corners are cleared
-  abbrev pub clearedMemory : Memory → Memory
-  clearedMemory m = memoryOf (m .kinds) (m .numbers) (m .places) (m .store) (replicate (length (m .corners)) plusZero)
+  -- a node whose function has stopped
+  pub node-stopped : (v b leaves : ℕ) {m m₁ : Memory} {from mid : List Event} {r : Progress} {most : ℕ} (a : Cursor)
+      → Advanced P b leaves m m₁ from mid r most → r .stop ≡ At a → NodeAdvanced P v b leaves m m₁ from r
+  node-stopped v b leaves a first stop = record { advanced = advanced-stopped a first stop; cleared = if-stopped _ a stop }
 
   -- past its last child a node's corners are cleared
-  pub turn-clear : (v b leaves c : ℕ) (m m₁ : Memory) (r : Progress) → m₁ .corners ≡ m .corners
-      → ChildrenAdvanced P v c (P .children) b leaves m m₁ r → r .stop ≡ Through
-      → NodeAdvanced P v b leaves m (clearedMemory m₁) (childrenLeft P v c (readingIn m)) r
+  pub turn-clear : (v b leaves c : ℕ) (m m₁ : Memory) (r : Progress) {cleared : List Float}
+      → ChildrenAdvanced P v c (P .children) b leaves m m₁ r → r .stop ≡ Through → cleared ≡ replicate (length (m₁ .corners)) plusZero
+      → NodeAdvanced P v b leaves m (memoryOf (m₁ .kinds) (m₁ .numbers) (m₁ .places) (m₁ .store) cleared) (childrenLeft P v c (readingIn m)) r
   unfolding apply
-  turn-clear v b leaves c m m₁ r same children through = record {
-    advanced = record {
-      same = children .same
-        ∙ ap (λ x. afterStop P (stateIn m₁ (r .leaves)) (r .left) x (childrenLeft P v (P .children) (readingIn m))) through
-        ∙ ap (λ es. runOf P (r .left) es (stateIn m₁ (r .leaves))) (child-last P v (P .children) (omega arith) (readingIn m))
-        ∙ run-work P (r .left) clearCorners (nodesLeft P (suc v)) (stateIn m₁ (r .leaves))
-        ∙ sym (ap (λ x. afterStop P (stateIn (clearedMemory m₁) (r .leaves)) (r .left) x (nodesLeft P (suc v))) through);
-      lent = record {
-        kinds = children .lent .kinds;
-        numbers = children .lent .numbers;
-        places = children .lent .places;
-        store = children .lent .store;
-        corners = rw length-replicate (children .lent .corners);
-        activeKinds = children .lent .activeKinds;
-      };
-      atMost = subst (λ k. IfThrough (r .stop) (r .leaves ≤ k)) (sym (before-node P (P .active) v)) (children .atMost);
-    };
-    cleared = if-through (r .stop) (λ i. getD-equal plusZero (length (m₁ .corners)) i);
-  }
+  turn-clear v b leaves c m m₁ r {cleared} children through zeroed =
+      subst (λ l. NodeAdvanced P v b leaves m (memoryOf (m₁ .kinds) (m₁ .numbers) (m₁ .places) (m₁ .store) l) (childrenLeft P v c (readingIn m)) r) (sym zeroed) (record {
+        advanced = record {
+          same = children .same
+            ∙ ap (λ x. afterStop P (stateIn m₁ (r .leaves)) (r .left) x (childrenLeft P v (P .children) (readingIn m))) through
+            ∙ ap (λ es. runOf P (r .left) es (stateIn m₁ (r .leaves))) (child-last P v (P .children) (omega arith) (readingIn m))
+            ∙ run-work P (r .left) clearCorners (nodesLeft P (suc v)) (stateIn m₁ (r .leaves))
+            ∙ sym (ap (λ x. afterStop P (stateIn (memoryOf (m₁ .kinds) (m₁ .numbers) (m₁ .places) (m₁ .store) (replicate (length (m₁ .corners)) plusZero)) (r .leaves)) (r .left) x
+                (nodesLeft P (suc v))) through);
+          lent = record {
+            kinds = children .lent .kinds;
+            numbers = children .lent .numbers;
+            places = children .lent .places;
+            store = children .lent .store;
+            corners = rw length-replicate (children .lent .corners);
+            activeKinds = children .lent .activeKinds;
+          };
+          atMost = subst (λ k. IfThrough (r .stop) (r .leaves ≤ k)) (sym (before-node P (P .active) v)) (children .atMost);
+        };
+        cleared = if-through (r .stop) (λ i. getD-equal plusZero (length (m₁ .corners)) i);
+      })

@@ -184,7 +184,7 @@ fn node_from_point(
         b,
         v,
         c + 1,
-        leaves,
+        turn.leaves,
         turn.left,
         scratch,
         kinds,

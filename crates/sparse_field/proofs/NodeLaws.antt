@@ -1,0 +1,267 @@
+-- A node's turn: its corners, evaluated while the budget lasts, and what follows them.
+use Prim.Native.Nat.{ℕ, zero, suc, _+_, _*_, _-_, _≤_, _<_, min}
+use mathlib.Core.Path.{_≡_, refl, sym, ap, ap₂, subst, fun-ext, _∙_}
+use mathlib.Core.Bool.{Bool, true, false, not, cond, _&&_, _||_}
+use mathlib.Core.Logic.{_⊎_, ⊎-elim}
+use mathlib.Core.List.{List, []}
+use native.Mathlib.Nat.{mul-le-mul-left, mul-le-mul-right}
+use native.Mathlib.Omega.{arith}
+use lib.ListN.{set, getD, length, take, drop, length-set, length-drop}
+use lib.Seq.{getD-take, getD-drop, length-take-le}
+use lib.Dec.{eqb}
+use borrow.Author.Tests.{eq-eqb, ne-eqb}
+use lib.Ieee.{Float}
+use Rattle.float.specs.Zero.{plusZero}
+use Rattle.geometry.specs.declared.BoundingBox.{BoundingBox}
+use Rattle.grid.specs.declared.Grid.{Grid}
+use Rattle.grid.specs.declared.Band.{Band}
+use Rattle.grid.specs.Ranges.{anyBelow}
+use Rattle.grid.specs.Blocks.{cube}
+use Rattle.grid.specs.Nodes.{nodesOf}
+use Rattle.grid.specs.Boxes.{active, nodeBox, childBox}
+use Rattle.grid.specs.Leaves.{leafPoint}
+use Rattle.grid.specs.Corners as corners
+use Rattle.grid.specs.CornerList as kinds
+use Rattle.grid.proofs.Needing.{needed-below}
+use Rattle.grid.proofs.BlockLaws.{cube-le}
+use Rattle.lists.specs.Filled.{filled}
+use Rattle.schedule.specs.Schedule.{Plan, Memory, State, Event, Decision, constant, leaf, corner, point, evaluate, at, eventsFrom, childrenLeft, nodesLeft, zeros}
+use Rattle.schedule.specs.Totals.{activeBefore, activeAll}
+use Rattle.schedule.specs.PlanLaws.{PlanLaws}
+use Rattle.schedule.specs.Opened.{nonzero, ActiveKinds}
+use Rattle.schedule.proofs.Sums.{before-all, before-most}
+use Rattle.schedule.proofs.Next.{corner-evaluate, corner-last, node-first, node-last}
+use Rattle.schedule.proofs.Activity.{active-at}
+use Rattle.sparse_field.specs.declared.Progress.{Progress}
+use Rattle.sparse_field.specs.declared.Cursor.the-variants.{Corner}
+use Rattle.sparse_field.specs.declared.Stop.the-variants.{Through, At}
+use Rattle.sparse_field.specs.Calls.{memoryOf}
+use Rattle.sparse_field.specs.CornerRun.{CornerRun, neededFrom, evaluatedFrom}
+use Rattle.sparse_field.specs.Plan as plans
+use Rattle.sparse_field.specs.Plan.{planWith, decideOf}
+use Rattle.sparse_field.specs.Runs.{runOf}
+use Rattle.sparse_field.specs.FlatValue.{flatValue}
+use Rattle.sparse_field.specs.Progress.{plan, Sized, Lent, stateIn, Advanced, Ready, readingIn, ZeroCorners, NodeAdvanced, leafProgress}
+use Rattle.sparse_field.proofs.RunLaws.{run-corners}
+use Rattle.sparse_field.proofs.Turns.{progress, stopped, advanced-then, filledStore, turn-points}
+
+-- ---- the plan's laws
+
+-- a needed corner is one of the node's, and a constant's kind is 1
+pub plan-laws : (g : Grid) (band : Band) (value : Float → Float → Float → Float) → 0 < g .inner → PlanLaws (planWith g band value)
+unfolding planWith decideOf
+plan-laws g band value above = record {
+  inside = λ v i below needed. needed-below (g .inner) (active g v) i above needed;
+  constantKind = λ v c read k x decided. kind _ _ k x decided;
+}
+  where
+    kind : (y : Float) (b : Bool) (k : ℕ) (x : Float) → cond b (constant 1 y) leaf ≡ constant k x → 0 < k
+    kind y true k x e = let one : k ≡ 1 = cc in omega arith
+    kind y false k x e = let z : _≡_ {A = ℕ} 0 1 = cc in absurd (omega arith)
+
+-- ---- one node's part of the kinds
+
+any-cong : (n : ℕ) (test other : ℕ → Bool) → ((c : ℕ) → c < n → test c ≡ other c) → anyBelow n test ≡ anyBelow n other
+unfolding anyBelow
+any-cong zero test other same = refl
+any-cong (suc n) test other same =
+    let rest : anyBelow n test ≡ anyBelow n other = any-cong n test other (λ c h. same c (omega arith)) in
+    let last : test n ≡ other n = same n (omega arith) in
+    λ t. rest t || last t
+
+nonzero-eqb : (k : ℕ) → not (eqb k 0) ≡ nonzero k
+nonzero-eqb zero = ap not (eq-eqb 0 0 refl)
+nonzero-eqb (suc k) = ap not (ne-eqb (suc k) 0 (λ e. omega arith))
+
+module _ (g : Grid) (band : Band) (value : Float → Float → Float → Float) (l : List ℕ) (right : ActiveKinds (planWith g band value) l)
+    (long : nodesOf g * cube (g .inner) ≤ length l) (v : ℕ) (below : v < nodesOf g) {first d : ℕ} (from : first ≡ v * cube (g .inner)) (size : d ≡ cube (g .inner)) where
+  -- a kind of the part is nonzero exactly where the child is active
+  part-active : (c : ℕ) → c < cube (g .inner) → kinds.nonzero (take d (drop first l)) c ≡ active g v c
+  unfolding kinds.nonzero planWith
+  part-active c h =
+      let n : ℕ = cube (g .inner) in
+      let inside : v * n + c < nodesOf g * n = omega (arith, mul-le-mul-right n below) in
+      let read : getD (take d (drop first l)) c 0 ≡ getD l (v * n + c) 0 =
+        getD-take d (drop first l) c 0 (omega arith) ∙ getD-drop first l c 0 ∙ ap (λ k. getD l (k + c) 0) from in
+      ap (λ k. not (eqb k 0)) read ∙ nonzero-eqb (getD l (v * n + c) 0) ∙ right (v * n + c) (omega arith) ∙ active-at (planWith g band value) v c below h
+
+  -- so a corner is needed by the part exactly where it is by the plan
+  pub part-needed : (i : ℕ) → corners.needed (g .inner) (kinds.nonzero (take d (drop first l))) i ≡ planWith g band value .needed v i
+  unfolding planWith corners.needed
+  part-needed i =
+      any-cong (cube (g .inner)) _ _ (λ c h. ap (λ b. b && corners.among i (corners.octet (g .inner) c)) (part-active c h))
+
+  -- and the run over its corners is the plan's
+  pub plan-corners : {box : BoundingBox} {i b next left : ℕ} {before after : List Float} → box ≡ nodeBox g v
+      → CornerRun (corners.needed (g .inner) (kinds.nonzero (take d (drop first l)))) (λ i. plans.at value (corners.cornerPoint box (g .inner) i))
+        (cube (g .inner + 1)) i b next left before after
+      → CornerRun (planWith g band value .needed v) (planWith g band value .cornerValue v) (planWith g band value .corners) i b next left before after
+  unfolding planWith
+  plan-corners {box} {i} {b} {next} {left} {before} {after} boxed run =
+      subst (λ test. CornerRun test (planWith g band value .cornerValue v) (cube (g .inner + 1)) i b next left before after) (fun-ext part-needed)
+      (subst (λ x. CornerRun (corners.needed (g .inner) (kinds.nonzero (take d (drop first l)))) (λ i. plans.at value (corners.cornerPoint x (g .inner) i))
+        (cube (g .inner + 1)) i b next left before after) boxed run)
+
+-- ---- a run over a node's corners
+
+evaluated-length : (test : ℕ → Bool) (value : ℕ → Float) (r i : ℕ) (l : List Float) → length (evaluatedFrom test value r i l) ≡ length l
+unfolding evaluatedFrom
+evaluated-length test value zero i l = refl
+evaluated-length test value (suc r) i l = evaluated-length test value r (suc i) _ ∙ one (test i)
+  where
+    one : (b : Bool) → length (cond b (set l i (value i)) l) ≡ length l
+    one true = length-set l i (value i)
+    one false = refl
+
+module _ (P : Plan) (v i b leaves next left : ℕ) (m : Memory) (after : List Float) (lent : Lent P m)
+    (run : CornerRun (P .needed v) (P .cornerValue v) (P .corners) i b next left (m .corners) after) where
+  -- the memory after the run
+  abbrev pub cornered : Memory
+  cornered = memoryOf (m .kinds) (m .numbers) (m .places) (m .store) after
+
+  pub cornered-lent : Lent P cornered
+  cornered-lent = record {
+    kinds = lent .kinds;
+    numbers = lent .numbers;
+    places = lent .places;
+    store = lent .store;
+    corners = omega (arith, lent .corners, ap length (run .written), evaluated-length (P .needed v) (P .cornerValue v) (next - i) i (m .corners));
+    activeKinds = lent .activeKinds;
+  }
+
+  -- what is left from the next corner on
+  corners-run : runOf P b (eventsFrom P (at (corner v i)) (readingIn m)) (stateIn m leaves)
+      ≡ runOf P left (eventsFrom P (at (corner v next)) (readingIn cornered)) (stateIn cornered leaves)
+  corners-run =
+      let r : ℕ = next - i in
+      let place : i + r ≡ next = omega (arith, run .from) in
+      let rest : b - neededFrom (P .needed v) r i ≡ left = omega (arith, run .spent) in
+      run-corners P v r i b (stateIn m leaves) (m .corners) (omega (arith, run .from, run .within)) (lent .corners) (omega (arith, run .spent))
+      ∙ ap₂ (λ k n. runOf P k (eventsFrom P (at (corner v n)) (λ j. getD (evaluatedFrom (P .needed v) (P .cornerValue v) r i (m .corners)) j plusZero))
+          (stateIn (memoryOf (m .kinds) (m .numbers) (m .places) (m .store) (evaluatedFrom (P .needed v) (P .cornerValue v) r i (m .corners))) leaves)) rest place
+      ∙ ap (λ l. runOf P left (eventsFrom P (at (corner v next)) (λ j. getD l j plusZero)) (stateIn (memoryOf (m .kinds) (m .numbers) (m .places) (m .store) l) leaves)) (sym (run .written))
+
+  -- it stops before a corner
+  pub corners-stopped : {to : List Event} {most : ℕ} → next < P .corners
+      → Advanced P b leaves m cornered (eventsFrom P (at (corner v i)) (readingIn m)) to (progress leaves left (At (Corner v next))) most
+  corners-stopped short =
+      let stop : (left ≡ 0) × (P .needed v next ≡ true) = ⊎-elim (λ (e : next ≡ P .corners). absurd (omega arith)) (λ p. p) (run .stops) in
+      record {
+        same = corners-run
+          ∙ ap (λ es. runOf P left es (stateIn cornered leaves))
+            (corner-evaluate P v next short (stop .1) (stateIn cornered leaves) (omega (arith, cornered-lent .corners)))
+          ∙ stopped P left (stop .0) (corner v next) (P .cornerValue v next) _ (stateIn cornered leaves);
+        lent = cornered-lent;
+        atMost = tt;
+      }
+
+  -- it comes to the children
+  pub corners-through : PlanLaws P → v < P .nodes → P .corners ≤ next → leaves ≤ activeBefore P v 0
+      → Advanced P b leaves m cornered (eventsFrom P (at (corner v i)) (readingIn m)) (childrenLeft P v 0 (readingIn cornered)) (progress leaves left Through)
+        (activeBefore P v 0)
+  corners-through laws node last most = record {
+    same = corners-run ∙ ap (λ es. runOf P left es (stateIn cornered leaves)) (corner-last P v laws node next last (readingIn cornered));
+    lent = cornered-lent;
+    atMost = most;
+  }
+
+-- ---- one node after another
+
+-- a node begins with corners that are all +0
+pub node-begins : (P : Plan) (v : ℕ) (m : Memory) → v < P .nodes → ZeroCorners m → nodesLeft P v ≡ eventsFrom P (at (corner v 0)) (readingIn m)
+node-begins P v m below cleared = node-first P v below ∙ ap (eventsFrom P (at (corner v 0))) (sym (fun-ext cleared))
+
+-- after the last node nothing is left
+pub nodes-end : (P : Plan) (v b leaves : ℕ) (m m₁ : Memory) (from : List Event) (r : Progress) → v ≡ P .nodes
+    → Advanced P b leaves m m₁ from (nodesLeft P v) r (activeBefore P v 0) → Advanced P b leaves m m₁ from [] r (activeAll P)
+nodes-end P v b leaves m m₁ from r last done =
+    subst (λ n. Advanced P b leaves m m₁ from [] r n) (ap (λ u. activeBefore P u 0) last ∙ before-all P (P .active))
+    (subst (λ es. Advanced P b leaves m m₁ from es r (activeBefore P v 0)) (node-last P v (omega arith)) done)
+
+-- one node more
+pub node-after : (P : Plan) (v b leaves made left : ℕ) {m₀ m m₁ : Memory} {from : List Event} {r : Progress} {most : ℕ}
+    → Advanced P b leaves m₀ m from (nodesLeft P v) (progress made left Through) most → v < P .nodes → ZeroCorners m
+    → NodeAdvanced P v left made m m₁ (eventsFrom P (at (corner v 0)) (readingIn m)) r
+    → Advanced P b leaves m₀ m₁ from (nodesLeft P (suc v)) r (activeBefore P (suc v) 0)
+node-after P v b leaves made left {m₀} {m} {m₁} {from} {r} {most} done below cleared node =
+    advanced-then P
+    (subst (λ es. Advanced P b leaves m₀ m from es (progress made left Through) most) (node-begins P v m below cleared) done)
+    refl (node .advanced)
+
+-- ---- the same, from what the code reads
+
+-- there are few nodes
+pub nodes-few : (g : Grid) → Sized g → nodesOf g ≤ 16777216
+nodes-few g sized =
+    let one : 1 ≤ cube (g .inner) = cube-le (g .inner) 1 (sized .innerLeast) in
+    omega (arith, sized .children, mul-le-mul-left (nodesOf g) one)
+
+-- a node's kinds are inside the slice
+pub node-few : (g : Grid) (v : ℕ) → Sized g → v < nodesOf g → v * cube (g .inner) + cube (g .inner) ≤ nodesOf g * cube (g .inner)
+node-few g v sized below = omega (arith, mul-le-mul-right (cube (g .inner)) below)
+
+-- a part of a list
+pub part-long : (l : List ℕ) (first n : ℕ) → first + n ≤ length l → length (take (first + n - first) (drop first l)) ≡ n
+part-long l first n fits =
+    let size : first + n - first ≡ n = omega arith in
+    length-take-le (first + n - first) (drop first l) (omega (arith, length-drop first l)) ∙ size
+
+module _ (g : Grid) (band : Band) (words : List ℕ) (reals : List Float) (parts v i b leaves : ℕ) (m : Memory) (sized : Sized g)
+    (ready : Ready (plan g band words reals parts) v 0 leaves m) (n : ℕ) (cubed : n ≡ cube (g .inner))
+    {box : BoundingBox} {next left : ℕ} {after : List Float} (boxed : box ≡ nodeBox g v)
+    (run : CornerRun (corners.needed (g .inner) (kinds.nonzero (take (v * n + n - v * n) (drop (v * n) (m .kinds)))))
+      (λ i. plans.at (flatValue words reals parts) (corners.cornerPoint box (g .inner) i)) (cube (g .inner + 1)) i b next left (m .corners) after) where
+  abbrev P : Plan
+  P = plan g band words reals parts
+
+  planned : CornerRun (P .needed v) (P .cornerValue v) (P .corners) i b next left (m .corners) after
+  unfolding planWith
+  planned =
+      let size : v * n + n - v * n ≡ cube (g .inner) = omega (arith, cubed) in
+      plan-corners g band (flatValue words reals parts) (m .kinds) (ready .lent .activeKinds) (ready .lent .kinds) v (ready .node) (ap (λ k. v * k) cubed) size boxed run
+
+  -- the code's corners stop before one that is needed
+  pub node-at-corner : next < cube (g .inner + 1)
+      → NodeAdvanced P v b leaves m (memoryOf (m .kinds) (m .numbers) (m .places) (m .store) after) (eventsFrom P (at (corner v i)) (readingIn m))
+        (progress leaves left (At (Corner v next)))
+  unfolding planWith
+  node-at-corner short = record { advanced = corners-stopped P v i b leaves next left m after (ready .lent) planned short; cleared = tt }
+
+  -- or come to the children
+  pub node-past-corners : cube (g .inner + 1) ≤ next
+      → Advanced P b leaves m (memoryOf (m .kinds) (m .numbers) (m .places) (m .store) after) (eventsFrom P (at (corner v i)) (readingIn m))
+        (childrenLeft P v 0 (readingIn (memoryOf (m .kinds) (m .numbers) (m .places) (m .store) after))) (progress leaves left Through) (activeBefore P v 0)
+  unfolding planWith
+  node-past-corners last =
+      corners-through P v i b leaves next left m after (ready .lent) planned (plan-laws g band (flatValue words reals parts) (sized .innerLeast)) (ready .node) last (ready .atMost)
+
+module _ (g : Grid) (band : Band) (words : List ℕ) (reals : List Float) (parts v c p b leaves : ℕ) (m : Memory)
+    (ready : Ready (plan g band words reals parts) v (suc c) leaves m) (below : c < cube (g .inner)) where
+  abbrev Q : Plan
+  Q = plan g band words reals parts
+
+  -- the leaves so far are inside the store
+  pub leaves-inside : leaves * cube (g .leaf) ≤ length (m .store)
+  unfolding planWith
+  leaves-inside =
+      let few : leaves ≤ activeAll Q = omega (arith, ready .atMost, before-most Q (Q .active) v (suc c) (ready .node) (omega arith)) in
+      omega (arith, ready .lent .store, mul-le-mul-right (cube (g .leaf)) few)
+
+  -- points of the last leaf, that of child c
+  pub node-points : {box child : BoundingBox} {store : List Float} {turn : Progress} → p ≤ cube (g .leaf) → box ≡ nodeBox g v → child ≡ childBox box (g .inner) c
+      → turn ≡ leafProgress leaves b v c p (cube (g .leaf))
+      → store ≡ filled ((leaves - 1) * cube (g .leaf) + p) (min b (cube (g .leaf) - p))
+        (λ q. plans.at (flatValue words reals parts) (leafPoint child (g .leaf) (q - (leaves - 1) * cube (g .leaf)))) (m .store)
+      → Advanced Q b leaves m (memoryOf (m .kinds) (m .numbers) (m .places) store (m .corners)) (eventsFrom Q (at (point v c p)) (readingIn m))
+        (childrenLeft Q v (suc c) (readingIn m)) turn (activeBefore Q v (suc c))
+  unfolding planWith plans.boxOf
+  node-points {box} {child} {store} {turn} within boxed lies goes stored =
+      let lies′ : child ≡ childBox (nodeBox g v) (g .inner) c = lies ∙ ap (λ x. childBox x (g .inner) c) boxed in
+      let stored′ : store ≡ filledStore Q v c p b leaves (m .store) =
+        stored ∙ ap (λ x. filled ((leaves - 1) * cube (g .leaf) + p) (min b (cube (g .leaf) - p))
+          (λ q. plans.at (flatValue words reals parts) (leafPoint x (g .leaf) (q - (leaves - 1) * cube (g .leaf)))) (m .store)) lies′ in
+      subst (λ l. Advanced Q b leaves m (memoryOf (m .kinds) (m .numbers) (m .places) l (m .corners)) (eventsFrom Q (at (point v c p)) (readingIn m))
+        (childrenLeft Q v (suc c) (readingIn m)) turn (activeBefore Q v (suc c))) (sym stored′)
+      (subst (λ t. Advanced Q b leaves m (memoryOf (m .kinds) (m .numbers) (m .places) (filledStore Q v c p b leaves (m .store)) (m .corners))
+        (eventsFrom Q (at (point v c p)) (readingIn m)) (childrenLeft Q v (suc c) (readingIn m)) t (activeBefore Q v (suc c))) (sym goes)
+      (turn-points Q v c p b leaves m (ready .lent) (ready .atMost) within))
