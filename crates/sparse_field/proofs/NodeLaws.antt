@@ -188,6 +188,11 @@ node-after P v b leaves made left {m₀} {m} {m₁} {from} {r} {most} done below
     (subst (λ es. Advanced P b leaves m₀ m from es (progress made left Through) most) (node-begins P v m below cleared) done)
     refl (node .advanced)
 
+-- the nodes up to a number that is the same
+pub nodes-upto : (P : Plan) (v₁ v₂ b leaves : ℕ) {m₀ m : Memory} {from : List Event} {r : Progress} → v₁ ≡ v₂
+    → Advanced P b leaves m₀ m from (nodesLeft P v₁) r (activeBefore P v₁ 0) → Advanced P b leaves m₀ m from (nodesLeft P v₂) r (activeBefore P v₂ 0)
+nodes-upto P v₁ v₂ b leaves {m₀} {m} {from} {r} same = subst (λ v. Advanced P b leaves m₀ m from (nodesLeft P v) r (activeBefore P v 0)) same
+
 -- ---- the same, from what the code reads
 
 -- there are few nodes
