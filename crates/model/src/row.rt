@@ -1,9 +1,8 @@
 // The values of parts at a row of points, part by part, from the flat arrays.
 ghost use mathlib.Core.Path.{_≡_};
 ghost use Prim.Native.Nat.{_≤_, _<_};
-ghost use mathlib.Core.List.{_++_};
-ghost use lib.ListN.{length, getD, drop};
-ghost use Rattle.lists.specs.Tabulate.{tabulate};
+ghost use lib.ListN.{length, getD};
+ghost use Rattle.lists.specs.Filled.{filled};
 ghost use Rattle.float.specs.Zero.{plusZero};
 ghost use Rattle.geometry.specs.Values.{vec3};
 ghost use Rattle.model.specs.Part.{past, partValue};
@@ -133,7 +132,7 @@ pub fn fill_parts(
 pub fn copy_row(values: &[f64], p: usize, n: usize, results: &mut [f64])
     requires { ⌜ laneAt p n ≤ length (now values) ⌝ }
     requires { ⌜ n ≤ length (now results) ⌝ }
-    ensures { λ _. ⌜ now (results .exit) ≡ tabulate n (λ k. getD (now (values .entry)) (laneAt p k) past) ++ drop n (now (results .entry)) ⌝ }
+    ensures { λ _. ⌜ now (results .exit) ≡ filled 0 n (λ k. getD (now (values .entry)) (laneAt p k) past) (now (results .entry)) ⌝ }
     ensures { λ _. ⌜ laneAt p n ≤ length (now (values .entry)) ⌝ }
 {
     let row = p * 64;
@@ -147,7 +146,7 @@ pub fn copy_row(values: &[f64], p: usize, n: usize, results: &mut [f64])
 // +0 into the first n elements.
 pub fn clear_row(n: usize, results: &mut [f64])
     requires { ⌜ n ≤ length (now results) ⌝ }
-    ensures { λ _. ⌜ now (results .exit) ≡ tabulate n (λ k. plusZero) ++ drop n (now (results .entry)) ⌝ }
+    ensures { λ _. ⌜ now (results .exit) ≡ filled 0 n (λ k. plusZero) (now (results .entry)) ⌝ }
 {
     let mut i: usize = 0;
     while i < n {

@@ -2,9 +2,8 @@
 use native.Mathlib.Omega.{arith}
 use borrow.Author.Needs.{needs}
 use lib.ListN.{length-set}
-use Rattle.dense_field.specs.Lent.{Lent}
 use Rattle.dense_field.proofs.Edges.{edge-first, edge-last, outer-row}
-use Rattle.dense_field.proofs.PadLaws.{Within, within, outer-stretch, inner-row}
+use Rattle.dense_field.proofs.PadLaws.{within, outer-stretch, inner-row}
 use Rattle.dense_field.proofs.pad.pad_row.Statement.{statement}
 use Rattle.dense_field.proofs.pad.pad_row.Tie as tie
 

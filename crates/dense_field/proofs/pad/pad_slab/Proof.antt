@@ -7,10 +7,10 @@ use native.Mathlib.Nat.{mul-comm}
 use lib.ListN.{length}
 use Rattle.lists.specs.Filled.{filled}
 use Rattle.lists.proofs.Filling.{filled-none, filled-length, filled-done}
-use Rattle.dense_field.specs.Lent.{Lent}
 use Rattle.dense_field.specs.Padding.{paddedAt}
+use Rattle.dense_field.proofs.Lending.{as-long}
 use Rattle.dense_field.proofs.Edges.{edge-first, edge-last, outer-slab}
-use Rattle.dense_field.proofs.PadLaws.{Within, within, outer-stretch, pad-more}
+use Rattle.dense_field.proofs.PadLaws.{within, outer-stretch, pad-more}
 use Rattle.dense_field.proofs.pad.pad_slab.Statement.{statement}
 use Rattle.dense_field.proofs.pad.pad_slab.Tie as tie
 
@@ -80,9 +80,8 @@ loop-holds c =
 pad-row-requires : tie.Need-pad-row-requires Inv-loop μ-loop
 pad-row-requires c κs =
     let p = c .before .before .before .before .before .before .before .before .before .pre .0 in
-    let l : length (c .before .before .before .loop .values) ≡ length (c .before .before .before .before .before .before .before .before .before .args .values .now) = c .before .before .before .loop .inv .1 in
-    let long = l ∙ p .long in
-    (record { x-above = p .x-above; y-above = p .y-above; z-above = p .z-above; few = p .few; long = long }, (omega arith, omega arith, omega arith))
+    let long : length (c .before .before .before .loop .values) ≡ length (c .before .before .before .before .before .before .before .before .before .args .values .now) = c .before .before .before .loop .inv .1 in
+    (as-long p long, (omega arith, omega arith, omega arith))
 
 add-j : tie.Need-add-j Inv-loop μ-loop
 add-j c = search needs

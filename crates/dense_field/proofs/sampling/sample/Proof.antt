@@ -6,7 +6,7 @@ use borrow.Author.Tests.{ne-eqb}
 use Rattle.dense_field.specs.Runs.{sampleOutcome}
 use Rattle.dense_field.specs.declared.Outcome.the-variants.{Refused}
 use Rattle.dense_field.proofs.Lending.{lent}
-use Rattle.dense_field.proofs.SampleLaws.{Passed, passed, flat-sampled}
+use Rattle.dense_field.proofs.SampleLaws.{passed, flat-sampled}
 use Rattle.dense_field.proofs.sampling.sample.Statement.{statement}
 use Rattle.dense_field.proofs.sampling.sample.Tie as tie
 

@@ -7,9 +7,9 @@ use lib.ListN.{length}
 use Rattle.lists.specs.Filled.{filled}
 use Rattle.lists.proofs.Filling.{filled-none, filled-length, filled-more, filled-done}
 use Rattle.model.specs.Flat.{flatOf}
-use Rattle.dense_field.specs.Lent.{Lent}
 use Rattle.dense_field.specs.Runs.{flatAt}
-use Rattle.dense_field.proofs.PadLaws.{Within, within}
+use Rattle.dense_field.proofs.Lending.{as-long}
+use Rattle.dense_field.proofs.PadLaws.{within}
 use Rattle.dense_field.proofs.sampling.sample_row.Statement.{statement}
 use Rattle.dense_field.proofs.sampling.sample_row.Tie as tie
 
@@ -35,8 +35,8 @@ sample-run-requires : tie.Need-sample-run-requires Inv-loop μ-loop
 sample-run-requires c κs =
     let p = c .before .before .before .before .before .before .before .pre .0 in
     let e = c .before .before .new .ensures in
-    let long = c .before .before .before .before .before .loop .inv .1 ∙ p .long in (
-      record { x-above = p .x-above; y-above = p .y-above; z-above = p .z-above; few = p .few; long = long },
+    let long = c .before .before .before .before .before .loop .inv .1 in (
+      as-long p long,
       (omega (arith, ap (λ v. v .i) e), omega (arith, ap (λ v. v .j) e), omega (arith, ap (λ v. v .k) e), omega arith),
     )
 

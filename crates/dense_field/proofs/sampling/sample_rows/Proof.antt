@@ -8,10 +8,10 @@ use Rattle.lists.specs.Filled.{filled}
 use Rattle.lists.proofs.Filling.{filled-none, filled-length, filled-more, filled-done, filled-all}
 use Rattle.float.specs.Zero.{plusZero}
 use Rattle.model.specs.Flat.{flatOf}
-use Rattle.dense_field.specs.Lent.{Lent}
 use Rattle.dense_field.specs.Field.{pointsOf}
 use Rattle.dense_field.specs.Runs.{flatAt}
-use Rattle.dense_field.proofs.RunLaws.{RowIn, row-in, row-number, rows-few, rows-all}
+use Rattle.dense_field.proofs.Lending.{as-long}
+use Rattle.dense_field.proofs.RunLaws.{row-in, row-number, rows-few, rows-all}
 use Rattle.dense_field.proofs.sampling.sample_rows.Statement.{statement}
 use Rattle.dense_field.proofs.sampling.sample_rows.Tie as tie
 
@@ -42,8 +42,8 @@ sample-row-requires c κs =
     let p = c .before .before .before .before .before .before .before .before .pre in
     let s = c .before .before .before .before .before .loop in
     let w = row-in p (s .r) (omega arith) in
-    let long = s .inv .1 ∙ p .long in
-    (record { x-above = p .x-above; y-above = p .y-above; z-above = p .z-above; few = p .few; long = long }, (w .j-in, w .k-in))
+    let long = s .inv .1 in
+    (as-long p long, (w .j-in, w .k-in))
 
 add-r : tie.Need-add-r Inv-loop μ-loop
 add-r c = omega (arith, rows-few (c .before .before .before .before .before .before .before .before .before .before .before .pre))

@@ -5,8 +5,7 @@ use borrow.Author.Needs.{needs}
 use lib.ListN.{length, replicate, length-replicate}
 use Rattle.lists.specs.Filled.{filled}
 use Rattle.float.specs.Zero.{plusZero}
-use Rattle.dense_field.specs.Lent.{Lent}
-use Rattle.dense_field.proofs.PadLaws.{Within, within}
+use Rattle.dense_field.proofs.PadLaws.{within}
 use Rattle.dense_field.proofs.RunLaws.{run-filled, row-length}
 use Rattle.dense_field.proofs.sampling.sample_run.Statement.{statement}
 use Rattle.dense_field.proofs.sampling.sample_run.Tie as tie
@@ -92,7 +91,7 @@ returns c =
     let x = c .before .before .before .before .before .before .before .before .before .before .before .before .before .before .before .before .before .before .before .before .before .before .before .before .before .fill-along .ensures in
     let y = c .before .before .before .before .before .before .before .before .before .before .before .before .before .before .before .before .before .before .before .before .before .fill .ensures ∙ ap (λ v. filled 0 (a .len) (λ t. v) (replicate 64 plusZero)) (c .before .before .before .before .before .before .before .before .before .before .before .before .before .before .before .before .before .before .before .before .before .before .before .axis-point .ensures) in
     let z = c .before .before .before .before .before .before .before .before .before .before .before .before .before .before .before .before .before .fill2 .ensures ∙ ap (λ v. filled 0 (a .len) (λ t. v) (replicate 64 plusZero)) (c .before .before .before .before .before .before .before .before .before .before .before .before .before .before .before .before .before .before .before .axis-point2 .ensures) in
-    run-filled _ _ (a .origin) (a .cell) (a .n) (a .first) (a .len) (s .pre .1 .1) (s .pre .1 .0) (s .pre .1 .3) _ (a .values .now) x y z (c .before .before .before .before .before .before .before .before .before .before .evaluate-row-into .ensures .1) (c .before .before .copy-run .ensures)
+    run-filled _ _ (a .origin) (a .cell) (a .n) (a .first) (a .len) (s .pre .1 .1) (s .pre .1 .0) (s .pre .1 .3) _ (a .values .now) (length-replicate 64 plusZero) x y z (c .before .before .before .before .before .before .before .before .before .before .evaluate-row-into .ensures .1) (c .before .before .copy-run .ensures)
 
 pub sample-run-spec : {M : Type 1} → statement M
 sample-run-spec =

@@ -1,22 +1,22 @@
 -- `smoothing::smooth_row` meets its contract: an outer row stays, and an inner one is its two ends and what is blended between them.
-use mathlib.Core.Path.{_≡_, ap, _∙_}
+use mathlib.Core.Path.{ap, _∙_}
 use Prim.Native.Nat.{_*_}
 use native.Mathlib.Nat.{mul-le-mul-right}
 use native.Mathlib.Omega.{arith}
 use lib.ListN.{length}
 use borrow.Author.Needs.{needs}
 use Rattle.lists.proofs.Filling.{filled-length}
-use Rattle.dense_field.specs.Slices.{Slices, Between}
-use Rattle.dense_field.proofs.SmoothingLaws.{RowIn, SlabIn, row-in, slab-in, first-edge, last-edge, thin-row, edge-row, inner-row}
+use Rattle.dense_field.proofs.Edges.{edge-first, edge-last}
+use Rattle.dense_field.proofs.SmoothingLaws.{RowIn, SlabIn, row-in, slab-in, thin-row, edge-row, inner-row}
 use Rattle.dense_field.proofs.smoothing.smooth_row.Statement.{statement}
 use Rattle.dense_field.proofs.smoothing.smooth_row.Tie as tie
 
 -- the slab and the row stand in the field
 slab-of : (s : tie.Start) → SlabIn (s .args .n) (s .args .k)
-slab-of s = slab-in (s .pre .0) (s .args .k) (omega arith)
+slab-of s = slab-in (s .pre .0 .0) (s .args .k) (omega arith)
 
 row-of : (s : tie.Start) → RowIn (s .args .n) (s .args .j)
-row-of s = row-in (s .pre .0) (s .args .j) (omega arith)
+row-of s = row-in (s .pre .0 .0) (s .args .j) (omega arith)
 
 mul-at : tie.Need-mul-at
 mul-at c =
@@ -74,7 +74,7 @@ same-length-2 c = search needs
 returns-2 : tie.Need-returns-2
 returns-2 c =
     let a = c .before .before .before .before .before .before .before .before .before .args in
-    edge-row (a .n) (a .factor) (a .old .now) (a .j) (a .k) (a .new .now) (omega arith) (first-edge _ _ (omega arith)) (c .before .before .copy-values2 .ensures)
+    edge-row (a .n) (a .factor) (a .old .now) (a .j) (a .k) (a .new .now) (omega arith) (edge-first _ _ (omega arith)) (c .before .before .copy-values2 .ensures)
 
 add-if3 : tie.Need-add-if3
 add-if3 c = search needs
@@ -92,7 +92,7 @@ same-length-3 c = search needs
 returns-3 : tie.Need-returns-3
 returns-3 c =
     let a = c .before .before .before .before .before .before .before .before .before .before .before .args in
-    edge-row (a .n) (a .factor) (a .old .now) (a .j) (a .k) (a .new .now) (omega arith) (last-edge _ _ (omega arith)) (c .before .before .copy-values3 .ensures)
+    edge-row (a .n) (a .factor) (a .old .now) (a .j) (a .k) (a .new .now) (omega arith) (edge-last _ _ (omega arith)) (c .before .before .copy-values3 .ensures)
 
 copy-values-requires-4 : tie.Need-copy-values-requires-4
 copy-values-requires-4 c κs =
@@ -116,7 +116,7 @@ blend-values-requires c κs =
     let s = c .before .before .before .before .before .before .before .before .before .before .before .before in
     let slab = slab-of s in
     let row = row-of s in
-    let e : length (s .args .new .now) ≡ length (s .args .old .now) = omega arith in
+    let e = s .pre .0 .1 in
     record {
       x-above = omega arith;
       rows = row .rows;
@@ -147,7 +147,7 @@ copy-values-requires-5 c κs =
     let s = c .before .before .before .before .before .before .before .before .before .before .before .before .before .before .before .before in
     let slab = slab-of s in
     let row = row-of s in
-    let e : length (s .args .new .now) ≡ length (s .args .old .now) = omega arith in
+    let e = s .pre .0 .1 in
     let long =
     ap length (c .before .before .before .blend-values .ensures)
     ∙ filled-length _ _ _ _
