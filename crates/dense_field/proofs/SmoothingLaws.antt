@@ -3,7 +3,7 @@ use mathlib.Core.Path.{_≡_, refl, ap, subst, _∙_}
 use mathlib.Core.Bool.{Bool, true, false, or-true}
 use mathlib.Core.List.{List}
 use Prim.Native.Nat.{ℕ, zero, suc, _+_, _-_, _*_, _≤_, _<_}
-use native.Mathlib.Nat.{mul-comm, mul-le-mul-right, le-mul-of-pos-right, add-zero}
+use native.Mathlib.Nat.{mul-comm, add-zero}
 use native.Mathlib.Omega.{arith}
 use lib.Dec.{eqb}
 use lib.Ieee.{Float, nan, binary64, add, sub, mul, div, ofBits, ofInt}
@@ -56,24 +56,6 @@ unfolding blendedAt blended
 blended-read n f vs p below kept summed =
     let read = getD-any vs p nan plusZero below in
     λ i. add binary64 (mul binary64 (kept i) (read i)) (mul binary64 f (div binary64 (summed i) (six-as-float i)))
-
--- rows and slabs stand in the field
-pub record RowIn (n : Vec3i) (j : ℕ) : Type 0 where
-  pub rows : n .i ≤ n .i * n .j
-  pub row : j * n .i + n .i ≤ n .i * n .j
-
-pub record SlabIn (n : Vec3i) (k : ℕ) : Type 0 where
-  pub area : n .i * n .j ≤ 16777216
-  pub slab : k * (n .i * n .j) + n .i * n .j ≤ pointsOf n
-
-pub row-in : {n : Vec3i} {len : ℕ} → Lent n len → (j : ℕ) → j < n .j → RowIn n j
-row-in {n} s j h =
-    record { rows = le-mul-of-pos-right (n .i) (s .y-above); row = omega (arith, mul-le-mul-right (n .i) h) }
-
-pub slab-in : {n : Vec3i} {len : ℕ} → Lent n len → (k : ℕ) → k < n .k → SlabIn n k
-slab-in {n} s k h =
-    let slab : k * (n .i * n .j) + n .i * n .j ≤ pointsOf n = omega (arith, mul-le-mul-right (n .i * n .j) h) in
-    record { area = omega (arith, s .few); slab = slab }
 
 -- the index 0, and every index of an axis of one or two points, is on an edge
 only-first : (i n : ℕ) → i < 1 → onEdge i n ≡ true

@@ -8,8 +8,7 @@ use Rattle.lists.specs.Filled.{filled}
 use Rattle.lists.proofs.Filling.{filled-none, filled-length, filled-more, filled-done}
 use Rattle.model.specs.Flat.{flatOf}
 use Rattle.dense_field.specs.Runs.{flatAt}
-use Rattle.dense_field.proofs.Lending.{as-long}
-use Rattle.dense_field.proofs.PadLaws.{within}
+use Rattle.dense_field.proofs.Lending.{as-long, within}
 use Rattle.dense_field.proofs.sampling.sample_row.Statement.{statement}
 use Rattle.dense_field.proofs.sampling.sample_row.Tie as tie
 
@@ -44,7 +43,7 @@ add-i : tie.Need-add-i Inv-loop μ-loop
 add-i c =
     let s = c .before .before .before .before .before .before .before .before .before .before in
     let w = within (s .pre .0) (s .args .j) (s .args .k) (s .pre .1 .0) (s .pre .1 .1) in
-    omega (arith, w .area, w .row, w .slab, s .pre .0 .few)
+    omega arith
 
 loop-less : tie.Need-loop-less Inv-loop μ-loop
 loop-less c = search needs

@@ -8,8 +8,9 @@ use lib.ListN.{length}
 use Rattle.lists.specs.Filled.{filled}
 use Rattle.lists.proofs.Filling.{filled-none, filled-length, filled-done, filled-more}
 use Rattle.dense_field.specs.Smoothing.{smoothedAt}
+use Rattle.dense_field.proofs.Lending.{Within, within}
 use Rattle.dense_field.proofs.Edges.{edge-first, edge-last}
-use Rattle.dense_field.proofs.SmoothingLaws.{slab-in, slab-stays}
+use Rattle.dense_field.proofs.SmoothingLaws.{slab-stays}
 use Rattle.dense_field.proofs.smoothing.smooth_slab.Statement.{statement}
 use Rattle.dense_field.proofs.smoothing.smooth_slab.Tie as tie
 
@@ -20,22 +21,26 @@ Inv-loop n factor old new₀ k slab j₀ new j =
 abbrev μ-loop : tie.MeasureT-loop
 μ-loop n factor old new₀ k slab j₀ new j = n .j - j
 
+-- the slab stands in the field
+within-of : (s : tie.Start Inv-loop μ-loop) → Within (s .args .n) 0 (s .args .k) (length (s .args .old .now))
+within-of s = within (s .pre .0 .0) 0 (s .args .k) (s .pre .0 .0 .y-above) (omega arith)
+
 mul-slab : tie.Need-mul-slab Inv-loop μ-loop
 mul-slab c =
     let s = c .before .before .before in
-    let slab = slab-in (s .pre .0 .0) (s .args .k) (omega arith) in
+    let w = within-of s in
     omega arith
 
 mul-copy-values : tie.Need-mul-copy-values Inv-loop μ-loop
 mul-copy-values c =
     let s = c .before .before .before .before .before in
-    let slab = slab-in (s .pre .0 .0) (s .args .k) (omega arith) in
+    let w = within-of s in
     omega arith
 
 copy-values-requires : tie.Need-copy-values-requires Inv-loop μ-loop
 copy-values-requires c κs =
     let s = c .before .before .before .before .before in
-    let slab = slab-in (s .pre .0 .0) (s .args .k) (omega arith) in
+    let w = within-of s in
     (omega arith, omega arith)
 
 same-length : tie.Need-same-length Inv-loop μ-loop
@@ -52,13 +57,13 @@ add-if2 c = search needs
 mul-copy-values-2 : tie.Need-mul-copy-values-2 Inv-loop μ-loop
 mul-copy-values-2 c =
     let s = c .before .before .before .before .before .before .before in
-    let slab = slab-in (s .pre .0 .0) (s .args .k) (omega arith) in
+    let w = within-of s in
     omega arith
 
 copy-values-requires-2 : tie.Need-copy-values-requires-2 Inv-loop μ-loop
 copy-values-requires-2 c κs =
     let s = c .before .before .before .before .before .before .before in
-    let slab = slab-in (s .pre .0 .0) (s .args .k) (omega arith) in
+    let w = within-of s in
     (omega arith, omega arith)
 
 same-length-2 : tie.Need-same-length-2 Inv-loop μ-loop
