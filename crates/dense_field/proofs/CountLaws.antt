@@ -10,7 +10,7 @@ use lib.IntN.{ℤ, pos}
 use lib.Ieee.{Float, nan, inf, fin, up, down, lt, eq, ne, level, toUnsigned}
 use lib.Ieee.Fits.{down-pos}
 use Rattle.geometry.specs.Index.{dimensionsRefused}
-use Rattle.geometry.proofs.Grid.{Accepted, accepted, x-le, y-le, z-le}
+use Rattle.geometry.proofs.Grid.{accepted, x-le, y-le, z-le}
 
 -- 2 ^ 24 and -1
 abbrev pub most : Float

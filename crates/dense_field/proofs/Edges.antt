@@ -48,19 +48,19 @@ module _ (n : Vec3i) where
   slab-of-place k r below =
       mul-add-div-right (omega arith) k r ∙ ap (λ (m : ℕ). k + m) (div-eq-of-lt below) ∙ add-zero k
 
-  out-i : (at : Vec3i) → onEdge (at .i) (n .i) ≡ true → outside n at ≡ true
+  pub out-i : (at : Vec3i) → onEdge (at .i) (n .i) ≡ true → outside n at ≡ true
   unfolding outside
   out-i at e = rw e refl
 
-  out-j : (at : Vec3i) → onEdge (at .j) (n .j) ≡ true → outside n at ≡ true
+  pub out-j : (at : Vec3i) → onEdge (at .j) (n .j) ≡ true → outside n at ≡ true
   unfolding outside
   out-j at e = simp (e, or-true)
 
-  out-k : (at : Vec3i) → onEdge (at .k) (n .k) ≡ true → outside n at ≡ true
+  pub out-k : (at : Vec3i) → onEdge (at .k) (n .k) ≡ true → outside n at ≡ true
   unfolding outside
   out-k at e = simp (e, or-true)
 
-  not-out : (at : Vec3i) → onEdge (at .i) (n .i) ≡ false → onEdge (at .j) (n .j) ≡ false → onEdge (at .k) (n .k) ≡ false → outside n at ≡ false
+  pub not-out : (at : Vec3i) → onEdge (at .i) (n .i) ≡ false → onEdge (at .j) (n .j) ≡ false → onEdge (at .k) (n .k) ≡ false → outside n at ≡ false
   unfolding outside
   not-out at x y z = rw (x, y, z) refl
 

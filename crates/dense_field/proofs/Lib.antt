@@ -1,9 +1,9 @@
-pub mod SmoothingLaws
 pub mod WalkLaws
 pub mod CutLaws
 pub mod CountLaws
 pub mod Lending
 pub mod Edges
+pub mod SmoothingLaws
 pub mod PadLaws
 pub mod OctetLaws
 pub mod RunLaws

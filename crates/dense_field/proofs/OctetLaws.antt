@@ -9,19 +9,18 @@ use borrow.Author.Tests.{ltb-true, not-false}
 use lib.Dec.{eqb, ltb}
 use lib.ListN.{length, getD}
 use lib.Ieee.{Float, nan}
-use Rattle.lists.proofs.Tests.{or-left, or-right}
+use Rattle.lists.proofs.Tests.{or-left, or-right, and-left, and-right}
 use Rattle.lists.proofs.Lists.{getD-any}
 use Rattle.float.specs.Zero.{plusZero}
 use Rattle.geometry.specs.declared.Vec3i.{Vec3i}
-use Rattle.geometry.specs.Values.{vec3i}
 use Rattle.geometry.specs.Causes.{firstOf}
-use Rattle.geometry.specs.Index.{placeOf}
+use Rattle.geometry.specs.Index.{placeOf, nextIndices}
 use Rattle.geometry.specs.Octet.{octetOrder, octetPlaces}
 use Rattle.dense_field.specs.Field.{valuesRefused, pointsOf}
 use Rattle.dense_field.specs.Lent.{Lent}
 use Rattle.dense_field.specs.Octets.{cellInside, octetOf}
 use Rattle.dense_field.specs.Cells.{octetCause}
-use Rattle.dense_field.specs.Walks.{octetStep, nextIn}
+use Rattle.dense_field.specs.Walks.{octetStep}
 use Rattle.dense_field.specs.declared.OctetStep.the-variants as octet
 use Rattle.dense_field.proofs.Lending.{lent}
 
@@ -31,15 +30,6 @@ pub record Inside (n c : Vec3i) : Type 0 where
   pub j-in : c .j + 1 < n .j
   pub k-in : c .k + 1 < n .k
 
-both-left : (a b : Bool) → (a && b) ≡ true → a ≡ true
-both-left true b e = refl
-both-left false b e = e
-
-both-right : (a b : Bool) → (a && b) ≡ true → b ≡ true
-both-right true b e = e
-both-right false true e = refl
-both-right false false e = e
-
 -- two parts that hold, and a third
 pub and-third : (a b d : Bool) → a ≡ true → b ≡ true → d ≡ (a && b && d)
 and-third a b d ha hb = rw (ha, hb) refl
@@ -47,25 +37,27 @@ and-third a b d ha hb = rw (ha, hb) refl
 pub inside : (n c : Vec3i) → cellInside n c ≡ true → Inside n c
 unfolding cellInside
 inside n c e =
-    let ij : (ltb (c .i + 1) (n .i) && ltb (c .j + 1) (n .j)) ≡ true = both-left _ _ e in
+    let ij : (ltb (c .i + 1) (n .i) && ltb (c .j + 1) (n .j)) ≡ true = and-left _ _ e in
     record {
-      i-in = ltb-true _ _ (both-left _ _ ij);
-      j-in = ltb-true _ _ (both-right (ltb (c .i + 1) (n .i)) _ ij);
-      k-in = ltb-true _ _ (both-right (ltb (c .i + 1) (n .i) && ltb (c .j + 1) (n .j)) _ e);
+      i-in = ltb-true _ _ (and-left _ _ ij);
+      j-in = ltb-true _ _ (and-right (ltb (c .i + 1) (n .i)) _ ij);
+      k-in = ltb-true _ _ (and-right (ltb (c .i + 1) (n .i) && ltb (c .j + 1) (n .j)) _ e);
     }
 
 -- the octet's places stand in the field
-pub record Reach (n c : Vec3i) : Type 0 where
+pub record Reach (n c : Vec3i) (len : ℕ) : Type 0 where
+  pub few : pointsOf n ≤ 16777216
+  pub long : len ≡ pointsOf n
   pub area : n .i * n .j ≤ pointsOf n
   pub rows : c .j * n .i + n .i + n .i ≤ n .i * n .j
   pub slabs : c .k * (n .i * n .j) + n .i * n .j + n .i * n .j ≤ pointsOf n
   pub place : c .k * (n .i * n .j) + c .j * n .i + c .i + n .i * n .j + n .i + 1 < pointsOf n
 
-pub reach : {n c : Vec3i} {len : ℕ} → Lent n len → Inside n c → Reach n c
+pub reach : {n c : Vec3i} {len : ℕ} → Lent n len → Inside n c → Reach n c len
 reach {n} {c} s h =
     let rows : c .j * n .i + n .i + n .i ≤ n .i * n .j = omega (arith, mul-le-mul-right (n .i) (h .j-in)) in
     let slabs : c .k * (n .i * n .j) + n .i * n .j + n .i * n .j ≤ pointsOf n = omega (arith, mul-le-mul-right (n .i * n .j) (h .k-in)) in
-    record { area = omega arith; rows = rows; slabs = slabs; place = omega arith }
+    record { few = s .few; long = s .long; area = omega arith; rows = rows; slabs = slabs; place = omega arith }
 
 module _ (n c : Vec3i) (vs : List Float) (s : Lent n (length vs)) (h : Inside n c) where
   -- a read at a corner, by the place that the definition has
@@ -120,7 +112,7 @@ stepped n c next len e =
   where
     one : (a b d : Bool) → valuesRefused n len ≡ a → (eqb (n .i - 1) 0 || eqb (n .j - 1) 0 || not (ltb (c .k) (n .k - 1))) ≡ b
         → (not (ltb (c .i) (n .i - 1)) || not (ltb (c .j) (n .j - 1))) ≡ d
-        → cond a (octet.Refused 9) (cond b (octet.Done c) (cond d (octet.Refused 10) (octet.Cell (nextIn (vec3i (n .i - 1) (n .j - 1) (n .k - 1)) c)))) ≡ octet.Cell next
+        → cond a (octet.Refused 9) (cond b (octet.Done c) (cond d (octet.Refused 10) (octet.Cell (nextIndices c (n .i - 1) (n .j - 1))))) ≡ octet.Cell next
         → Found n c len
     one true b d ha hb hd found = let z : _≡_ {A = ℕ} 0 1 = cc in absurd (omega arith)
     one false true d ha hb hd found = let z : _≡_ {A = ℕ} 0 1 = cc in absurd (omega arith)

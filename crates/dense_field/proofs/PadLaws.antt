@@ -2,8 +2,7 @@
 use mathlib.Core.Path.{_≡_, refl, sym, ap, _∙_}
 use mathlib.Core.Bool.{Bool, true, false, cond}
 use mathlib.Core.List.{List}
-use Prim.Native.Nat.{ℕ, _+_, _-_, _*_, _≤_, _<_}
-use native.Mathlib.Nat.{mul-le-mul-right}
+use Prim.Native.Nat.{ℕ, _+_, _-_, _≤_, _<_}
 use native.Mathlib.Omega.{arith}
 use lib.Dec.{eqb, ltb}
 use lib.ListN.{length, getD, set, length-set}
@@ -15,20 +14,8 @@ use Rattle.lists.proofs.Filling.{filled-length, filled-same, filled-more, getD-
 use Rattle.float.specs.Zero.{plusZero}
 use Rattle.geometry.specs.declared.Vec3i.{Vec3i}
 use Rattle.dense_field.specs.Field.{pointsOf, outside}
-use Rattle.dense_field.specs.Lent.{Lent}
 use Rattle.dense_field.specs.Padding.{padded, paddedAt}
 use Rattle.dense_field.proofs.Edges.{rowFrom, pointAt, edge-first, edge-last, row-end, row-inner}
-
--- rows and slabs stand in the field
-pub record Within (n : Vec3i) (j k : ℕ) : Type 0 where
-  pub area : n .i * n .j ≤ pointsOf n
-  pub row : j * n .i + n .i ≤ n .i * n .j
-  pub slab : k * (n .i * n .j) + n .i * n .j ≤ pointsOf n
-
-pub within : {n : Vec3i} {len : ℕ} → Lent n len → (j k : ℕ) → j < n .j → k < n .k → Within n j k
-within {n} s j k hj hk =
-    let slab : k * (n .i * n .j) + n .i * n .j ≤ pointsOf n = omega (arith, mul-le-mul-right (n .i * n .j) hk) in
-    record { area = omega arith; row = omega (arith, mul-le-mul-right (n .i) hj); slab = slab }
 
 module _ (n : Vec3i) (value : Float) where
   module _ (l : List Float) where

@@ -1,8 +1,9 @@
 -- Walks: what holds where cause 11 does not apply, and that a walk from its start visits every point, or cell, once, in order, and then is done.
 use mathlib.Core.Path.{_≡_, refl, sym, ap, _∙_}
-use mathlib.Core.Bool.{Bool, true, false, not, cond, _||_}
-use Prim.Native.Nat.{ℕ, zero, suc, _+_, _-_, _*_, _/_, _%_, _≤_, _<_}
-use native.Mathlib.Nat.{mul-pos, mul-comm, mul-assoc, mul-le-mul-right, mod-lt, div-lt-iff-lt-mul}
+use mathlib.Core.Bool.{Bool, true, false, not, _||_}
+use Prim.Native.Nat.{ℕ, zero, suc, _+_, _-_, _*_, _≤_, _<_}
+use native.Mathlib.Nat.{mul-pos, mul-comm, mul-assoc, mul-le-mul-right}
+use native.Mathlib.Numerals.{add-one}
 use native.Mathlib.Omega.{arith}
 use lib.Dec.{ltb, leb}
 use borrow.Author.Tests.{lt-ltb, le-ltb, le-leb, lt-leb, ltb-true, ltb-false, not-false}
@@ -12,12 +13,13 @@ use Rattle.geometry.specs.declared.BoundingBox.{BoundingBox}
 use Rattle.geometry.specs.Values.{vec3i}
 use Rattle.geometry.specs.Causes.{firstOf}
 use Rattle.geometry.specs.Bounds.{boxRefused}
-use Rattle.geometry.specs.Index.{placeOf, indicesOf}
-use Rattle.geometry.proofs.Inverse.{indices-of-place, place-of-indices}
+use Rattle.geometry.specs.Index.{placeOf, indicesOf, nextIndices}
+use Rattle.geometry.proofs.Inverse.{indices-of-place, place-of-indices, column-below, line-below, slab-below}
+use Rattle.geometry.proofs.Next.{next-of}
 use Rattle.dense_field.specs.declared.PointStep.the-variants as point
 use Rattle.dense_field.specs.declared.CellStep.the-variants as cell
 use Rattle.dense_field.specs.Field.{pointsOf}
-use Rattle.dense_field.specs.Walks.{nextIn, countRefused, walkRefused, walkPoint, walkCell, pointStep, cellStep}
+use Rattle.dense_field.specs.Walks.{countRefused, walkRefused, walkPoint, walkCell, pointStep, cellStep}
 use Rattle.dense_field.specs.Traces.{pointAfter, pointTrace, cellAfter, cellTrace}
 
 -- the test of the code and that of the definition
@@ -35,11 +37,6 @@ pub record Walk (least : ℕ) (n c : Vec3i) : Type 0 where
   pub z-count : least ≤ n .k
   pub x-in : c .i < n .i
   pub y-in : c .j < n .j
-  pub x-few : n .i ≤ 16777216
-
-count-most : (least n : ℕ) → countRefused least n ≡ false → n ≤ 16777216
-unfolding countRefused
-count-most least n e = ltb-false 16777216 n (or-right (ltb n least) _ e)
 
 count-least : (least n : ℕ) → countRefused least n ≡ false → least ≤ n
 unfolding countRefused
@@ -62,58 +59,13 @@ walk-passed least n c e =
       z-count = count-least least (n .k) (or-right (x || y) z three);
       x-in = ltb-true (c .i) (n .i) (not-false _ (or-right (x || y || z) i four));
       y-in = ltb-true (c .j) (n .j) (not-false _ (or-right (x || y || z || i) j e));
-      x-few = count-most least (n .i) (or-left x y two);
     }
 
--- the next cursor is the indices of the next place
 module _ (n : Vec3i) where
-  next-place : (i j k : ℕ) → i < n .i → j < n .j
-      → nextIn n (vec3i i j k) ≡ indicesOf (suc (placeOf i j k (n .i) (n .j))) (n .i) (n .j)
-  unfolding nextIn placeOf
-  next-place i j k hi hj = first (ltb (i + 1) (n .i)) refl
-    where
-      back : (a b d : ℕ) → a < n .i → b < n .j → placeOf a b d (n .i) (n .j) ≡ suc (placeOf i j k (n .i) (n .j))
-          → vec3i a b d ≡ indicesOf (suc (placeOf i j k (n .i) (n .j))) (n .i) (n .j)
-      back a b d ha hb same =
-          sym (indices-of-place (n .i) (n .j) a b d ha hb) ∙ ap (λ (p : ℕ). indicesOf p (n .i) (n .j)) same
-
-      second : (t : Bool) → ltb (j + 1) (n .j) ≡ t → i + 1 ≡ n .i
-          → cond (ltb (j + 1) (n .j)) (vec3i 0 (j + 1) k) (vec3i 0 0 (k + 1)) ≡ indicesOf (suc (placeOf i j k (n .i) (n .j))) (n .i) (n .j)
-      second true e last = rw e (back 0 (j + 1) k (omega arith) (ltb-true (j + 1) (n .j) e) (omega arith))
-      second false e last =
-          let end : j + 1 ≡ n .j = omega (arith, ltb-false (j + 1) (n .j) e) in
-          let slab : (j + 1) * n .i ≡ n .i * n .j = ap (λ (m : ℕ). m * n .i) end ∙ mul-comm (n .j) (n .i) in
-          rw e (back 0 0 (k + 1) (omega arith) (omega arith) (omega (arith, mul-assoc k (n .i) (n .j), mul-assoc (k + 1) (n .i) (n .j))))
-
-      first : (t : Bool) → ltb (i + 1) (n .i) ≡ t
-          → cond (ltb (i + 1) (n .i)) (vec3i (i + 1) j k) (cond (ltb (j + 1) (n .j)) (vec3i 0 (j + 1) k) (vec3i 0 0 (k + 1)))
-          ≡ indicesOf (suc (placeOf i j k (n .i) (n .j))) (n .i) (n .j)
-      first true e = rw e (back (i + 1) j k (ltb-true (i + 1) (n .i) e) hj (omega arith))
-      first false e =
-          let last : i + 1 ≡ n .i = omega (arith, ltb-false (i + 1) (n .i) e) in
-          rw e (second (ltb (j + 1) (n .j)) refl last)
-
-  -- the indices of a place below the product are in range
-  x-index : (p : ℕ) → 0 < n .i → indicesOf p (n .i) (n .j) .i < n .i
-  unfolding indicesOf
-  x-index p x-above = mod-lt (p % (n .i * n .j)) x-above
-
-  y-index : (p : ℕ) → 0 < n .i → 0 < n .j → indicesOf p (n .i) (n .j) .j < n .j
-  unfolding indicesOf
-  y-index p x-above y-above =
-      let below : p % (n .i * n .j) < n .i * n .j = mod-lt p (mul-pos x-above y-above) in
-      div-lt-iff-lt-mul x-above .1 (omega (arith, mul-comm (n .i) (n .j)))
-
-  z-index : (p : ℕ) → 0 < n .i → 0 < n .j → p < pointsOf n → indicesOf p (n .i) (n .j) .k < n .k
-  unfolding indicesOf
-  z-index p x-above y-above below =
-      div-lt-iff-lt-mul (mul-pos x-above y-above) .1 (omega (arith, mul-comm (n .i * n .j) (n .k)))
-
-  next-index : (p : ℕ) → 0 < n .i → 0 < n .j → nextIn n (indicesOf p (n .i) (n .j)) ≡ indicesOf (suc p) (n .i) (n .j)
+  -- the next cursor is the indices of the next place
+  next-index : (p : ℕ) → 0 < n .i → 0 < n .j → nextIndices (indicesOf p (n .i) (n .j)) (n .i) (n .j) ≡ indicesOf (suc p) (n .i) (n .j)
   next-index p x-above y-above =
-      let v = indicesOf p (n .i) (n .j) in
-      next-place (v .i) (v .j) (v .k) (x-index p x-above) (y-index p x-above y-above)
-      ∙ ap (λ (q : ℕ). indicesOf (suc q) (n .i) (n .j)) (place-of-indices (n .i) (n .j) p)
+      next-of (n .i) (n .j) x-above y-above p ∙ ap (λ (q : ℕ). indicesOf q (n .i) (n .j)) (add-one p)
 
   -- the first place and the one past the last
   first-index : 0 < n .i → 0 < n .j → vec3i 0 0 0 ≡ indicesOf 0 (n .i) (n .j)
@@ -184,7 +136,7 @@ module _ (b : BoundingBox) (n : Vec3i) (box-passed : boxRefused b ≡ false) whe
     unfolding firstOf pointStep
     point-at p h =
         let v = indicesOf p (n .i) (n .j) in
-        simp (box-passed, walk-goes 2 n v s (x-index n p x-some) (y-index n p x-some y-some), lt-ltb _ _ (z-index n p x-some y-some h))
+        simp (box-passed, walk-goes 2 n v s (column-below p (n .i) (n .j) x-some y-some) (line-below p (n .i) (n .j) x-some y-some), lt-ltb _ _ (slab-below p (n .i) (n .j) x-some y-some (n .k) h))
         (ap (point.Point (walkPoint b n v)) (next-index n p x-some y-some))
 
     point-end : pointStep b n (vec3i 0 0 (n .k)) ≡ point.Done (vec3i 0 0 (n .k))
@@ -224,7 +176,7 @@ module _ (b : BoundingBox) (n : Vec3i) (box-passed : boxRefused b ≡ false) whe
     unfolding firstOf cellStep
     cell-at p h =
         let v = indicesOf p (n .i) (n .j) in
-        simp (box-passed, walk-goes 1 n v s (x-index n p x-one) (y-index n p x-one y-one), lt-ltb _ _ (z-index n p x-one y-one h))
+        simp (box-passed, walk-goes 1 n v s (column-below p (n .i) (n .j) x-one y-one) (line-below p (n .i) (n .j) x-one y-one), lt-ltb _ _ (slab-below p (n .i) (n .j) x-one y-one (n .k) h))
         (ap (cell.Cell (walkCell b n v)) (next-index n p x-one y-one))
 
     cell-end : cellStep b n (vec3i 0 0 (n .k)) ≡ cell.Done (vec3i 0 0 (n .k))

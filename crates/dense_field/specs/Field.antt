@@ -1,7 +1,7 @@
 -- A dense field's values: cause 9, and which points stand on the field's outside.
 use Prim.Native.Nat.{ℕ, _+_, _*_}
-use mathlib.Core.Bool.{Bool, not, _&&_, _||_}
-use lib.Dec.{eqb, ltb}
+use mathlib.Core.Bool.{Bool, not, _||_}
+use lib.Dec.{eqb}
 use Rattle.geometry.specs.declared.Vec3i.{Vec3i}
 use Rattle.geometry.specs.Index.{dimensionsRefused}
 

@@ -7,7 +7,6 @@ pub mod Sampling
 pub mod Padding
 pub mod Threshold
 pub mod Smoothing
-pub mod Slices
 pub mod Octets
 pub mod Walks
 pub mod Traces

@@ -1,7 +1,7 @@
 -- Document 01: the point count from bounds, and where a field's points stand.
 use Prim.Native.Nat.{ℕ, suc}
 use mathlib.Core.Bool.{_||_}
-use mathlib.Core.List.{List, [], _∷_}
+use mathlib.Core.List.{[], _∷_}
 use lib.Ieee.{Float, binary64, add, sub, mul, div, toUnsigned}
 use Rattle.float.specs.Whole.{floorOf}
 use Rattle.geometry.specs.declared.Vec3.{Vec3}

@@ -29,10 +29,16 @@ unfoldable pub blended : (f v sum : Float) → Float
 blended f v sum =
     add binary64 (mul binary64 (sub binary64 (asFloat 1) f) v) (mul binary64 f (div binary64 sum (asFloat 6)))
 
+-- the old value at p, and the one that an interior point gets
+abbrev pub valueOf : List Float → ℕ → Float
+valueOf vs p = getD vs p plusZero
+
+unfoldable pub blendedAt : Vec3i → Float → List Float → ℕ → Float
+blendedAt n f vs p = blended f (valueOf vs p) (neighbourSum n vs p)
+
 -- the new value at p, from the old values
 unfoldable pub smoothedAt : Vec3i → Float → List Float → ℕ → Float
-smoothedAt n f vs p =
-    cond (outside n (indicesOf p (n .i) (n .j))) (getD vs p plusZero) (blended f (getD vs p plusZero) (neighbourSum n vs p))
+smoothedAt n f vs p = cond (outside n (indicesOf p (n .i) (n .j))) (valueOf vs p) (blendedAt n f vs p)
 
 -- one round, and any number of them
 unfoldable pub smoothedOnce : Vec3i → Float → List Float → List Float

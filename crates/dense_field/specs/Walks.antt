@@ -1,13 +1,14 @@
 -- Document 01: walks over the points and the cells of a grid in a box, and over a field's octets.
-use Prim.Native.Nat.{ℕ, _+_, _-_}
+use Prim.Native.Nat.{ℕ, _-_}
 use mathlib.Core.Bool.{Bool, not, cond, _||_}
-use mathlib.Core.List.{List, [], _∷_}
+use mathlib.Core.List.{[], _∷_}
 use lib.Dec.{ltb, eqb}
 use Rattle.geometry.specs.declared.Vec3.{Vec3}
 use Rattle.geometry.specs.declared.Vec3i.{Vec3i}
 use Rattle.geometry.specs.declared.BoundingBox.{BoundingBox}
 use Rattle.geometry.specs.Values.{vec3, vec3i, box}
 use Rattle.geometry.specs.Causes.{cause, firstOf}
+use Rattle.geometry.specs.Index.{nextIndices}
 use Rattle.geometry.specs.Axis.{along, alongEnd}
 use Rattle.geometry.specs.Bounds.{boxRefused}
 use Rattle.dense_field.specs.Field.{valuesRefused}
@@ -17,12 +18,6 @@ use Rattle.dense_field.specs.declared.CellStep.{CellStep}
 use Rattle.dense_field.specs.declared.CellStep.the-variants as cell
 use Rattle.dense_field.specs.declared.OctetStep.{OctetStep}
 use Rattle.dense_field.specs.declared.OctetStep.the-variants as octet
-
--- the cursor after one at (i, j, k), i fastest, in a grid of n.i by n.j
-unfoldable pub nextIn : Vec3i → Vec3i → Vec3i
-nextIn n c =
-    cond (ltb (c .i + 1) (n .i)) (vec3i (c .i + 1) (c .j) (c .k))
-    (cond (ltb (c .j + 1) (n .j)) (vec3i 0 (c .j + 1) (c .k)) (vec3i 0 0 (c .k + 1)))
 
 -- cause 11: "a grid walk with a count below 2 (points) or 1 (cells), or above 16,777,216, on an axis, or a cursor's i or j not below its count"
 unfoldable pub countRefused : (least n : ℕ) → Bool
@@ -52,13 +47,13 @@ unfoldable pub pointStep : BoundingBox → Vec3i → Vec3i → PointStep
 pointStep b n c =
     firstOf (cause (boxRefused b) 1 ∷ cause (walkRefused 2 n c) 11 ∷ [])
     point.Refused
-    (cond (ltb (c .k) (n .k)) (point.Point (walkPoint b n c) (nextIn n c)) (point.Done c))
+    (cond (ltb (c .k) (n .k)) (point.Point (walkPoint b n c) (nextIndices c (n .i) (n .j))) (point.Done c))
 
 unfoldable pub cellStep : BoundingBox → Vec3i → Vec3i → CellStep
 cellStep b n c =
     firstOf (cause (boxRefused b) 1 ∷ cause (walkRefused 1 n c) 11 ∷ [])
     cell.Refused
-    (cond (ltb (c .k) (n .k)) (cell.Cell (walkCell b n c) (nextIn n c)) (cell.Done c))
+    (cond (ltb (c .k) (n .k)) (cell.Cell (walkCell b n c) (nextIndices c (n .i) (n .j))) (cell.Done c))
 
 -- "A field with a dimension of 1 has no cells: the walker is done from the start .. Otherwise a cell with k past the last is done, and with i or j past the last 10." After 9.
 unfoldable pub octetStep : Vec3i → (len : ℕ) → Vec3i → OctetStep
@@ -66,4 +61,4 @@ octetStep n len c =
     let cells = vec3i (n .i - 1) (n .j - 1) (n .k - 1) in
     cond (valuesRefused n len) (octet.Refused 9)
     (cond (eqb (cells .i) 0 || eqb (cells .j) 0 || not (ltb (c .k) (cells .k))) (octet.Done c)
-    (cond (not (ltb (c .i) (cells .i)) || not (ltb (c .j) (cells .j))) (octet.Refused 10) (octet.Cell (nextIn cells c))))
+    (cond (not (ltb (c .i) (cells .i)) || not (ltb (c .j) (cells .j))) (octet.Refused 10) (octet.Cell (nextIndices c (cells .i) (cells .j)))))

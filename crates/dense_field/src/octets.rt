@@ -7,7 +7,7 @@ ghost use lib.Ieee.{binary64, add, mul};
 ghost use Rattle.dense_field.specs.Lent.{Lent};
 ghost use Rattle.dense_field.specs.Octets.{cellInside, cornerIndex, cornersOf, octetOf};
 ghost use Rattle.dense_field.specs.Cells.{cornersCause, cellCornersOf, octetCause, cellValuesOf, octetWalkOf};
-ghost use Rattle.dense_field.specs.Walks.{nextIn, octetStep};
+ghost use Rattle.dense_field.specs.Walks.{octetStep};
 use crate::CellCorners;
 use crate::CellValues;
 use crate::OctetStep;
@@ -161,20 +161,6 @@ pub fn cell_values(n: Vec3i, values: &[f64], c: Vec3i) -> CellValues
     }
 }
 
-// The cursor after one inside a grid of so many cells, i fastest.
-fn next_cell(cells: Vec3i, c: Vec3i) -> Vec3i
-    requires { ⌜ (c .i < cells .i) × (c .j < cells .j) × (c .k < cells .k) ⌝ }
-    ensures { λ r. ⌜ r ≡ nextIn cells c ⌝ }
-{
-    if c.i + 1 < cells.i {
-        return Vec3i::new(c.i + 1, c.j, c.k);
-    }
-    if c.j + 1 < cells.j {
-        return Vec3i::new(0, c.j + 1, c.k);
-    }
-    Vec3i::new(0, 0, c.k + 1)
-}
-
 // What the walk over octets finds at its cursor.
 fn walk_step(n: Vec3i, len: usize, c: Vec3i) -> OctetStep
     ensures { λ r. ⌜ r ≡ octetStep n len c ⌝ }
@@ -198,7 +184,7 @@ fn walk_step(n: Vec3i, len: usize, c: Vec3i) -> OctetStep
     if c.j >= cells.j {
         return OctetStep::Refused(10);
     }
-    OctetStep::Cell(next_cell(cells, c))
+    OctetStep::Cell(geometry::next_indices(c, cells.i, cells.j))
 }
 
 // One step of the walk over a field's octets: the values at the cursor's cell with the next cursor,

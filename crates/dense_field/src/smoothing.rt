@@ -6,9 +6,8 @@ ghost use Prim.Native.Nat.{_+_, _*_, _≤_, _<_};
 ghost use lib.ListN.{length, replicate};
 ghost use Rattle.lists.specs.Filled.{filled};
 ghost use Rattle.float.specs.Zero.{plusZero};
-ghost use Rattle.dense_field.specs.Field.{pointsOf};
-ghost use Rattle.dense_field.specs.Slices.{Slices, Between, valueOf, blendedAt};
-ghost use Rattle.dense_field.specs.Smoothing.{smoothRefused, neighbourSum, smoothedAt, smoothedOnce, smoothed};
+ghost use Rattle.dense_field.specs.Lent.{Lent, Between};
+ghost use Rattle.dense_field.specs.Smoothing.{smoothRefused, neighbourSum, valueOf, blendedAt, smoothedAt, smoothedOnce, smoothed};
 use crate::Outcome;
 use geometry::Vec3i;
 
@@ -68,7 +67,7 @@ fn blend_values(n: Vec3i, factor: f64, old: &[f64], new: &mut [f64], at: usize, 
 
 // One row of an inner slab: the inner points of an inner row are blended, the others stay.
 fn smooth_row(n: Vec3i, factor: f64, old: &[f64], new: &mut [f64], j: usize, k: usize)
-    requires { ⌜ Slices n (length (now old)) (length (now new)) ⌝ }
+    requires { ⌜ Lent n (length (now old)) × (length (now new) ≡ length (now old)) ⌝ }
     requires { ⌜ (j < n .j) × (0 < k) × (k + 1 < n .k) ⌝ }
     ensures { λ _. ⌜ now (new .exit) ≡ filled (k * (n .i * n .j) + j * n .i) (n .i) (smoothedAt n factor (now (old .entry))) (now (new .entry)) ⌝ }
 {
@@ -93,7 +92,7 @@ fn smooth_row(n: Vec3i, factor: f64, old: &[f64], new: &mut [f64], j: usize, k: 
 
 // One slab: the first and the last stay, and the others are smoothed row by row.
 fn smooth_slab(n: Vec3i, factor: f64, old: &[f64], new: &mut [f64], k: usize)
-    requires { ⌜ Slices n (length (now old)) (length (now new)) ⌝ }
+    requires { ⌜ Lent n (length (now old)) × (length (now new) ≡ length (now old)) ⌝ }
     requires { ⌜ k < n .k ⌝ }
     ensures { λ _. ⌜ now (new .exit) ≡ filled (k * (n .i * n .j)) (n .i * n .j) (smoothedAt n factor (now (old .entry))) (now (new .entry)) ⌝ }
 {
@@ -115,7 +114,7 @@ fn smooth_slab(n: Vec3i, factor: f64, old: &[f64], new: &mut [f64], k: usize)
 
 // One round, from the old values into the new.
 fn smooth_once(n: Vec3i, factor: f64, old: &[f64], new: &mut [f64])
-    requires { ⌜ Slices n (length (now old)) (length (now new)) ⌝ }
+    requires { ⌜ Lent n (length (now old)) × (length (now new) ≡ length (now old)) ⌝ }
     ensures { λ _. ⌜ now (new .exit) ≡ smoothedOnce n factor (now (old .entry)) ⌝ }
 {
     let mut k = 0;
@@ -128,7 +127,7 @@ fn smooth_once(n: Vec3i, factor: f64, old: &[f64], new: &mut [f64])
 // All rounds, two at a time: from the values into the scratch and back. After an odd last round
 // the result is copied back.
 fn smooth_rounds(n: Vec3i, factor: f64, rounds: u32, values: &mut [f64], scratch: &mut [f64])
-    requires { ⌜ Slices n (length (now values)) (length (now scratch)) ⌝ }
+    requires { ⌜ Lent n (length (now values)) × (length (now scratch) ≡ length (now values)) ⌝ }
     ensures { λ _. ⌜ now (values .exit) ≡ smoothed n factor rounds (now (values .entry)) ⌝ }
 {
     let mut left = rounds;

@@ -1,8 +1,8 @@
 // Walks over the points and the cells of a grid that fills a box, after PointGridIter and
 // CellGridIter. The cursor goes by value: it stands at the next point or cell.
 ghost use mathlib.Core.Path.{_≡_};
-ghost use Prim.Native.Nat.{_+_, _≤_, _<_};
-ghost use Rattle.dense_field.specs.Walks.{nextIn, countRefused, walkRefused, walkPoint, walkCell, pointStep, cellStep};
+ghost use Prim.Native.Nat.{_≤_};
+ghost use Rattle.dense_field.specs.Walks.{countRefused, walkRefused, walkPoint, walkCell, pointStep, cellStep};
 use crate::CellStep;
 use crate::PointStep;
 use geometry::BoundingBox;
@@ -36,20 +36,6 @@ fn walk_refused(least: usize, n: Vec3i, cursor: Vec3i) -> bool
         return true;
     }
     cursor.j >= n.j
-}
-
-// The cursor after this one, i fastest, then j and k.
-fn next_in(n: Vec3i, cursor: Vec3i) -> Vec3i
-    requires { ⌜ (cursor .i < n .i) × (cursor .j < n .j) × (cursor .k < n .k) × (n .i ≤ 16777216) ⌝ }
-    ensures { λ r. ⌜ r ≡ nextIn n cursor ⌝ }
-{
-    if cursor.i + 1 < n.i {
-        return Vec3i::new(cursor.i + 1, cursor.j, cursor.k);
-    }
-    if cursor.j + 1 < n.j {
-        return Vec3i::new(0, cursor.j + 1, cursor.k);
-    }
-    Vec3i::new(0, 0, cursor.k + 1)
 }
 
 // The point at a cursor. The first point of an axis is its least end and the last its most.
@@ -106,7 +92,10 @@ pub fn point_step(bounds: BoundingBox, n: Vec3i, cursor: Vec3i) -> PointStep
     if cursor.k >= n.k {
         return PointStep::Done(cursor);
     }
-    PointStep::Point(walk_point(bounds, n, cursor), next_in(n, cursor))
+    PointStep::Point(
+        walk_point(bounds, n, cursor),
+        geometry::next_indices(cursor, n.i, n.j),
+    )
 }
 
 // The box of the cell at the cursor and the next cursor, or done past the last cell, with the
@@ -125,5 +114,8 @@ pub fn cell_step(bounds: BoundingBox, n: Vec3i, cursor: Vec3i) -> CellStep
     }
     let min = cell_min(bounds, n, cursor);
     let max = cell_max(bounds, n, cursor);
-    CellStep::Cell(BoundingBox::new(min, max), next_in(n, cursor))
+    CellStep::Cell(
+        BoundingBox::new(min, max),
+        geometry::next_indices(cursor, n.i, n.j),
+    )
 }

@@ -37,6 +37,20 @@ module _ (nx ny : ℕ) where
   place-of-indices n =
       slabs _ _ _ ∙ rw (div-add-mod' (n % (nx * ny)) nx) (div-add-mod' n (nx * ny))
 
+-- the indices of a place are below their counts
+module _ (n nx ny : ℕ) (hx : 0 < nx) (hy : 0 < ny) where
+  pub column-below : indicesOf n nx ny .i < nx
+  unfolding indicesOf
+  column-below = mod-lt (n % (nx * ny)) hx
+
+  pub line-below : indicesOf n nx ny .j < ny
+  unfolding indicesOf
+  line-below = div-lt-iff-lt-mul hx .1 (omega (arith, mod-lt n (mul-pos hx hy), mul-comm nx ny))
+
+  pub slab-below : (nz : ℕ) → n < nx * ny * nz → indicesOf n nx ny .k < nz
+  unfolding indicesOf
+  slab-below nz h = div-lt-iff-lt-mul (mul-pos hx hy) .1 (omega (arith, mul-comm (nx * ny) nz))
+
 -- an index in range has its place, and the place gives the index back
 module _ (nx ny nz : ℕ) (passed : dimensionsRefused nx ny nz ≡ false) where
   pub there : (i j k : ℕ) → i < nx → j < ny → k < nz → index1dOf i j k nx ny nz ≡ index1d.At (placeOf i j k nx ny)
@@ -55,12 +69,11 @@ module _ (nx ny nz : ℕ) (passed : dimensionsRefused nx ny nz ≡ false) where
 
   -- a place in range has indices in range, and they give the place back
   pub back-and-there : (n : ℕ) → n < nx * ny * nz → let v = indicesOf n nx ny in index1dOf (v .i) (v .j) (v .k) nx ny nz ≡ index1d.At n
-  unfolding indicesOf
   back-and-there n h =
       let g = accepted nx ny nz passed in
       let v = indicesOf n nx ny in
-      let area : 0 < nx * ny = mul-pos (g .x-above) (g .y-above) in
-      let below : n % (nx * ny) < nx * ny = mod-lt n area in
-      let row : v .j < ny = div-lt-iff-lt-mul (g .x-above) .1 (omega (arith, mul-comm nx ny)) in
-      let slab : v .k < nz = div-lt-iff-lt-mul area .1 (omega (arith, mul-comm (nx * ny) nz)) in
-      there (v .i) (v .j) (v .k) (mod-lt (n % (nx * ny)) (g .x-above)) row slab ∙ ap index1d.At (place-of-indices nx ny n)
+      there (v .i) (v .j) (v .k)
+      (column-below n nx ny (g .x-above) (g .y-above))
+      (line-below n nx ny (g .x-above) (g .y-above))
+      (slab-below n nx ny (g .x-above) (g .y-above) nz h)
+      ∙ ap index1d.At (place-of-indices nx ny n)

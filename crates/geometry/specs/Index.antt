@@ -1,6 +1,6 @@
 -- Document 01, "Boxes and indices": "Index is k × nx × ny + j × nx + i (9, then 10)."
 use Prim.Native.Nat.{ℕ, _+_, _*_, _/_, _%_}
-use mathlib.Core.Bool.{Bool, not, _&&_, _||_}
+use mathlib.Core.Bool.{Bool, not, cond, _&&_, _||_}
 use mathlib.Core.List.{[], _∷_}
 use lib.Dec.{eqb, ltb}
 use Rattle.geometry.specs.Values.{vec3i}
@@ -23,6 +23,12 @@ placeOf i j k nx ny = k * nx * ny + j * nx + i
 unfoldable pub indicesOf : (index nx ny : ℕ) → Vec3i
 indicesOf index nx ny =
     vec3i (index % (nx * ny) % nx) (index % (nx * ny) / nx) (index / (nx * ny))
+
+-- the indices after (i, j, k) in a grid of nx by ny, i fastest
+unfoldable pub nextIndices : Vec3i → (nx ny : ℕ) → Vec3i
+nextIndices at nx ny =
+    cond (ltb (at .i + 1) nx) (vec3i (at .i + 1) (at .j) (at .k))
+    (cond (ltb (at .j + 1) ny) (vec3i 0 (at .j + 1) (at .k)) (vec3i 0 0 (at .k + 1)))
 
 -- cause 10: an index that is not below its dimension
 unfoldable pub index1dOf : (i j k nx ny nz : ℕ) → answer1d.Index1d

@@ -1,9 +1,10 @@
 // Points, boxes and grid indices by value, after vec3f.rs, vec3i.rs, bounding_box.rs and math_helper.rs.
 ghost use mathlib.Core.Path.{_≡_};
+ghost use Prim.Native.Nat.{_+_, _^_, _<_};
 ghost use Rattle.geometry.specs.Values.{vec3, vec3i, box};
 ghost use Rattle.geometry.specs.Distance.{distanceSquaredOf, distanceOf};
 ghost use Rattle.geometry.specs.Box.{dimensionsOf, intersectsOf};
-ghost use Rattle.geometry.specs.Index.{dimensionsRefused, index1dOf, index3dOf};
+ghost use Rattle.geometry.specs.Index.{dimensionsRefused, index1dOf, index3dOf, nextIndices};
 ghost use Rattle.geometry.specs.Axis.{stepAlong, along, alongEnd};
 ghost use Rattle.geometry.specs.Bounds.{pointRefused, boxRefused, cellRefused};
 
@@ -179,6 +180,20 @@ pub fn index3d_from_index1d(index: usize, nx: usize, ny: usize, nz: usize) -> In
     }
     let rest = index % (nx * ny);
     Index3d::At(Vec3i::new(rest % nx, rest / nx, index / (nx * ny)))
+}
+
+// The indices after (i, j, k) in a grid of nx by ny, i fastest.
+pub fn next_indices(at: Vec3i, nx: usize, ny: usize) -> Vec3i
+    requires { ⌜ (at .i < nx) × (at .j < ny) × (at .k + 1 < 2 ^ 64) ⌝ }
+    ensures { λ r. ⌜ r ≡ nextIndices at nx ny ⌝ }
+{
+    if at.i + 1 < nx {
+        return Vec3i::new(at.i + 1, at.j, at.k);
+    }
+    if at.j + 1 < ny {
+        return Vec3i::new(0, at.j + 1, at.k);
+    }
+    Vec3i::new(0, 0, at.k + 1)
 }
 
 // One step of an axis from `least` to `most` that is cut into so many.

@@ -3,7 +3,6 @@ use mathlib.Core.Path.{_≡_, refl, ap}
 use mathlib.Core.Bool.{Bool, true, false, not, _||_, or-true}
 use Prim.Native.Nat.{ℕ, _+_, _*_, _≤_, _<_}
 use native.Mathlib.Nat.{mul-le-mul}
-use native.Mathlib.Omega.{arith}
 use lib.Dec.{ltb}
 use lib.Ieee.Scale.{finite}
 use borrow.Author.Tests.{ltb-false, lt-ltb, le-ltb, not-false}
@@ -20,7 +19,7 @@ use Rattle.grid.specs.Nodes.{sizeOf, nodeCounts, nodesOf}
 use Rattle.grid.specs.Boxes.{active}
 use Rattle.grid.specs.Counting.{activeIn, activeOf}
 use Rattle.grid.specs.Causes.{refusedByOne, refusedByTwo, refusedByThree, refusedByFive, refusedBySix, childrenOf, storeNeeded, openCauses, refusalOf}
-use Rattle.grid.proofs.BlockLaws.{Block, block, cube-le}
+use Rattle.grid.proofs.BlockLaws.{Block, block}
 use Rattle.grid.proofs.RangeLists.{countBelow-le}
 use Rattle.grid.proofs.Sums.{sum-le}
 

@@ -1,10 +1,11 @@
 -- The indices of a number by two divisions: a row's number, and what is left of each.
 use mathlib.Core.Path.{_≡_, sym, ap, _∙_}
 use Prim.Native.Nat.{ℕ, _+_, _*_, _/_, _%_, _≤_, _<_}
-use native.Mathlib.Nat.{mul-pos, mul-comm, mul-assoc, div-add-mod', mod-lt, mod-eq-of-lt, mul-add-div-right, mul-add-mod-self-right, div-lt-iff-lt-mul, div-div-eq-div-mul, div-le-self}
+use native.Mathlib.Nat.{mul-comm, mul-assoc, div-add-mod', mod-eq-of-lt, mul-add-div-right, mul-add-mod-self-right, div-div-eq-div-mul, div-le-self}
 use native.Mathlib.Omega.{arith}
 use Rattle.geometry.specs.Values.{vec3i}
 use Rattle.geometry.specs.Index.{indicesOf}
+use Rattle.geometry.proofs.Inverse.{line-below}
 
 module _ (n nx ny : ℕ) (hx : 0 < nx) (hy : 0 < ny) where
   -- n is so many slabs, and a rest within one
@@ -18,7 +19,8 @@ module _ (n nx ny : ℕ) (hx : 0 < nx) (hy : 0 < ny) where
   rows = ap (λ (m : ℕ). m / nx) (sym whole) ∙ mul-add-div-right hx (n / (nx * ny) * ny) (n % (nx * ny))
 
   row-below : n % (nx * ny) / nx < ny
-  row-below = div-lt-iff-lt-mul hx .1 (omega (arith, mod-lt n (mul-pos hx hy), mul-comm nx ny))
+  unfolding indicesOf
+  row-below = line-below n nx ny hx hy
 
   row : n / nx % ny ≡ n % (nx * ny) / nx
   row =
@@ -28,15 +30,7 @@ module _ (n nx ny : ℕ) (hx : 0 < nx) (hy : 0 < ny) where
   unfolding indicesOf
   by-rows = λ i. vec3i (column i) (row i) (div-div-eq-div-mul n nx ny i)
 
-  -- the indices are below their counts
-  pub column-below : indicesOf n nx ny .i < nx
-  unfolding indicesOf
-  column-below = mod-lt (n % (nx * ny)) hx
-
-  pub line-below : indicesOf n nx ny .j < ny
-  unfolding indicesOf
-  line-below = row-below
-
+-- no slab has a number above the place's own
 pub slab-le : (n nx ny : ℕ) → indicesOf n nx ny .k ≤ n
 unfolding indicesOf
 slab-le n nx ny = div-le-self n (nx * ny)

@@ -9,10 +9,10 @@ use Rattle.geometry.specs.declared.Vec3i.{Vec3i}
 use Rattle.geometry.specs.Values.{vec3i}
 use Rattle.geometry.specs.Index.{placeOf, indicesOf}
 use Rattle.geometry.specs.Octet.{octetOrder, octetPlaces}
+use Rattle.geometry.proofs.Inverse.{column-below, line-below}
 use Rattle.grid.specs.Blocks.{cube}
 use Rattle.grid.specs.Boxes.{childIndices}
 use Rattle.grid.specs.Corners.{octet}
-use Rattle.grid.proofs.Division.{column-below, line-below}
 use Rattle.grid.proofs.Eight.{each}
 
 -- the eight, from the first

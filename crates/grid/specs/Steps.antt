@@ -1,13 +1,11 @@
 -- What the functions inside this crate compute on the way to a point. No promise of a public call names these;
 -- proofs/Stepped and proofs/Numbering show what they come to.
-use Prim.Native.Nat.{ℕ, _+_, _-_}
-use mathlib.Core.Bool.{cond}
-use lib.Dec.{ltb}
+use Prim.Native.Nat.{ℕ, _-_}
 use lib.Ieee.{Float, binary64, add, mul}
 use Rattle.geometry.specs.declared.Vec3.{Vec3}
 use Rattle.geometry.specs.declared.Vec3i.{Vec3i}
 use Rattle.geometry.specs.declared.BoundingBox.{BoundingBox}
-use Rattle.geometry.specs.Values.{vec3, vec3i}
+use Rattle.geometry.specs.Values.{vec3}
 use Rattle.geometry.specs.Axis.{asFloat, stepAlong}
 
 -- the steps between a leaf's points on each axis: "dimension / (L - 1)"
@@ -33,9 +31,3 @@ cornerAt origin c at =
     (add binary64 (origin .x) (mul binary64 c (asFloat (at .i))))
     (add binary64 (origin .y) (mul binary64 c (asFloat (at .j))))
     (add binary64 (origin .z) (mul binary64 c (asFloat (at .k))))
-
--- the indices after (i, j, k) in a grid of nx by ny, i fastest
-unfoldable pub nextIndices : Vec3i → (nx ny : ℕ) → Vec3i
-nextIndices at nx ny =
-    cond (ltb (at .i + 1) nx) (vec3i (at .i + 1) (at .j) (at .k))
-    (cond (ltb (at .j + 1) ny) (vec3i 0 (at .j + 1) (at .k)) (vec3i 0 0 (at .k + 1)))

@@ -10,7 +10,7 @@ ghost use Rattle.geometry.specs.Octet.{octetPlaces};
 ghost use Rattle.grid.specs.Blocks.{cube};
 ghost use Rattle.grid.specs.Corners as corners;
 ghost use Rattle.grid.specs.Leaves.{leafPoint};
-ghost use Rattle.grid.specs.Steps.{leafSteps, steppedPoint, cornerAt, nextIndices};
+ghost use Rattle.grid.specs.Steps.{leafSteps, steppedPoint, cornerAt};
 use crate::nodes::indices;
 use crate::nodes::steps_between;
 use geometry::BoundingBox;
@@ -132,20 +132,6 @@ pub fn octet_values(values: &[f64], n: u32, c: usize) -> [f64; 8]
     ]
 }
 
-// The indices after (i, j, k), i fastest.
-fn next_indices(at: Vec3i, nx: usize, ny: usize) -> Vec3i
-    requires { ⌜ (at .i < nx) × (at .j < ny) × (at .k + 1 < 2 ^ 64) ⌝ }
-    ensures { λ r. ⌜ r ≡ nextIndices at nx ny ⌝ }
-{
-    if at.i + 1 < nx {
-        return Vec3i::new(at.i + 1, at.j, at.k);
-    }
-    if at.j + 1 < ny {
-        return Vec3i::new(0, at.j + 1, at.k);
-    }
-    Vec3i::new(0, 0, at.k + 1)
-}
-
 // Writes a point's coordinates at a place of a row.
 fn store_point(p: Vec3, q: usize, xs: &mut [f64; 64], ys: &mut [f64; 64], zs: &mut [f64; 64])
     requires { ⌜ q < 64 ⌝ }
@@ -180,7 +166,7 @@ pub fn leaf_points(
     let mut q: usize = 0;
     while q < count {
         store_point(stepped_point(min, steps, at), q, xs, ys, zs);
-        at = next_indices(at, side, side);
+        at = geometry::next_indices(at, side, side);
         q += 1;
     }
 }

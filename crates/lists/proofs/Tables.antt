@@ -2,16 +2,15 @@
 use mathlib.Core.Path.{_≡_, refl, sym, ap, _∙_}
 use mathlib.Core.Bool.{Bool, true, false}
 use mathlib.Core.List.{List, [], _∷_, _++_}
-use Prim.Native.Nat.{ℕ, zero, suc, _+_, _≤_, _<_}
+use Prim.Native.Nat.{ℕ, zero, suc, _+_, _<_}
 use native.Mathlib.Nat.{not-suc-le-zero}
 use native.Mathlib.Numerals.{add-one}
 use native.Mathlib.Omega.{arith}
 use lib.Dec.{ltb}
-use lib.ListN.{length, getD, set, drop, length-append, length-drop, List·getD-append}
+use lib.ListN.{length, getD, length-append, List·getD-append}
 use lib.Seq.{getD-at}
 use borrow.Author.Tests.{ltb-true, ltb-false}
 use Rattle.lists.specs.Tabulate.{tabulate}
-use Rattle.lists.proofs.Lists.{front-set}
 
 -- one more element behind a list
 module _ {A : Type 0} (l : List A) (v : A) where
@@ -51,19 +50,3 @@ module _ {A : Type 0} where
       let rest : tabulate n f ≡ tabulate n g = tabulate-cong n f g (λ i h. same i (omega arith)) in
       let last : f n ≡ g n = same n (omega arith) in
       λ i. rest i ++ (last i ∷ [])
-
--- a list whose front holds a function's first i values: one more
-module _ {A : Type 0} (entry : List A) (f : ℕ → A) where
-  abbrev pub tabled : ℕ → List A
-  tabled i = tabulate i f ++ drop i entry
-
-  pub length-tabled : (i : ℕ) → i ≤ length entry → length (tabled i) ≡ length entry
-  length-tabled i h = length-append (tabulate i f) (drop i entry) ∙ omega (arith, length-tabulate i f, length-drop i entry)
-
-  pub tabled-more : (i : ℕ) {now : List A} {v : A} → i < length entry → now ≡ tabled i → v ≡ f i → set now i v ≡ tabled (i + 1)
-  unfolding tabulate
-  tabled-more i {now} {v} h e value =
-      ap (λ (t : List A). set t i v) e
-      ∙ front-set (tabulate i f) entry i v (length-tabulate i f) h
-      ∙ ap (λ (u : A). tabulate i f ++ (u ∷ []) ++ drop (suc i) entry) value
-      ∙ ap tabled (sym (add-one i))

@@ -1,9 +1,8 @@
 -- A field with an axis of 2 points has no interior point, so smoothing changes nothing.
 use mathlib.Core.Path.{_≡_, refl, sym, ap, _∙_, subst}
-use mathlib.Core.Logic.{_⊎_, inl, inr}
-use mathlib.Core.Bool.{Bool, true, false, cond, _||_, or-true}
+use mathlib.Core.Bool.{Bool, true, _||_, or-true}
 use mathlib.Core.List.{List}
-use Prim.Native.Nat.{ℕ, zero, suc, _+_, _*_, _/_, _%_, _≤_, _<_}
+use Prim.Native.Nat.{ℕ, zero, suc, _*_, _/_, _%_, _<_}
 use native.Mathlib.Nat.{mod-lt, mul-pos, mul-comm, div-lt-iff-lt-mul, zero-mul, mul-zero}
 use native.Mathlib.Omega.{arith}
 use lib.ListN.{length, getD}

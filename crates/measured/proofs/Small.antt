@@ -1,12 +1,9 @@
 -- Small cases of the rules, computed.
-use mathlib.Core.Path.{_≡_, refl, sym, ap, _∙_}
-use mathlib.Core.Bool.{Bool, true, false}
-use mathlib.Core.List.{List, [], _∷_}
-use Prim.Native.Nat.{ℕ, _+_}
-use lib.ListN.{length, getD, replicate}
-use lib.IntN.{pos, negsuc}
+use mathlib.Core.Path.{_≡_, refl, _∙_}
+use mathlib.Core.List.{List}
+use lib.ListN.{getD, replicate}
 use lib.Dec.{lit<}
-use lib.Ieee.{Float, fin, binary64, ofBits, ofInt, add, sub, mul, div, lt, le, toUnsigned, size, odd}
+use lib.Ieee.{Float, binary64, ofBits, ofInt, add, sub, mul, div, lt, le, toUnsigned, size, odd}
 use Rattle.lists.proofs.Tables.{getD-tabulate}
 use Rattle.root.specs.Nearest.{nearestRoot}
 use Rattle.root.specs.Root.{squareRoot, rootOf, scale}
@@ -14,14 +11,14 @@ use Rattle.float.specs.Sign.{absOf}
 use Rattle.float.specs.Whole.{ceilOf}
 use Rattle.float.specs.Zero.{plusZero}
 use Rattle.geometry.specs.declared.Vec3i.{Vec3i}
-use Rattle.geometry.specs.Values.{vec3, vec3i, box}
+use Rattle.geometry.specs.Values.{vec3i}
 use Rattle.geometry.specs.Box.{intersectsOf}
 use Rattle.geometry.specs.Index.{indicesOf, placeOf}
 use Rattle.geometry.specs.Axis.{asFloat, stepAlong, along, alongEnd}
 use Rattle.geometry.specs.Octet.{octetOrder, octetPlaces}
 use Rattle.dense_field.specs.Field.{onEdge, outside}
 use Rattle.dense_field.specs.Threshold.{cut}
-use Rattle.dense_field.specs.Smoothing.{neighbourSum, blended, smoothedAt, smoothedOnce, smoothed}
+use Rattle.dense_field.specs.Smoothing.{neighbourSum, blended, blendedAt, smoothedAt, smoothedOnce, smoothed}
 use Rattle.grid.specs.Ranges.{anyBelow, countBelow, listBelow}
 use Rattle.grid.specs.Nodes.{nodeSize, nodesAlong, nodeCounts}
 use Rattle.grid.specs.Boxes.{nodeLeast, nodeMost, nodeBoxAt, nodeBox, childBoxAt, childBox, active}
@@ -71,7 +68,7 @@ sum a b c d e f = add binary64 (add binary64 (add binary64 (add binary64 (add bi
 centre-rule : (vs : List Float) → smoothedAt threes half vs 13
     ≡ blended half (getD vs 13 plusZero)
     (sum (getD vs 14 plusZero) (getD vs 12 plusZero) (getD vs 16 plusZero) (getD vs 10 plusZero) (getD vs 22 plusZero) (getD vs 4 plusZero))
-unfolding smoothedAt neighbourSum outside onEdge indicesOf
+unfolding smoothedAt blendedAt neighbourSum outside onEdge indicesOf
 centre-rule vs = refl
 
 sixes : blended half (asFloat 0) (sum (asFloat 6) (asFloat 6) (asFloat 6) (asFloat 6) (asFloat 6) (asFloat 6)) ≡ asFloat 3

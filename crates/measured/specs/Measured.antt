@@ -1,8 +1,8 @@
 -- Document 01, "Measured on the bench": the facts marked with * there, in the paragraph's order, as one statement about the rules.
 -- Each sentence of the paragraph stands above its field.
 use mathlib.Core.Path.{_≡_}
-use mathlib.Core.Bool.{Bool, true, false}
-use mathlib.Core.List.{List, [], _∷_}
+use mathlib.Core.Bool.{true, false}
+use mathlib.Core.List.{List}
 use Prim.Native.Nat.{ℕ}
 use lib.ListN.{length, getD, replicate}
 use lib.IntN.{pos, negsuc}
@@ -20,7 +20,7 @@ use Rattle.dense_field.specs.Smoothing.{smoothed}
 use Rattle.grid.specs.declared.Grid.{Grid}
 use Rattle.grid.specs.Ranges.{countBelow}
 use Rattle.grid.specs.Blocks.{cube}
-use Rattle.grid.specs.Nodes.{nodeSize, nodesAlong}
+use Rattle.grid.specs.Nodes.{nodesAlong}
 use Rattle.grid.specs.Boxes.{active}
 use Rattle.grid.specs.Corners.{neededCorners}
 use Rattle.grid.specs.Pruning.{halfDiagonal, lowest, highest, pruned, average}

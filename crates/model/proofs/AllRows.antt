@@ -7,13 +7,14 @@ use native.Mathlib.Nat.{not-suc-le-zero, mul-le-mul-right}
 use native.Mathlib.Numerals.{add-one}
 use native.Mathlib.Omega.{arith}
 use lib.Dec.{ltb}
-use lib.ListN.{length, getD, drop}
+use lib.ListN.{length, getD}
 use lib.Seq.{ext-getD}
 use lib.Ieee.{Float}
 use borrow.Author.Tests.{ltb-true, ltb-false}
-use Rattle.lists.specs.Tabulate.{tabulate}
+use Rattle.lists.specs.Filled.{filled}
 use Rattle.lists.proofs.Lists.{getD-any}
-use Rattle.lists.proofs.Tables.{length-tabulate, getD-tabulate, tabulate-cong, getD-before, getD-last}
+use Rattle.lists.proofs.Tables.{length-tabulate, getD-tabulate, getD-before, getD-last}
+use Rattle.lists.proofs.Filling.{filled-same}
 use Rattle.float.specs.Zero.{plusZero}
 use Rattle.model.specs.Part.{past, partValue}
 use Rattle.model.specs.Model.{valuesTo, modelValue}
@@ -137,19 +138,20 @@ module _ (l : Flat) (count n : ℕ) (px py pz values results : List Float) where
 
   pub row-of-last : {now last : List Float} → n ≤ 64 → 0 < count → now ≡ evaluatedRows l count n px py pz values
       → laneAt (count - 1) n ≤ length now
-      → last ≡ tabulate n (λ k. getD now (laneAt (count - 1) k) past) ++ drop n results → last ≡ modelRow l count n px py pz results
+      → last ≡ filled 0 n (λ k. getD now (laneAt (count - 1) k) past) results → last ≡ modelRow l count n px py pz results
   unfolding modelRow
   row-of-last {now} {last} lanes some e long row =
       let same : length now ≡ length values = ap length e ∙ length-evaluated in
       row
-      ∙ ap (λ (t : List Float). t ++ drop n results)
-      (tabulate-cong n _ _ (λ k h.
+      ∙ filled-same 0 n _ _ results
+      (λ k from below.
+      let h : k < n = omega arith in
       ap (λ (t : List Float). getD t (laneAt (count - 1) k) past) e
-      ∙ last-row l n px py pz values lanes count k some h (omega arith)))
+      ∙ last-row l n px py pz values lanes count k some h (omega arith))
 
-  pub row-of-none : {last : List Float} → count ≡ 0 → last ≡ tabulate n (λ k. plusZero) ++ drop n results → last ≡ modelRow l count n px py pz results
+  pub row-of-none : {last : List Float} → count ≡ 0 → last ≡ filled 0 n (λ k. plusZero) results → last ≡ modelRow l count n px py pz results
   unfolding modelRow
   row-of-none e row =
       row
-      ∙ ap (λ (t : List Float). t ++ drop n results)
-      (tabulate-cong n _ _ (λ k h. sym (none-value l (getD px k past) (getD py k past) (getD pz k past) e)))
+      ∙ filled-same 0 n _ _ results
+      (λ k from below. sym (none-value l (getD px k past) (getD py k past) (getD pz k past) e))

@@ -94,3 +94,14 @@ filled-then values p n f g {now} {last} e e′ =
     (λ j apart.
     ap (λ (t : List Float). getD t j past) e′ ∙ unfilled now p n _ j apart
     ∙ ap (λ (t : List Float). getD t j past) e ∙ unfilled values p n f j apart)
+
+-- the row of an operation f on two earlier rows, with its first i lanes filled
+module _ (f : Float → Float → Float) (values : List Float) (p a b : ℕ) where
+  abbrev pub pairs : ℕ → List Float
+  pairs i = filledRow values p i (λ k. f (getD values (laneAt a k) past) (getD values (laneAt b k) past))
+
+  pub pair-more : (i : ℕ) {now : List Float} {v : Float} → a < p → b < p → i < 64 → now ≡ pairs i
+      → v ≡ f (getD now (laneAt a i) past) (getD now (laneAt b i) past) → set now (laneAt p i) v ≡ pairs (i + 1)
+  pair-more i first second lanes e value =
+      lane-more values p i _ e
+      (value ∙ (λ t. f (read-row values p a i _ e first lanes t) (read-row values p b i _ e second lanes t)))

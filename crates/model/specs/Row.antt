@@ -1,9 +1,9 @@
 -- Values of parts at a row of points: part p's value at lane k stands at p × 64 + k.
 use Prim.Native.Nat.{ℕ, _+_, _-_, _*_, _/_, _%_}
 use mathlib.Core.Bool.{cond, _&&_}
-use mathlib.Core.List.{List, _++_}
+use mathlib.Core.List.{List}
 use lib.Dec.{ltb}
-use lib.ListN.{length, getD, drop}
+use lib.ListN.{length, getD}
 use lib.Ieee.{Float}
 use Rattle.lists.specs.Tabulate.{tabulate}
 use Rattle.lists.specs.Filled.{filled}
@@ -37,4 +37,4 @@ evaluatedRows l count n px py pz values =
 -- the model's value at each of n points, and every element past them as it was
 unfoldable pub modelRow : Flat → (count n : ℕ) → (px py pz results : List Float) → List Float
 modelRow l count n px py pz results =
-    tabulate n (λ k. modelValue (partsOf l count) count (getD px k past) (getD py k past) (getD pz k past)) ++ drop n results
+    filled 0 n (λ k. modelValue (partsOf l count) count (getD px k past) (getD py k past) (getD pz k past)) results

@@ -1,13 +1,12 @@
 // The values of parts at a row of points, part by part, from the flat arrays.
 ghost use mathlib.Core.Path.{_≡_};
 ghost use Prim.Native.Nat.{_≤_, _<_};
-ghost use mathlib.Core.List.{_++_};
-ghost use lib.ListN.{length, getD, drop};
-ghost use Rattle.lists.specs.Tabulate.{tabulate};
+ghost use lib.ListN.{length, getD};
+ghost use Rattle.lists.specs.Filled.{filled};
 ghost use Rattle.float.specs.Zero.{plusZero};
 ghost use Rattle.geometry.specs.Values.{vec3};
 ghost use Rattle.model.specs.Part.{past, partValue};
-ghost use Rattle.model.specs.Flat.{flat, partFrom, placed, partAt};
+ghost use Rattle.model.specs.Flat.{flatOf, partFrom, placed, partAt};
 ghost use Rattle.model.specs.Row.{laneAt, filledRow, lane, evaluatedRows};
 use super::lanes;
 use super::point;
@@ -77,13 +76,8 @@ pub fn fill_entry(
 
 // The row of the part at place p of the flat arrays.
 pub fn fill_part(
-    codes: &[u32; 64],
-    firsts: &[u32; 64],
-    seconds: &[u32; 64],
-    xs: &[f64; 64],
-    ys: &[f64; 64],
-    zs: &[f64; 64],
-    ws: &[f64; 64],
+    words: &[u32; 192],
+    numbers: &[f64; 256],
     p: usize,
     px: &[f64; 64],
     py: &[f64; 64],
@@ -92,18 +86,18 @@ pub fn fill_part(
     values: &mut [f64; 4096],
 )
     requires { ⌜ (p < 64) × (n ≤ 64) ⌝ }
-    ensures { λ _. ⌜ now (values .exit) ≡ filledRow (now (values .entry)) p n (λ k. partValue (partAt (flat (now (codes .entry)) (now (firsts .entry)) (now (seconds .entry)) (now (xs .entry)) (now (ys .entry)) (now (zs .entry)) (now (ws .entry))) p) (getD (now (px .entry)) k past) (getD (now (py .entry)) k past) (getD (now (pz .entry)) k past) (lane (now (values .entry)) k p)) ⌝ }
+    ensures { λ _. ⌜ now (values .exit) ≡ filledRow (now (values .entry)) p n (λ k. partValue (partAt (flatOf (now (words .entry)) (now (numbers .entry))) p) (getD (now (px .entry)) k past) (getD (now (py .entry)) k past) (getD (now (pz .entry)) k past) (lane (now (values .entry)) k p)) ⌝ }
 {
-    let a = point::place(firsts[p]);
-    let b = point::place(seconds[p]);
+    let a = point::place(words[64 + p]);
+    let b = point::place(words[128 + p]);
     fill_entry(
-        codes[p],
+        words[p],
         a,
         b,
-        xs[p],
-        ys[p],
-        zs[p],
-        ws[p],
+        numbers[p],
+        numbers[64 + p],
+        numbers[128 + p],
+        numbers[192 + p],
         p,
         px,
         py,
@@ -115,13 +109,8 @@ pub fn fill_part(
 
 // The rows of the first `count` parts, in order.
 pub fn fill_parts(
-    codes: &[u32; 64],
-    firsts: &[u32; 64],
-    seconds: &[u32; 64],
-    xs: &[f64; 64],
-    ys: &[f64; 64],
-    zs: &[f64; 64],
-    ws: &[f64; 64],
+    words: &[u32; 192],
+    numbers: &[f64; 256],
     count: usize,
     px: &[f64; 64],
     py: &[f64; 64],
@@ -130,25 +119,11 @@ pub fn fill_parts(
     values: &mut [f64; 4096],
 )
     requires { ⌜ (count ≤ 64) × (n ≤ 64) ⌝ }
-    ensures { λ _. ⌜ now (values .exit) ≡ evaluatedRows (flat (now (codes .entry)) (now (firsts .entry)) (now (seconds .entry)) (now (xs .entry)) (now (ys .entry)) (now (zs .entry)) (now (ws .entry))) count n (now (px .entry)) (now (py .entry)) (now (pz .entry)) (now (values .entry)) ⌝ }
+    ensures { λ _. ⌜ now (values .exit) ≡ evaluatedRows (flatOf (now (words .entry)) (now (numbers .entry))) count n (now (px .entry)) (now (py .entry)) (now (pz .entry)) (now (values .entry)) ⌝ }
 {
     let mut p: usize = 0;
     while p < count {
-        fill_part(
-            codes,
-            firsts,
-            seconds,
-            xs,
-            ys,
-            zs,
-            ws,
-            p,
-            px,
-            py,
-            pz,
-            n,
-            values,
-        );
+        fill_part(words, numbers, p, px, py, pz, n, values);
         p += 1;
     }
 }
@@ -157,7 +132,7 @@ pub fn fill_parts(
 pub fn copy_row(values: &[f64], p: usize, n: usize, results: &mut [f64])
     requires { ⌜ laneAt p n ≤ length (now values) ⌝ }
     requires { ⌜ n ≤ length (now results) ⌝ }
-    ensures { λ _. ⌜ now (results .exit) ≡ tabulate n (λ k. getD (now (values .entry)) (laneAt p k) past) ++ drop n (now (results .entry)) ⌝ }
+    ensures { λ _. ⌜ now (results .exit) ≡ filled 0 n (λ k. getD (now (values .entry)) (laneAt p k) past) (now (results .entry)) ⌝ }
     ensures { λ _. ⌜ laneAt p n ≤ length (now (values .entry)) ⌝ }
 {
     let row = p * 64;
@@ -171,7 +146,7 @@ pub fn copy_row(values: &[f64], p: usize, n: usize, results: &mut [f64])
 // +0 into the first n elements.
 pub fn clear_row(n: usize, results: &mut [f64])
     requires { ⌜ n ≤ length (now results) ⌝ }
-    ensures { λ _. ⌜ now (results .exit) ≡ tabulate n (λ k. plusZero) ++ drop n (now (results .entry)) ⌝ }
+    ensures { λ _. ⌜ now (results .exit) ≡ filled 0 n (λ k. plusZero) (now (results .entry)) ⌝ }
 {
     let mut i: usize = 0;
     while i < n {

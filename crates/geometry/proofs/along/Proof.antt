@@ -1,7 +1,7 @@
 -- `along` meets its contract.
-use mathlib.Core.Path.{sym, ap, ap₂, _∙_}
+use mathlib.Core.Path.{ap, ap₂, _∙_}
 use borrow.Author.Needs.{needs}
-use lib.Ieee.{Float, binary64, add, mul}
+use lib.Ieee.{binary64, add, mul}
 use Rattle.geometry.specs.Axis.{along}
 use Rattle.geometry.proofs.along.Statement.{statement}
 use Rattle.geometry.proofs.along.Tie as tie

@@ -1,7 +1,7 @@
 -- `along_end` meets its contract.
-use mathlib.Core.Path.{sym, ap, ap₂, _∙_}
+use mathlib.Core.Path.{ap₂, _∙_}
 use borrow.Author.Needs.{needs}
-use lib.Ieee.{Float, binary64, add}
+use lib.Ieee.{binary64, add}
 use Rattle.geometry.specs.Axis.{alongEnd}
 use Rattle.geometry.proofs.along_end.Statement.{statement}
 use Rattle.geometry.proofs.along_end.Tie as tie

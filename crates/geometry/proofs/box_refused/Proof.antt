@@ -1,5 +1,5 @@
 -- `box_refused` meets its contract.
-use mathlib.Core.Path.{_≡_, sym, _∙_}
+use mathlib.Core.Path.{sym, _∙_}
 use borrow.Author.Needs.{needs}
 use Rattle.lists.proofs.Tests.{or-fifth}
 use Rattle.geometry.specs.Bounds.{boxRefused}

@@ -1,5 +1,5 @@
 -- `cell_refused` meets its contract.
-use mathlib.Core.Path.{_≡_, sym, ap, ap₂, _∙_}
+use mathlib.Core.Path.{sym, _∙_}
 use borrow.Author.Needs.{needs}
 use Rattle.geometry.specs.Bounds.{cellRefused}
 use Rattle.geometry.proofs.cell_refused.Statement.{statement}

@@ -1,5 +1,5 @@
 -- `point_refused` meets its contract.
-use mathlib.Core.Path.{_≡_, sym, ap, ap₂, _∙_}
+use mathlib.Core.Path.{sym, _∙_}
 use borrow.Author.Needs.{needs}
 use Rattle.geometry.specs.Bounds.{pointRefused}
 use Rattle.geometry.proofs.point_refused.Statement.{statement}

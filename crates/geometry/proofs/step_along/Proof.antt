@@ -1,7 +1,7 @@
 -- `step_along` meets its contract.
-use mathlib.Core.Path.{sym, ap, _∙_}
+use mathlib.Core.Path.{ap, _∙_}
 use borrow.Author.Needs.{needs}
-use lib.Ieee.{Float, binary64, sub, div}
+use lib.Ieee.{binary64, div}
 use Rattle.geometry.specs.Axis.{stepAlong}
 use Rattle.geometry.proofs.step_along.Statement.{statement}
 use Rattle.geometry.proofs.step_along.Tie as tie

@@ -3,7 +3,6 @@ use mathlib.Core.Path.{refl, sym, _∙_}
 use borrow.Author.Needs.{needs}
 use Rattle.geometry.specs.Causes.{firstOf}
 use Rattle.dense_field.specs.Outcomes.{outcomeOf}
-use Rattle.dense_field.specs.Threshold.{cut}
 use Rattle.dense_field.proofs.cutting.threshold.Statement.{statement}
 use Rattle.dense_field.proofs.cutting.threshold.Tie as tie
 

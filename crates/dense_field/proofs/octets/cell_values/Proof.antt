@@ -4,8 +4,7 @@ use borrow.Author.Needs.{needs}
 use borrow.Author.Tests.{eq-eqb, ne-eqb}
 use lib.Dec.{eqb}
 use Rattle.dense_field.specs.Cells.{cellValuesOf, noValues}
-use Rattle.dense_field.specs.Lent.{Lent}
-use Rattle.dense_field.proofs.OctetLaws.{Inside, Found, found}
+use Rattle.dense_field.proofs.OctetLaws.{found}
 use Rattle.dense_field.proofs.octets.cell_values.Statement.{statement}
 use Rattle.dense_field.proofs.octets.cell_values.Tie as tie
 

@@ -3,9 +3,8 @@ use mathlib.Core.Path.{_≡_, refl, sym, ap, _∙_}
 use borrow.Author.Needs.{needs}
 use mathlib.Core.Logic.{_⊎_, ⊎-elim}
 use Rattle.dense_field.specs.Cells.{octetWalkOf, stepValues, noValues}
-use Rattle.dense_field.specs.Lent.{Lent}
 use Rattle.dense_field.specs.Octets.{octetOf}
-use Rattle.dense_field.proofs.OctetLaws.{Inside, Found, stepped}
+use Rattle.dense_field.proofs.OctetLaws.{stepped}
 use mathlib.Core.List.{List}
 use native.Mathlib.Omega.{arith}
 use lib.Ieee.{Float}

@@ -5,8 +5,8 @@ use borrow.Author.Needs.{needs}
 use borrow.Author.Tests.{lt-ltb, le-ltb, eq-eqb, ne-eqb}
 use mathlib.Core.Bool.{or-true}
 use Prim.Native.Nat.{_-_, _≤_, _<_}
-use Rattle.dense_field.specs.Lent.{Lent}
-use Rattle.dense_field.specs.Walks.{octetStep, nextIn}
+use Rattle.geometry.specs.Index.{nextIndices}
+use Rattle.dense_field.specs.Walks.{octetStep}
 use Rattle.dense_field.specs.declared.OctetStep.the-variants.{Cell}
 use Rattle.dense_field.proofs.Lending.{lent}
 use Rattle.dense_field.proofs.octets.walk_step.Statement.{statement}
@@ -81,8 +81,8 @@ returns-6 c =
     let t : a .n .j - 1 ≤ a .c .j = omega (arith, ap (λ v. v .j) e) in
     simp (sym (c .before .before .before .before .before .before .before .before .before .before .before .before .before .before .before .before .before .before .values-refused .ensures) ∙ c .before .before .before .before .before .before .before .before .before .before .before .before .before .before .before .before .before .if1 .left, i, j, lt-ltb _ _ k, le-ltb _ _ t, or-true)
 
-next-cell-requires : tie.Need-next-cell-requires
-next-cell-requires c κs = search needs
+next-indices-requires : tie.Need-next-indices-requires
+next-indices-requires c κs = search needs
 
 returns-7 : tie.Need-returns-7
 unfolding octetStep
@@ -95,7 +95,7 @@ returns-7 c =
     let ci : a .c .i < a .n .i - 1 = omega (arith, ap (λ v. v .i) e) in
     let cj : a .c .j < a .n .j - 1 = omega (arith, ap (λ v. v .j) e) in
     simp (sym (c .before .before .before .before .before .before .before .before .before .before .before .before .before .before .before .before .before .before .before .values-refused .ensures) ∙ c .before .before .before .before .before .before .before .before .before .before .before .before .before .before .before .before .before .before .if1 .left, i, j, lt-ltb _ _ k, lt-ltb _ _ ci, lt-ltb _ _ cj)
-    (ap Cell (c .next-cell .ensures ∙ ap (λ v. nextIn v (a .c)) e))
+    (ap Cell (c .next-indices .ensures ∙ ap (λ v. nextIndices (a .c) (v .i) (v .j)) e))
 
 pub walk-step-spec : {M : Type 1} → statement M
 walk-step-spec =
@@ -112,5 +112,5 @@ walk-step-spec =
     returns-4
     returns-5
     returns-6
-    next-cell-requires
+    next-indices-requires
     returns-7)

@@ -1,41 +1,45 @@
 -- `pad::pad_row` meets its contract: an outer row is set whole, and an inner one at its two ends.
 use native.Mathlib.Omega.{arith}
 use borrow.Author.Needs.{needs}
-use lib.ListN.{length-set}
-use Rattle.dense_field.specs.Lent.{Lent}
+use lib.ListN.{length, length-set}
+use Rattle.dense_field.proofs.Lending.{Within, within}
 use Rattle.dense_field.proofs.Edges.{edge-first, edge-last, outer-row}
-use Rattle.dense_field.proofs.PadLaws.{Within, within, outer-stretch, inner-row}
+use Rattle.dense_field.proofs.PadLaws.{outer-stretch, inner-row}
 use Rattle.dense_field.proofs.pad.pad_row.Statement.{statement}
 use Rattle.dense_field.proofs.pad.pad_row.Tie as tie
+
+-- the row and the slab stand in the field
+within-of : (s : tie.Start) → Within (s .args .n) (s .args .j) (s .args .k) (length (s .args .values .now))
+within-of s = within (s .pre .0) (s .args .j) (s .args .k) (omega arith) (omega arith)
 
 mul-at : tie.Need-mul-at
 mul-at c =
     let s = c .before .before in
-    let w = within (s .pre .0) (s .args .j) (s .args .k) (omega arith) (omega arith) in
+    let w = within-of s in
     omega arith
 
 mul-at-2 : tie.Need-mul-at-2
 mul-at-2 c =
     let s = c .before .before in
-    let w = within (s .pre .0) (s .args .j) (s .args .k) (omega arith) (omega arith) in
+    let w = within-of s in
     omega arith
 
 mul-at-3 : tie.Need-mul-at-3
 mul-at-3 c =
     let s = c .before .before in
-    let w = within (s .pre .0) (s .args .j) (s .args .k) (omega arith) (omega arith) in
+    let w = within-of s in
     omega arith
 
 add-at : tie.Need-add-at
 add-at c =
     let s = c .before .before in
-    let w = within (s .pre .0) (s .args .j) (s .args .k) (omega arith) (omega arith) in
+    let w = within-of s in
     omega arith
 
 fill-requires : tie.Need-fill-requires
 fill-requires c κs =
     let s = c .before .before .before .before in
-    let w = within (s .pre .0) (s .args .j) (s .args .k) (omega arith) (omega arith) in
+    let w = within-of s in
     omega arith
 
 same-length : tie.Need-same-length
@@ -52,7 +56,7 @@ add-if2 c = search needs
 fill-requires-2 : tie.Need-fill-requires-2
 fill-requires-2 c κs =
     let s = c .before .before .before .before .before .before in
-    let w = within (s .pre .0) (s .args .j) (s .args .k) (omega arith) (omega arith) in
+    let w = within-of s in
     omega arith
 
 same-length-2 : tie.Need-same-length-2
@@ -66,37 +70,37 @@ returns-2 c =
 mul-values : tie.Need-mul-values
 mul-values c =
     let s = c .before .before .before .before .before in
-    let w = within (s .pre .0) (s .args .j) (s .args .k) (omega arith) (omega arith) in
+    let w = within-of s in
     omega arith
 
 slice-write-values : tie.Need-slice-write-values
 slice-write-values c =
     let s = c .before .before .before .before .before in
-    let w = within (s .pre .0) (s .args .j) (s .args .k) (omega arith) (omega arith) in
+    let w = within-of s in
     omega arith
 
 sub-values : tie.Need-sub-values
 sub-values c =
     let s = c .before .before .before .before .before in
-    let w = within (s .pre .0) (s .args .j) (s .args .k) (omega arith) (omega arith) in
+    let w = within-of s in
     omega arith
 
 add-values : tie.Need-add-values
 add-values c =
     let s = c .before .before .before .before .before in
-    let w = within (s .pre .0) (s .args .j) (s .args .k) (omega arith) (omega arith) in
+    let w = within-of s in
     omega arith
 
 mul-values-2 : tie.Need-mul-values-2
 mul-values-2 c =
     let s = c .before .before .before .before .before in
-    let w = within (s .pre .0) (s .args .j) (s .args .k) (omega arith) (omega arith) in
+    let w = within-of s in
     omega arith
 
 slice-write-values-2 : tie.Need-slice-write-values-2
 slice-write-values-2 c =
     let s = c .before .before .before .before .before in
-    let w = within (s .pre .0) (s .args .j) (s .args .k) (omega arith) (omega arith) in
+    let w = within-of s in
     simp length-set (omega arith)
 
 same-length-3 : tie.Need-same-length-3
@@ -105,7 +109,7 @@ same-length-3 c = simp length-set
 returns-3 : tie.Need-returns-3
 returns-3 c =
     let s = c .before .before .before .before .before in
-    let w = within (s .pre .0) (s .args .j) (s .args .k) (omega arith) (omega arith) in
+    let w = within-of s in
     let a = c .before .before .before .before .before .args in
     inner-row (a .n) (a .value) (a .values .now) (a .j) (a .k) (omega arith) (omega arith) (omega arith) (omega arith) (omega arith) (omega arith)
 

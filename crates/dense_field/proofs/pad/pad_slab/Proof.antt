@@ -7,10 +7,10 @@ use native.Mathlib.Nat.{mul-comm}
 use lib.ListN.{length}
 use Rattle.lists.specs.Filled.{filled}
 use Rattle.lists.proofs.Filling.{filled-none, filled-length, filled-done}
-use Rattle.dense_field.specs.Lent.{Lent}
 use Rattle.dense_field.specs.Padding.{paddedAt}
+use Rattle.dense_field.proofs.Lending.{as-long, Within, within}
 use Rattle.dense_field.proofs.Edges.{edge-first, edge-last, outer-slab}
-use Rattle.dense_field.proofs.PadLaws.{Within, within, outer-stretch, pad-more}
+use Rattle.dense_field.proofs.PadLaws.{outer-stretch, pad-more}
 use Rattle.dense_field.proofs.pad.pad_slab.Statement.{statement}
 use Rattle.dense_field.proofs.pad.pad_slab.Tie as tie
 
@@ -20,22 +20,26 @@ Inv-loop n value values₀ k slab j₀ values j = (j ≤ n .j) × (length values
 abbrev μ-loop : tie.MeasureT-loop
 μ-loop n value values₀ k slab j₀ values j = n .j - j
 
+-- the slab stands in the field
+within-of : (s : tie.Start Inv-loop μ-loop) → Within (s .args .n) 0 (s .args .k) (length (s .args .values .now))
+within-of s = within (s .pre .0) 0 (s .args .k) (s .pre .0 .y-above) (omega arith)
+
 mul-slab : tie.Need-mul-slab Inv-loop μ-loop
 mul-slab c =
     let s = c .before .before in
-    let w = within (s .pre .0) 0 (s .args .k) (s .pre .0 .y-above) (omega arith) in
+    let w = within-of s in
     omega arith
 
 mul-fill : tie.Need-mul-fill Inv-loop μ-loop
 mul-fill c =
     let s = c .before .before .before .before in
-    let w = within (s .pre .0) 0 (s .args .k) (s .pre .0 .y-above) (omega arith) in
+    let w = within-of s in
     omega arith
 
 fill-requires : tie.Need-fill-requires Inv-loop μ-loop
 fill-requires c κs =
     let s = c .before .before .before .before in
-    let w = within (s .pre .0) 0 (s .args .k) (s .pre .0 .y-above) (omega arith) in
+    let w = within-of s in
     omega arith
 
 same-length : tie.Need-same-length Inv-loop μ-loop
@@ -52,13 +56,13 @@ add-if2 c = search needs
 mul-fill-2 : tie.Need-mul-fill-2 Inv-loop μ-loop
 mul-fill-2 c =
     let s = c .before .before .before .before .before .before in
-    let w = within (s .pre .0) 0 (s .args .k) (s .pre .0 .y-above) (omega arith) in
+    let w = within-of s in
     omega arith
 
 fill-requires-2 : tie.Need-fill-requires-2 Inv-loop μ-loop
 fill-requires-2 c κs =
     let s = c .before .before .before .before .before .before in
-    let w = within (s .pre .0) 0 (s .args .k) (s .pre .0 .y-above) (omega arith) in
+    let w = within-of s in
     omega arith
 
 same-length-2 : tie.Need-same-length-2 Inv-loop μ-loop
@@ -80,9 +84,8 @@ loop-holds c =
 pad-row-requires : tie.Need-pad-row-requires Inv-loop μ-loop
 pad-row-requires c κs =
     let p = c .before .before .before .before .before .before .before .before .before .pre .0 in
-    let l : length (c .before .before .before .loop .values) ≡ length (c .before .before .before .before .before .before .before .before .before .args .values .now) = c .before .before .before .loop .inv .1 in
-    let long = l ∙ p .long in
-    (record { x-above = p .x-above; y-above = p .y-above; z-above = p .z-above; few = p .few; long = long }, (omega arith, omega arith, omega arith))
+    let long : length (c .before .before .before .loop .values) ≡ length (c .before .before .before .before .before .before .before .before .before .args .values .now) = c .before .before .before .loop .inv .1 in
+    (as-long p long, (omega arith, omega arith, omega arith))
 
 add-j : tie.Need-add-j Inv-loop μ-loop
 add-j c = search needs

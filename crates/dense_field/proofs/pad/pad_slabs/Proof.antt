@@ -7,8 +7,8 @@ use native.Mathlib.Nat.{mul-comm}
 use lib.ListN.{length}
 use Rattle.lists.specs.Filled.{filled}
 use Rattle.lists.proofs.Filling.{filled-none, filled-length, filled-done}
-use Rattle.dense_field.specs.Lent.{Lent}
 use Rattle.dense_field.specs.Padding.{paddedAt}
+use Rattle.dense_field.proofs.Lending.{as-long}
 use Rattle.dense_field.proofs.PadLaws.{pad-more, pad-all}
 use Rattle.dense_field.proofs.pad.pad_slabs.Statement.{statement}
 use Rattle.dense_field.proofs.pad.pad_slabs.Tie as tie
@@ -29,8 +29,8 @@ loop-holds c =
 pad-slab-requires : tie.Need-pad-slab-requires Inv-loop μ-loop
 pad-slab-requires c κs =
     let p = c .before .before .before .before .before .pre in
-    let long = c .before .before .before .loop .inv .1 ∙ p .long in
-    (record { x-above = p .x-above; y-above = p .y-above; z-above = p .z-above; few = p .few; long = long }, omega arith)
+    let long = c .before .before .before .loop .inv .1 in
+    (as-long p long, omega arith)
 
 add-k : tie.Need-add-k Inv-loop μ-loop
 add-k c = search needs

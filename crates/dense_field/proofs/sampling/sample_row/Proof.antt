@@ -6,18 +6,17 @@ use Prim.Native.Nat.{min, _+_, _*_, _≤_, _-_}
 use lib.ListN.{length}
 use Rattle.lists.specs.Filled.{filled}
 use Rattle.lists.proofs.Filling.{filled-none, filled-length, filled-more, filled-done}
-use Rattle.model.specs.Flat.{flat}
-use Rattle.dense_field.specs.Lent.{Lent}
+use Rattle.model.specs.Flat.{flatOf}
 use Rattle.dense_field.specs.Runs.{flatAt}
-use Rattle.dense_field.proofs.PadLaws.{Within, within}
+use Rattle.dense_field.proofs.Lending.{as-long, within}
 use Rattle.dense_field.proofs.sampling.sample_row.Statement.{statement}
 use Rattle.dense_field.proofs.sampling.sample_row.Tie as tie
 
 abbrev Inv-loop : tie.InvT-loop
-Inv-loop codes firsts seconds xs ys zs ws count origin cell n j k scratch₀ values₀ row i₀ scratch values i = (i ≤ n .i) × (length values ≡ length values₀) × (values ≡ filled (k * (n .i * n .j) + j * n .i) i (flatAt (flat codes firsts seconds xs ys zs ws) (min count 64) origin cell n) values₀)
+Inv-loop words numbers count origin cell n j k scratch₀ values₀ row i₀ scratch values i = (i ≤ n .i) × (length values ≡ length values₀) × (values ≡ filled (k * (n .i * n .j) + j * n .i) i (flatAt (flatOf words numbers) (min count 64) origin cell n) values₀)
 
 abbrev μ-loop : tie.MeasureT-loop
-μ-loop codes firsts seconds xs ys zs ws count origin cell n j k scratch₀ values₀ row i₀ scratch values i = n .i - i
+μ-loop words numbers count origin cell n j k scratch₀ values₀ row i₀ scratch values i = n .i - i
 
 loop-holds : tie.Need-loop-holds Inv-loop μ-loop
 loop-holds c = (search needs, search needs, sym (filled-none _ _ _))
@@ -35,8 +34,8 @@ sample-run-requires : tie.Need-sample-run-requires Inv-loop μ-loop
 sample-run-requires c κs =
     let p = c .before .before .before .before .before .before .before .pre .0 in
     let e = c .before .before .new .ensures in
-    let long = c .before .before .before .before .before .loop .inv .1 ∙ p .long in (
-      record { x-above = p .x-above; y-above = p .y-above; z-above = p .z-above; few = p .few; long = long },
+    let long = c .before .before .before .before .before .loop .inv .1 in (
+      as-long p long,
       (omega (arith, ap (λ v. v .i) e), omega (arith, ap (λ v. v .j) e), omega (arith, ap (λ v. v .k) e), omega arith),
     )
 
@@ -44,7 +43,7 @@ add-i : tie.Need-add-i Inv-loop μ-loop
 add-i c =
     let s = c .before .before .before .before .before .before .before .before .before .before in
     let w = within (s .pre .0) (s .args .j) (s .args .k) (s .pre .1 .0) (s .pre .1 .1) in
-    omega (arith, w .area, w .row, w .slab, s .pre .0 .few)
+    omega arith
 
 loop-less : tie.Need-loop-less Inv-loop μ-loop
 loop-less c = search needs
@@ -53,7 +52,7 @@ loop-again : tie.Need-loop-again Inv-loop μ-loop
 loop-again c =
     let a = c .before .before .before .before .before .before .before .before .before .before .args in
     let s = c .before .before .before .before .before .before .before .before .loop in
-    let g = flatAt (flat (a .codes .now) (a .firsts .now) (a .seconds .now) (a .xs .now) (a .ys .now) (a .zs .now) (a .ws .now)) (min (a .count) 64) (a .origin) (a .cell) (a .n) in
+    let g = flatAt (flatOf (a .words .now) (a .numbers .now)) (min (a .count) 64) (a .origin) (a .cell) (a .n) in
     let from = a .k * (a .n .i * a .n .j) + a .j * a .n .i in
     let len = c .before .before .before .before .before .before .run-length .result in
     let e = c .before .before .before .before .before .new .ensures in

@@ -5,11 +5,14 @@ use borrow.Author.Needs.{needs}
 use lib.ListN.{length, replicate, length-replicate}
 use Rattle.lists.specs.Filled.{filled}
 use Rattle.float.specs.Zero.{plusZero}
-use Rattle.dense_field.specs.Lent.{Lent}
-use Rattle.dense_field.proofs.PadLaws.{Within, within}
+use Rattle.dense_field.proofs.Lending.{Within, within}
 use Rattle.dense_field.proofs.RunLaws.{run-filled, row-length}
 use Rattle.dense_field.proofs.sampling.sample_run.Statement.{statement}
 use Rattle.dense_field.proofs.sampling.sample_run.Tie as tie
+
+-- the row and the slab stand in the field
+within-of : (s : tie.Start) → Within (s .args .n) (s .args .first .j) (s .args .first .k) (length (s .args .values .now))
+within-of s = within (s .pre .0) (s .args .first .j) (s .args .first .k) (s .pre .1 .1) (s .pre .1 .2)
 
 slice-aggregate-fill-along : tie.Need-slice-aggregate-fill-along
 slice-aggregate-fill-along c = search needs
@@ -17,8 +20,8 @@ slice-aggregate-fill-along c = search needs
 fill-along-requires : tie.Need-fill-along-requires
 fill-along-requires c κs =
     let s = c .before .before in
-    let w = within (s .pre .0) (s .args .first .j) (s .args .first .k) (s .pre .1 .1) (s .pre .1 .2) in
-    (omega (arith, s .pre .1 .3), omega (arith, w .area, w .row, w .slab, s .pre .0 .few, s .pre .1 .0))
+    let w = within-of s in
+    (omega (arith, s .pre .1 .3), omega (arith, s .pre .1 .0))
 
 axis-point-requires : tie.Need-axis-point-requires
 axis-point-requires c κs = search needs
@@ -44,32 +47,32 @@ evaluate-row-into-requires c κs = search needs
 mul-at : tie.Need-mul-at
 mul-at c =
     let s = c .before .before .before .before .before .before .before .before .before .before .before .before .before .before .before .before .before .before .before in
-    let w = within (s .pre .0) (s .args .first .j) (s .args .first .k) (s .pre .1 .1) (s .pre .1 .2) in
-    omega (arith, w .area, w .row, w .slab, s .pre .0 .few, s .pre .0 .long, s .pre .1 .0)
+    let w = within-of s in
+    omega (arith, s .pre .1 .0)
 
 mul-at-2 : tie.Need-mul-at-2
 mul-at-2 c =
     let s = c .before .before .before .before .before .before .before .before .before .before .before .before .before .before .before .before .before .before .before .before in
-    let w = within (s .pre .0) (s .args .first .j) (s .args .first .k) (s .pre .1 .1) (s .pre .1 .2) in
-    omega (arith, w .area, w .row, w .slab, s .pre .0 .few, s .pre .0 .long, s .pre .1 .0)
+    let w = within-of s in
+    omega (arith, s .pre .1 .0)
 
 mul-at-3 : tie.Need-mul-at-3
 mul-at-3 c =
     let s = c .before .before .before .before .before .before .before .before .before .before .before .before .before .before .before .before .before .before .before .before .before .before in
-    let w = within (s .pre .0) (s .args .first .j) (s .args .first .k) (s .pre .1 .1) (s .pre .1 .2) in
-    omega (arith, w .area, w .row, w .slab, s .pre .0 .few, s .pre .0 .long, s .pre .1 .0)
+    let w = within-of s in
+    omega (arith, s .pre .1 .0)
 
 add-at : tie.Need-add-at
 add-at c =
     let s = c .before .before .before .before .before .before .before .before .before .before .before .before .before .before .before .before .before .before .before .before .before .before in
-    let w = within (s .pre .0) (s .args .first .j) (s .args .first .k) (s .pre .1 .1) (s .pre .1 .2) in
-    omega (arith, w .area, w .row, w .slab, s .pre .0 .few, s .pre .0 .long, s .pre .1 .0)
+    let w = within-of s in
+    omega (arith, s .pre .1 .0)
 
 add-at-2 : tie.Need-add-at-2
 add-at-2 c =
     let s = c .before .before .before .before .before .before .before .before .before .before .before .before .before .before .before .before .before .before .before .before .before .before .before in
-    let w = within (s .pre .0) (s .args .first .j) (s .args .first .k) (s .pre .1 .1) (s .pre .1 .2) in
-    omega (arith, w .area, w .row, w .slab, s .pre .0 .few, s .pre .0 .long, s .pre .1 .0)
+    let w = within-of s in
+    omega (arith, s .pre .1 .0)
 
 slice-aggregate-copy-run : tie.Need-slice-aggregate-copy-run
 slice-aggregate-copy-run c =
@@ -78,9 +81,9 @@ slice-aggregate-copy-run c =
 copy-run-requires : tie.Need-copy-run-requires
 copy-run-requires c κs =
     let s = c .before .before .before .before .before .before .before .before .before .before .before .before .before .before .before .before .before .before .before .before .before .before .before .before .before in
-    let w = within (s .pre .0) (s .args .first .j) (s .args .first .k) (s .pre .1 .1) (s .pre .1 .2) in
+    let w = within-of s in
     let long = ap length (c .before .before .before .before .before .before .before .evaluate-row-into .ensures .1) ∙ row-length _ _ _ _ _ _ _ (length-replicate 64 plusZero) in
-    (omega (arith, long, s .pre .1 .3), omega (arith, w .area, w .row, w .slab, s .pre .0 .few, s .pre .0 .long, s .pre .1 .0))
+    (omega (arith, long, s .pre .1 .3), omega (arith, s .pre .1 .0))
 
 same-length : tie.Need-same-length
 same-length c = search needs
@@ -92,7 +95,7 @@ returns c =
     let x = c .before .before .before .before .before .before .before .before .before .before .before .before .before .before .before .before .before .before .before .before .before .before .before .before .before .fill-along .ensures in
     let y = c .before .before .before .before .before .before .before .before .before .before .before .before .before .before .before .before .before .before .before .before .before .fill .ensures ∙ ap (λ v. filled 0 (a .len) (λ t. v) (replicate 64 plusZero)) (c .before .before .before .before .before .before .before .before .before .before .before .before .before .before .before .before .before .before .before .before .before .before .before .axis-point .ensures) in
     let z = c .before .before .before .before .before .before .before .before .before .before .before .before .before .before .before .before .before .fill2 .ensures ∙ ap (λ v. filled 0 (a .len) (λ t. v) (replicate 64 plusZero)) (c .before .before .before .before .before .before .before .before .before .before .before .before .before .before .before .before .before .before .before .axis-point2 .ensures) in
-    run-filled _ _ (a .origin) (a .cell) (a .n) (a .first) (a .len) (s .pre .1 .1) (s .pre .1 .0) (s .pre .1 .3) _ (a .values .now) x y z (c .before .before .before .before .before .before .before .before .before .before .evaluate-row-into .ensures .1) (c .before .before .copy-run .ensures)
+    run-filled _ _ (a .origin) (a .cell) (a .n) (a .first) (a .len) (s .pre .1 .1) (s .pre .1 .0) (s .pre .1 .3) _ (a .values .now) (length-replicate 64 plusZero) x y z (c .before .before .before .before .before .before .before .before .before .before .evaluate-row-into .ensures .1) (c .before .before .copy-run .ensures)
 
 pub sample-run-spec : {M : Type 1} → statement M
 sample-run-spec =

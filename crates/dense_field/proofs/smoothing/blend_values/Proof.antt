@@ -1,6 +1,6 @@
 -- `smoothing::blend_values` meets its contract: at each turn the first i values are blended.
-use mathlib.Core.Path.{_≡_, refl, sym, ap, _∙_}
-use Prim.Native.Nat.{ℕ, _+_, _-_, _≤_}
+use mathlib.Core.Path.{_≡_, sym, ap, _∙_}
+use Prim.Native.Nat.{_+_, _-_, _≤_}
 use native.Mathlib.Omega.{arith}
 use borrow.Author.Needs.{needs}
 use lib.Ieee.{Float, binary64, sub}
@@ -8,7 +8,7 @@ use lib.ListN.{length}
 use Rattle.lists.specs.Filled.{filled}
 use Rattle.lists.proofs.Filling.{filled-none, filled-store, filled-done}
 use Rattle.geometry.specs.Axis.{asFloat}
-use Rattle.dense_field.specs.Slices.{blendedAt}
+use Rattle.dense_field.specs.Smoothing.{blendedAt}
 use Rattle.dense_field.proofs.SmoothingLaws.{one-as-float, blended-read}
 use Rattle.dense_field.proofs.smoothing.blend_values.Statement.{statement}
 use Rattle.dense_field.proofs.smoothing.blend_values.Tie as tie

@@ -1,6 +1,6 @@
 -- `smoothing::copy_values` meets its contract: at each turn the first i values are copied.
 use mathlib.Core.Path.{_≡_, sym}
-use Prim.Native.Nat.{ℕ, _+_, _-_, _≤_}
+use Prim.Native.Nat.{_+_, _-_, _≤_}
 use native.Mathlib.Omega.{arith}
 use borrow.Author.Needs.{needs}
 use lib.Ieee.{nan}
@@ -9,7 +9,7 @@ use Rattle.lists.proofs.Lists.{getD-any}
 use Rattle.lists.specs.Filled.{filled}
 use Rattle.lists.proofs.Filling.{filled-none, filled-store, filled-done}
 use Rattle.float.specs.Zero.{plusZero}
-use Rattle.dense_field.specs.Slices.{valueOf}
+use Rattle.dense_field.specs.Smoothing.{valueOf}
 use Rattle.dense_field.proofs.smoothing.copy_values.Statement.{statement}
 use Rattle.dense_field.proofs.smoothing.copy_values.Tie as tie
 

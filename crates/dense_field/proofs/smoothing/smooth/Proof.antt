@@ -1,12 +1,11 @@
 -- `smoothing::smooth` meets its contract: a refusal changes nothing, and else the rounds go through the first part of the scratch, which is then cleared whole.
-use mathlib.Core.Path.{_≡_, refl, sym, ap, _∙_}
+use mathlib.Core.Path.{_≡_, sym, ap, _∙_}
 use Prim.Native.Nat.{ℕ}
-use native.Mathlib.Omega.{arith}
 use borrow.Author.Needs.{needs}
 use lib.ListN.{length, take, replicate}
 use lib.Seq.{length-take-le, length-front}
 use Rattle.float.specs.Zero.{plusZero}
-use Rattle.dense_field.proofs.SmoothingLaws.{scratch-long, smooth-slices}
+use Rattle.dense_field.proofs.SmoothingLaws.{scratch-long, values-lent}
 use Rattle.dense_field.proofs.smoothing.smooth.Statement.{statement}
 use Rattle.dense_field.proofs.smoothing.smooth.Tie as tie
 
@@ -32,7 +31,7 @@ smooth-rounds-requires : tie.Need-smooth-rounds-requires
 smooth-rounds-requires c κs =
     let w = c .before .before in
     let passed = sym (w .before .smooth-refused .ensures) ∙ w .if1 .left in
-    smooth-slices _ _ _ passed _ (length-take-le _ _ (scratch-long _ _ _ passed))
+    (values-lent _ _ _ passed, length-take-le _ _ (scratch-long _ _ _ passed))
 
 clear-requires : tie.Need-clear-requires
 clear-requires c κs = search needs

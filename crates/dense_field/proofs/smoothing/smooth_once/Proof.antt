@@ -1,12 +1,11 @@
 -- `smoothing::smooth_once` meets its contract: at each turn the first k slabs are smoothed.
 use mathlib.Core.Path.{_≡_, sym, ap, _∙_}
-use Prim.Native.Nat.{ℕ, _+_, _-_, _*_, _≤_, _<_}
+use Prim.Native.Nat.{ℕ, _+_, _-_, _*_, _≤_}
 use native.Mathlib.Omega.{arith}
 use borrow.Author.Needs.{needs}
 use lib.ListN.{length}
 use Rattle.lists.specs.Filled.{filled}
 use Rattle.lists.proofs.Filling.{filled-none, filled-length, filled-done, filled-more}
-use Rattle.dense_field.specs.Slices.{Slices}
 use Rattle.dense_field.specs.Smoothing.{smoothedAt}
 use Rattle.dense_field.proofs.SmoothingLaws.{all-slabs}
 use Rattle.dense_field.proofs.smoothing.smooth_once.Statement.{statement}
@@ -28,10 +27,7 @@ loop-holds c =
 smooth-slab-requires : tie.Need-smooth-slab-requires Inv-loop μ-loop
 smooth-slab-requires c κs =
     let p = c .before .before .before .before .before .before .pre in
-    let long = c .before .before .before .loop .inv .1 ∙ p .new-long in (
-      record { x-above = p .x-above; y-above = p .y-above; z-above = p .z-above; few = p .few; old-long = p .old-long; new-long = long },
-      omega arith,
-    )
+    ((p .0, c .before .before .before .loop .inv .1 ∙ p .1), omega arith)
 
 add-k : tie.Need-add-k Inv-loop μ-loop
 add-k c = search needs

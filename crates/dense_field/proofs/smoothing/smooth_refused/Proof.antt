@@ -1,5 +1,5 @@
 -- `smoothing::smooth_refused` meets its contract: each test is its part of cause 9, and the product is taken once it is known to be small.
-use mathlib.Core.Path.{_≡_, sym, _∙_}
+use mathlib.Core.Path.{sym, _∙_}
 use native.Mathlib.Omega.{arith}
 use borrow.Author.Needs.{needs}
 use borrow.Author.Tests.{eq-eqb, ne-eqb}

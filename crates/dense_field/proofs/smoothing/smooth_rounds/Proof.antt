@@ -1,14 +1,14 @@
 -- `smoothing::smooth_rounds` meets its contract: at each turn the rounds that are left, on the values so far, give the result.
 use mathlib.Core.Path.{_≡_, refl, sym, ap, _∙_}
-use Prim.Native.Nat.{ℕ, _+_, _-_, _*_, _≤_, _<_}
+use Prim.Native.Nat.{_-_, _≤_}
 use native.Mathlib.Omega.{arith}
 use borrow.Author.Needs.{needs}
 use lib.ListN.{length}
 use Rattle.lists.proofs.Filling.{filled-copy}
 use Rattle.float.specs.Zero.{plusZero}
-use Rattle.dense_field.specs.Slices.{Slices}
 use Rattle.dense_field.specs.Smoothing.{smoothed}
-use Rattle.dense_field.proofs.SmoothingLaws.{once-length, no-rounds, rounds-done, round-more, other-slices}
+use Rattle.dense_field.proofs.Lending.{as-long}
+use Rattle.dense_field.proofs.SmoothingLaws.{once-length, no-rounds, rounds-done, round-more}
 use Rattle.dense_field.proofs.smoothing.smooth_rounds.Statement.{statement}
 use Rattle.dense_field.proofs.smoothing.smooth_rounds.Tie as tie
 
@@ -26,13 +26,14 @@ smooth-once-requires : tie.Need-smooth-once-requires Inv-loop μ-loop
 smooth-once-requires c κs =
     let p = c .before .before .before .before .before .before .pre in
     let b = c .before .before .before in
-    other-slices _ _ p (b .loop .inv .1 ∙ p .old-long) (b .loop .inv .2 ∙ p .new-long)
+    (as-long (p .0) (b .loop .inv .1), b .loop .inv .2 ∙ p .1 ∙ sym (b .loop .inv .1))
 
 smooth-once-requires-2 : tie.Need-smooth-once-requires-2 Inv-loop μ-loop
 smooth-once-requires-2 c κs =
     let p = c .before .before .before .before .before .before .before .before .before .before .before .pre in
     let b = c .before .before .before .before .before .before .before .before in
-    other-slices _ _ p (ap length (c .before .before .before .before .smooth-once .ensures) ∙ once-length _ _ _) (b .loop .inv .1 ∙ p .old-long)
+    let long = ap length (c .before .before .before .before .smooth-once .ensures) ∙ once-length _ _ _ ∙ sym (p .0 .long) in
+    (as-long (p .0) long, b .loop .inv .1 ∙ sym long)
 
 sub-left : tie.Need-sub-left Inv-loop μ-loop
 sub-left c = search needs
@@ -49,8 +50,8 @@ loop-again c =
     let second = c .before .before .smooth-once2 .ensures in
     let so-far = round-more (a .n) (a .factor) (a .values .now) (b .loop .inv .3) first refl in (
       search needs,
-      ap length second ∙ once-length _ _ _ ∙ sym (s .pre .old-long),
-      ap length first ∙ once-length _ _ _ ∙ sym (s .pre .new-long),
+      ap length second ∙ once-length _ _ _ ∙ sym (s .pre .0 .long),
+      ap length first ∙ once-length _ _ _ ∙ sym (s .pre .1 ∙ s .pre .0 .long),
       round-more (a .n) (a .factor) (a .values .now) so-far second (omega arith),
     )
 
@@ -58,14 +59,14 @@ smooth-once-requires-3 : tie.Need-smooth-once-requires-3 Inv-loop μ-loop
 smooth-once-requires-3 c κs =
     let p = c .before .before .before .before .before .before .before .pre in
     let b = c .before .before .before .before in
-    other-slices _ _ p (b .loop .inv .1 ∙ p .old-long) (b .loop .inv .2 ∙ p .new-long)
+    (as-long (p .0) (b .loop .inv .1), b .loop .inv .2 ∙ p .1 ∙ sym (b .loop .inv .1))
 
 copy-values-requires : tie.Need-copy-values-requires Inv-loop μ-loop
 copy-values-requires c κs =
     let p = c .before .before .before .before .before .before .before .before .before .before .before .before .pre in
     let b = c .before .before .before .before .before .before .before .before .before in
     let long = ap length (c .before .before .before .before .smooth-once3 .ensures) ∙ once-length _ _ _ in
-    (omega arith, b .loop .inv .1 ∙ p .old-long ∙ sym long)
+    (omega arith, b .loop .inv .1 ∙ p .0 .long ∙ sym long)
 
 same-length : tie.Need-same-length Inv-loop μ-loop
 same-length c = search needs
@@ -79,7 +80,7 @@ returns c =
     let s = c .before .before .before .before .before .before .before .before .before .before .before .before .before .before .before in
     let a = s .args in
     let once = c .before .before .before .before .before .before .before .smooth-once3 .ensures in
-    let long = b .loop .inv .1 ∙ s .pre .old-long ∙ sym (ap length once ∙ once-length _ _ _) in
+    let long = b .loop .inv .1 ∙ s .pre .0 .long ∙ sym (ap length once ∙ once-length _ _ _) in
     c .before .before .copy-values .ensures
     ∙ filled-copy _ (b .loop .values) plusZero long
     ∙ round-more (a .n) (a .factor) (a .values .now) (b .loop .inv .3) once (omega arith)

@@ -1,56 +1,49 @@
 -- `smoothing::smooth_row` meets its contract: an outer row stays, and an inner one is its two ends and what is blended between them.
-use mathlib.Core.Path.{_≡_, ap, _∙_}
+use mathlib.Core.Path.{ap, _∙_}
 use Prim.Native.Nat.{_*_}
 use native.Mathlib.Nat.{mul-le-mul-right}
 use native.Mathlib.Omega.{arith}
 use lib.ListN.{length}
 use borrow.Author.Needs.{needs}
 use Rattle.lists.proofs.Filling.{filled-length}
-use Rattle.dense_field.specs.Slices.{Slices, Between}
-use Rattle.dense_field.proofs.SmoothingLaws.{RowIn, SlabIn, row-in, slab-in, first-edge, last-edge, thin-row, edge-row, inner-row}
+use Rattle.dense_field.proofs.Lending.{Within, within}
+use Rattle.dense_field.proofs.Edges.{edge-first, edge-last}
+use Rattle.dense_field.proofs.SmoothingLaws.{thin-row, edge-row, inner-row}
 use Rattle.dense_field.proofs.smoothing.smooth_row.Statement.{statement}
 use Rattle.dense_field.proofs.smoothing.smooth_row.Tie as tie
 
--- the slab and the row stand in the field
-slab-of : (s : tie.Start) → SlabIn (s .args .n) (s .args .k)
-slab-of s = slab-in (s .pre .0) (s .args .k) (omega arith)
-
-row-of : (s : tie.Start) → RowIn (s .args .n) (s .args .j)
-row-of s = row-in (s .pre .0) (s .args .j) (omega arith)
+-- the row and the slab stand in the field
+within-of : (s : tie.Start) → Within (s .args .n) (s .args .j) (s .args .k) (length (s .args .old .now))
+within-of s = within (s .pre .0 .0) (s .args .j) (s .args .k) (omega arith) (omega arith)
 
 mul-at : tie.Need-mul-at
 mul-at c =
     let s = c .before .before .before in
-    let slab = slab-of s in
-    let row = row-of s in
+    let w = within-of s in
     omega arith
 
 mul-at-2 : tie.Need-mul-at-2
 mul-at-2 c =
     let s = c .before .before .before in
-    let slab = slab-of s in
-    let row = row-of s in
+    let w = within-of s in
     omega arith
 
 mul-at-3 : tie.Need-mul-at-3
 mul-at-3 c =
     let s = c .before .before .before in
-    let slab = slab-of s in
-    let row = row-of s in
+    let w = within-of s in
     omega arith
 
 add-at : tie.Need-add-at
 add-at c =
     let s = c .before .before .before in
-    let slab = slab-of s in
-    let row = row-of s in
+    let w = within-of s in
     omega arith
 
 copy-values-requires : tie.Need-copy-values-requires
 copy-values-requires c κs =
     let s = c .before .before .before .before .before in
-    let slab = slab-of s in
-    let row = row-of s in
+    let w = within-of s in
     (omega arith, omega arith)
 
 same-length : tie.Need-same-length
@@ -64,8 +57,7 @@ returns c =
 copy-values-requires-2 : tie.Need-copy-values-requires-2
 copy-values-requires-2 c κs =
     let s = c .before .before .before .before .before .before in
-    let slab = slab-of s in
-    let row = row-of s in
+    let w = within-of s in
     (omega arith, omega arith)
 
 same-length-2 : tie.Need-same-length-2
@@ -74,7 +66,7 @@ same-length-2 c = search needs
 returns-2 : tie.Need-returns-2
 returns-2 c =
     let a = c .before .before .before .before .before .before .before .before .before .args in
-    edge-row (a .n) (a .factor) (a .old .now) (a .j) (a .k) (a .new .now) (omega arith) (first-edge _ _ (omega arith)) (c .before .before .copy-values2 .ensures)
+    edge-row (a .n) (a .factor) (a .old .now) (a .j) (a .k) (a .new .now) (omega arith) (edge-first _ _ (omega arith)) (c .before .before .copy-values2 .ensures)
 
 add-if3 : tie.Need-add-if3
 add-if3 c = search needs
@@ -82,8 +74,7 @@ add-if3 c = search needs
 copy-values-requires-3 : tie.Need-copy-values-requires-3
 copy-values-requires-3 c κs =
     let s = c .before .before .before .before .before .before .before .before in
-    let slab = slab-of s in
-    let row = row-of s in
+    let w = within-of s in
     (omega arith, omega arith)
 
 same-length-3 : tie.Need-same-length-3
@@ -92,20 +83,18 @@ same-length-3 c = search needs
 returns-3 : tie.Need-returns-3
 returns-3 c =
     let a = c .before .before .before .before .before .before .before .before .before .before .before .args in
-    edge-row (a .n) (a .factor) (a .old .now) (a .j) (a .k) (a .new .now) (omega arith) (last-edge _ _ (omega arith)) (c .before .before .copy-values3 .ensures)
+    edge-row (a .n) (a .factor) (a .old .now) (a .j) (a .k) (a .new .now) (omega arith) (edge-last _ _ (omega arith)) (c .before .before .copy-values3 .ensures)
 
 copy-values-requires-4 : tie.Need-copy-values-requires-4
 copy-values-requires-4 c κs =
     let s = c .before .before .before .before .before .before .before .before in
-    let slab = slab-of s in
-    let row = row-of s in
+    let w = within-of s in
     (omega arith, omega arith)
 
 add-blend-values : tie.Need-add-blend-values
 add-blend-values c =
     let s = c .before .before .before .before .before .before .before .before .before .before .before .before in
-    let slab = slab-of s in
-    let row = row-of s in
+    let w = within-of s in
     omega arith
 
 sub-blend-values : tie.Need-sub-blend-values
@@ -114,12 +103,11 @@ sub-blend-values c = search needs
 blend-values-requires : tie.Need-blend-values-requires
 blend-values-requires c κs =
     let s = c .before .before .before .before .before .before .before .before .before .before .before .before in
-    let slab = slab-of s in
-    let row = row-of s in
-    let e : length (s .args .new .now) ≡ length (s .args .old .now) = omega arith in
+    let w = within-of s in
+    let e = s .pre .0 .1 in
     record {
       x-above = omega arith;
-      rows = row .rows;
+      rows = w .rows;
       before = omega (arith, mul-le-mul-right (s .args .n .i * s .args .n .j) (s .pre .1 .1));
       behind = omega (arith, mul-le-mul-right (s .args .n .i * s .args .n .j) (s .pre .1 .2));
       same = ap length (c .before .before .before .copy-values4 .ensures) ∙ filled-length _ _ _ _ ∙ e;
@@ -128,8 +116,7 @@ blend-values-requires c κs =
 add-copy-values : tie.Need-add-copy-values
 add-copy-values c =
     let s = c .before .before .before .before .before .before .before .before .before .before .before .before .before .before .before .before in
-    let slab = slab-of s in
-    let row = row-of s in
+    let w = within-of s in
     omega arith
 
 sub-copy-values : tie.Need-sub-copy-values
@@ -138,16 +125,14 @@ sub-copy-values c = search needs
 add-copy-values-2 : tie.Need-add-copy-values-2
 add-copy-values-2 c =
     let s = c .before .before .before .before .before .before .before .before .before .before .before .before .before .before .before .before in
-    let slab = slab-of s in
-    let row = row-of s in
+    let w = within-of s in
     omega arith
 
 copy-values-requires-5 : tie.Need-copy-values-requires-5
 copy-values-requires-5 c κs =
     let s = c .before .before .before .before .before .before .before .before .before .before .before .before .before .before .before .before in
-    let slab = slab-of s in
-    let row = row-of s in
-    let e : length (s .args .new .now) ≡ length (s .args .old .now) = omega arith in
+    let w = within-of s in
+    let e = s .pre .0 .1 in
     let long =
     ap length (c .before .before .before .blend-values .ensures)
     ∙ filled-length _ _ _ _

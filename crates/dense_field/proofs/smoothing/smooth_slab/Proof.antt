@@ -1,15 +1,16 @@
 -- `smoothing::smooth_slab` meets its contract: the first and the last slab stay, and at each turn of the loop the first j rows are smoothed.
 use mathlib.Core.Path.{_≡_, sym, ap, _∙_}
-use Prim.Native.Nat.{ℕ, _+_, _-_, _*_, _≤_, _<_}
+use Prim.Native.Nat.{ℕ, _+_, _-_, _*_, _≤_}
 use native.Mathlib.Nat.{mul-comm}
 use native.Mathlib.Omega.{arith}
 use borrow.Author.Needs.{needs}
 use lib.ListN.{length}
 use Rattle.lists.specs.Filled.{filled}
 use Rattle.lists.proofs.Filling.{filled-none, filled-length, filled-done, filled-more}
-use Rattle.dense_field.specs.Slices.{Slices}
 use Rattle.dense_field.specs.Smoothing.{smoothedAt}
-use Rattle.dense_field.proofs.SmoothingLaws.{RowIn, SlabIn, row-in, slab-in, first-edge, last-edge, slab-stays}
+use Rattle.dense_field.proofs.Lending.{Within, within}
+use Rattle.dense_field.proofs.Edges.{edge-first, edge-last}
+use Rattle.dense_field.proofs.SmoothingLaws.{slab-stays}
 use Rattle.dense_field.proofs.smoothing.smooth_slab.Statement.{statement}
 use Rattle.dense_field.proofs.smoothing.smooth_slab.Tie as tie
 
@@ -20,22 +21,26 @@ Inv-loop n factor old new₀ k slab j₀ new j =
 abbrev μ-loop : tie.MeasureT-loop
 μ-loop n factor old new₀ k slab j₀ new j = n .j - j
 
+-- the slab stands in the field
+within-of : (s : tie.Start Inv-loop μ-loop) → Within (s .args .n) 0 (s .args .k) (length (s .args .old .now))
+within-of s = within (s .pre .0 .0) 0 (s .args .k) (s .pre .0 .0 .y-above) (omega arith)
+
 mul-slab : tie.Need-mul-slab Inv-loop μ-loop
 mul-slab c =
     let s = c .before .before .before in
-    let slab = slab-in (s .pre .0) (s .args .k) (omega arith) in
+    let w = within-of s in
     omega arith
 
 mul-copy-values : tie.Need-mul-copy-values Inv-loop μ-loop
 mul-copy-values c =
     let s = c .before .before .before .before .before in
-    let slab = slab-in (s .pre .0) (s .args .k) (omega arith) in
+    let w = within-of s in
     omega arith
 
 copy-values-requires : tie.Need-copy-values-requires Inv-loop μ-loop
 copy-values-requires c κs =
     let s = c .before .before .before .before .before in
-    let slab = slab-in (s .pre .0) (s .args .k) (omega arith) in
+    let w = within-of s in
     (omega arith, omega arith)
 
 same-length : tie.Need-same-length Inv-loop μ-loop
@@ -44,7 +49,7 @@ same-length c = search needs
 returns : tie.Need-returns Inv-loop μ-loop
 returns c =
     let a = c .before .before .before .before .before .before .before .before .args in
-    slab-stays (a .n) (a .factor) (a .old .now) (a .k) (a .new .now) (omega arith) (omega arith) (first-edge _ _ (omega arith)) (c .before .before .copy-values .ensures)
+    slab-stays (a .n) (a .factor) (a .old .now) (a .k) (a .new .now) (edge-first _ _ (omega arith)) (c .before .before .copy-values .ensures)
 
 add-if2 : tie.Need-add-if2 Inv-loop μ-loop
 add-if2 c = search needs
@@ -52,13 +57,13 @@ add-if2 c = search needs
 mul-copy-values-2 : tie.Need-mul-copy-values-2 Inv-loop μ-loop
 mul-copy-values-2 c =
     let s = c .before .before .before .before .before .before .before in
-    let slab = slab-in (s .pre .0) (s .args .k) (omega arith) in
+    let w = within-of s in
     omega arith
 
 copy-values-requires-2 : tie.Need-copy-values-requires-2 Inv-loop μ-loop
 copy-values-requires-2 c κs =
     let s = c .before .before .before .before .before .before .before in
-    let slab = slab-in (s .pre .0) (s .args .k) (omega arith) in
+    let w = within-of s in
     (omega arith, omega arith)
 
 same-length-2 : tie.Need-same-length-2 Inv-loop μ-loop
@@ -67,7 +72,7 @@ same-length-2 c = search needs
 returns-2 : tie.Need-returns-2 Inv-loop μ-loop
 returns-2 c =
     let a = c .before .before .before .before .before .before .before .before .before .before .args in
-    slab-stays (a .n) (a .factor) (a .old .now) (a .k) (a .new .now) (omega arith) (omega arith) (last-edge _ _ (omega arith)) (c .before .before .copy-values2 .ensures)
+    slab-stays (a .n) (a .factor) (a .old .now) (a .k) (a .new .now) (edge-last _ _ (omega arith)) (c .before .before .copy-values2 .ensures)
 
 loop-holds : tie.Need-loop-holds Inv-loop μ-loop
 loop-holds c =
@@ -79,10 +84,7 @@ smooth-row-requires : tie.Need-smooth-row-requires Inv-loop μ-loop
 smooth-row-requires c κs =
     let s = c .before .before .before .before .before .before .before .before .before .before in
     let p = s .pre .0 in
-    let long = c .before .before .before .loop .inv .1 ∙ p .new-long in (
-      record { x-above = p .x-above; y-above = p .y-above; z-above = p .z-above; few = p .few; old-long = p .old-long; new-long = long },
-      (omega arith, omega arith, omega arith),
-    )
+    ((p .0, c .before .before .before .loop .inv .1 ∙ p .1), (omega arith, omega arith, omega arith))
 
 add-j : tie.Need-add-j Inv-loop μ-loop
 add-j c = search needs

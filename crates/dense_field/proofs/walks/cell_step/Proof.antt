@@ -1,5 +1,5 @@
 -- `walks::cell_step` meets its contract: each test is the cause that it stands for.
-use mathlib.Core.Path.{_≡_, sym, ap₂, _∙_}
+use mathlib.Core.Path.{sym, ap₂, _∙_}
 use native.Mathlib.Omega.{arith}
 use borrow.Author.Needs.{needs}
 use borrow.Author.Tests.{lt-ltb, le-ltb}
@@ -7,7 +7,7 @@ use Rattle.geometry.specs.Causes.{firstOf}
 use Rattle.geometry.specs.Values.{box}
 use Rattle.dense_field.specs.Walks.{cellStep, walkCell}
 use Rattle.dense_field.specs.declared.CellStep.the-variants.{Cell}
-use Rattle.dense_field.proofs.WalkLaws.{Walk, walk-passed}
+use Rattle.dense_field.proofs.WalkLaws.{walk-passed}
 use Rattle.dense_field.proofs.walks.cell_step.Statement.{statement}
 use Rattle.dense_field.proofs.walks.cell_step.Tie as tie
 
@@ -38,10 +38,10 @@ cell-max-requires c κs = search needs
 new-requires : tie.Need-new-requires
 new-requires c κs = search needs
 
-next-in-requires : tie.Need-next-in-requires
-next-in-requires c κs =
+next-indices-requires : tie.Need-next-indices-requires
+next-indices-requires c κs =
     let walk = walk-passed _ _ _ (sym (c .before .before .before .before .before .before .before .walk-refused .ensures) ∙ c .before .before .before .before .before .before .if2 .left) in
-    (omega arith, omega arith, omega arith, omega arith)
+    (omega arith, omega arith, omega arith)
 
 returns-4 : tie.Need-returns-4
 unfolding firstOf cellStep walkCell
@@ -49,7 +49,7 @@ returns-4 c =
     let low = c .before .before .before .cell-min .ensures in
     let high = c .before .before .cell-max .ensures in
     simp (sym (c .before .before .before .before .before .before .before .before .before .before .box-refused .ensures) ∙ c .before .before .before .before .before .before .before .before .before .if1 .left, sym (c .before .before .before .before .before .before .before .before .walk-refused .ensures) ∙ c .before .before .before .before .before .before .before .if2 .left, lt-ltb _ _ (c .before .before .before .before .if3 .left))
-    (ap₂ Cell (c .before .new .ensures ∙ (λ i. box (low i) (high i))) (c .next-in .ensures))
+    (ap₂ Cell (c .before .new .ensures ∙ (λ i. box (low i) (high i))) (c .next-indices .ensures))
 
 pub cell-step-spec : {M : Type 1} → statement M
 cell-step-spec =
@@ -63,5 +63,5 @@ cell-step-spec =
     cell-min-requires
     cell-max-requires
     new-requires
-    next-in-requires
+    next-indices-requires
     returns-4)

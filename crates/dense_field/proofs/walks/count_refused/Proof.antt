@@ -1,5 +1,4 @@
 -- `walks::count_refused` meets its contract.
-use borrow.Author.Needs.{needs}
 use borrow.Author.Tests.{lt-ltb, le-ltb}
 use Rattle.dense_field.specs.Walks.{countRefused}
 use Rattle.dense_field.proofs.walks.count_refused.Statement.{statement}

@@ -1,12 +1,12 @@
 -- `walks::point_step` meets its contract: each test is the cause that it stands for.
-use mathlib.Core.Path.{_≡_, sym, ap₂, _∙_}
+use mathlib.Core.Path.{sym, ap₂, _∙_}
 use native.Mathlib.Omega.{arith}
 use borrow.Author.Needs.{needs}
 use borrow.Author.Tests.{lt-ltb, le-ltb}
 use Rattle.geometry.specs.Causes.{firstOf}
 use Rattle.dense_field.specs.Walks.{pointStep}
 use Rattle.dense_field.specs.declared.PointStep.the-variants.{Point}
-use Rattle.dense_field.proofs.WalkLaws.{Walk, walk-passed}
+use Rattle.dense_field.proofs.WalkLaws.{walk-passed}
 use Rattle.dense_field.proofs.walks.point_step.Statement.{statement}
 use Rattle.dense_field.proofs.walks.point_step.Tie as tie
 
@@ -33,16 +33,16 @@ walk-point-requires c κs =
     let walk = walk-passed _ _ _ (sym (c .before .before .before .before .walk-refused .ensures) ∙ c .before .before .before .if2 .left) in
     (omega arith, omega arith, omega arith)
 
-next-in-requires : tie.Need-next-in-requires
-next-in-requires c κs =
+next-indices-requires : tie.Need-next-indices-requires
+next-indices-requires c κs =
     let walk = walk-passed _ _ _ (sym (c .before .before .before .before .before .walk-refused .ensures) ∙ c .before .before .before .before .if2 .left) in
-    (omega arith, omega arith, omega arith, omega arith)
+    (omega arith, omega arith, omega arith)
 
 returns-4 : tie.Need-returns-4
 unfolding firstOf pointStep
 returns-4 c =
     simp (sym (c .before .before .before .before .before .before .before .before .box-refused .ensures) ∙ c .before .before .before .before .before .before .before .if1 .left, sym (c .before .before .before .before .before .before .walk-refused .ensures) ∙ c .before .before .before .before .before .if2 .left, lt-ltb _ _ (c .before .before .if3 .left))
-    (ap₂ Point (c .before .walk-point .ensures) (c .next-in .ensures))
+    (ap₂ Point (c .before .walk-point .ensures) (c .next-indices .ensures))
 
 pub point-step-spec : {M : Type 1} → statement M
 point-step-spec =
@@ -54,5 +54,5 @@ point-step-spec =
     returns-2
     returns-3
     walk-point-requires
-    next-in-requires
+    next-indices-requires
     returns-4)

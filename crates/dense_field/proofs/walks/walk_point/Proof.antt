@@ -1,5 +1,5 @@
 -- `walks::walk_point` meets its contract: the three coordinates of a point.
-use mathlib.Core.Path.{_≡_, _∙_}
+use mathlib.Core.Path.{_∙_}
 use borrow.Author.Needs.{needs}
 use Rattle.geometry.specs.Values.{vec3}
 use Rattle.dense_field.specs.Walks.{walkPoint}

@@ -1,5 +1,5 @@
 -- `walks::walk_refused` meets its contract: each test is its part of cause 11.
-use mathlib.Core.Path.{_≡_, sym, _∙_}
+use mathlib.Core.Path.{sym, _∙_}
 use borrow.Author.Needs.{needs}
 use borrow.Author.Tests.{lt-ltb, le-ltb}
 use Rattle.dense_field.specs.Walks.{walkRefused}

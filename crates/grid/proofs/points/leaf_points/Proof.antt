@@ -1,15 +1,16 @@
 -- `leaf_points` meets its contract: the places passed hold their points, and the indices are those of the next one.
 use mathlib.Core.Path.{_≡_, sym, ap, _∙_, subst}
-use Rattle.grid.proofs.Division.{column-below, line-below, slab-le}
 use native.Mathlib.Nat.{add-zero, add-assoc}
 use Prim.Native.Nat.{ℕ, _+_, _-_, _≤_, _<_}
 use native.Mathlib.Omega.{arith}
 use Rattle.lists.specs.Filled.{filled}
 use Rattle.lists.proofs.Filling.{filled-none, front-store, filled-done, filled-same}
-use Rattle.geometry.specs.Index.{indicesOf}
+use Rattle.geometry.specs.Index.{indicesOf, nextIndices}
+use Rattle.geometry.proofs.Inverse.{column-below, line-below}
+use Rattle.geometry.proofs.Next.{next-of}
 use Rattle.grid.specs.Leaves.{leafPoint}
-use Rattle.grid.specs.Steps.{steppedPoint, nextIndices}
-use Rattle.grid.proofs.Numbering.{next-of}
+use Rattle.grid.specs.Steps.{steppedPoint}
+use Rattle.grid.proofs.Division.{slab-le}
 use Rattle.grid.proofs.Stepped.{leaf-stepped}
 use borrow.Author.Needs.{needs}
 use Rattle.grid.proofs.points.leaf_points.Statement.{statement}

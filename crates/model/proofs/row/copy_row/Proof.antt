@@ -1,11 +1,11 @@
 -- `row::copy_row` meets its contract: the lanes passed so far are copied.
-use mathlib.Core.Path.{_≡_, refl, ap, _∙_}
+use mathlib.Core.Path.{_≡_, refl, sym, ap, _∙_}
 use Prim.Native.Nat.{_-_, _≤_}
 use borrow.Author.Needs.{needs}
 use lib.ListN.{length, getD}
 use denote.Ref.{now}
-use Rattle.lists.specs.Tabulate.{tabulate}
-use Rattle.lists.proofs.Tables.{tabled, tabled-more, length-tabled}
+use Rattle.lists.specs.Filled.{filled}
+use Rattle.lists.proofs.Filling.{filled-none, filled-length, front-store, filled-done}
 use Rattle.model.specs.Part.{past}
 use Rattle.model.specs.Row.{laneAt}
 use native.Mathlib.Omega.{arith}
@@ -13,7 +13,7 @@ use Rattle.model.proofs.row.copy_row.Statement.{statement}
 use Rattle.model.proofs.row.copy_row.Tie as tie
 
 abbrev Inv-loop : tie.InvT-loop
-Inv-loop values p n results₀ row i₀ results i = (i ≤ n) × (results ≡ tabled results₀ (λ k. getD values (laneAt p k) past) i)
+Inv-loop values p n results₀ row i₀ results i = (i ≤ n) × (results ≡ filled 0 i (λ k. getD values (laneAt p k) past) results₀)
 
 abbrev μ-loop : tie.MeasureT-loop
 μ-loop values p n results₀ row i₀ results i = n - i
@@ -24,11 +24,10 @@ mul-row c = search needs
 same-long : (c : tie.At-loop Inv-loop μ-loop) → length (c .loop .results) ≡ length (now (c .before .args .results))
 same-long c =
     let a = c .before .args in
-    ap length (c .loop .inv .1) ∙ length-tabled (now (a .results)) (λ k. getD (now (a .values)) (laneAt (a .p) k) past) (c .loop .i) (omega arith)
+    ap length (c .loop .inv .1) ∙ filled-length 0 (c .loop .i) (λ k. getD (now (a .values)) (laneAt (a .p) k) past) (now (a .results))
 
 loop-holds : tie.Need-loop-holds Inv-loop μ-loop
-unfolding tabulate
-loop-holds c = (omega arith, refl)
+loop-holds c = (omega arith, sym (filled-none _ _ _))
 
 add-results : tie.Need-add-results Inv-loop μ-loop
 add-results c = search needs
@@ -55,7 +54,7 @@ loop-again : tie.Need-loop-again Inv-loop μ-loop
 loop-again c =
     let s = c .before .before in
     let a = s .before .args in
-    (omega arith, tabled-more (now (a .results)) (λ k. getD (now (a .values)) (laneAt (a .p) k) past) (s .loop .i) (omega arith) (s .loop .inv .1) refl)
+    (omega arith, front-store (s .loop .i) (λ k. getD (now (a .values)) (laneAt (a .p) k) past) (now (a .results)) (s .loop .inv .1) refl)
 
 same-length : tie.Need-same-length Inv-loop μ-loop
 same-length c = same-long (c .before)
@@ -65,7 +64,7 @@ returns c =
     let s = c .before in
     let a = s .before .args in
     let all : s .loop .i ≡ a .n = omega arith in
-    (s .loop .inv .1 ∙ ap (tabled (now (a .results)) (λ k. getD (now (a .values)) (laneAt (a .p) k) past)) all, s .before .pre .0)
+    (filled-done 0 (λ k. getD (now (a .values)) (laneAt (a .p) k) past) (now (a .results)) (s .loop .inv .1) all, s .before .pre .0)
 
 pub copy-row-spec : {M : Type 1} → statement M
 copy-row-spec =

@@ -1,8 +1,9 @@
 -- `row_value` meets its contract: lane 3 of the row is the point.
 use mathlib.Core.Path.{ap, _∙_}
 use mathlib.Core.List.{List}
-use lib.ListN.{getD}
+use lib.ListN.{getD, length-replicate}
 use lib.Ieee.{Float}
+use Rattle.float.specs.Zero.{plusZero}
 use Rattle.model_vectors.proofs.Laid.{in-row}
 use borrow.Author.Needs.{needs}
 use Rattle.model_vectors.proofs.compare.row_value.Statement.{statement}
@@ -32,8 +33,8 @@ array-read-result c = search needs
 returns : tie.Need-returns
 returns c =
     ap (λ (row : List Float). getD row 3 _) (c .evaluate-row-into .ensures .1)
-    ∙ in-row (c .before .before .before .before .before .before .before .before .before .before .before .before .before .before .before .before .before .before .before .before .before .before .before .before .before .args .model) _ (c .before .before .before .before .before .before .before .before .before .before .before .before .before .before .before .before .before .lay-out .ensures .0) _ _ _ _ _ _ _ _
-    (c .before .before .before .before .before .before .before .before .before .before .before .before .before .before .before .before .around .ensures) (c .before .before .before .before .before .before .before .before .before .before .before .before .before .before .before .around2 .ensures) (c .before .before .before .before .before .before .before .before .before .before .before .before .before .before .around3 .ensures)
+    ∙ in-row (c .before .before .before .before .before .before .before .before .before .before .before .before .before .before .before .args .model) _ (c .before .before .before .before .before .before .before .before .before .before .before .before .lay-out .ensures .0) _ _ _ _ _ _ _ _ (length-replicate 64 plusZero)
+    (c .before .before .before .before .before .before .before .before .before .before .before .around .ensures) (c .before .before .before .before .before .before .before .before .before .before .around2 .ensures) (c .before .before .before .before .before .before .before .before .before .around3 .ensures)
 
 pub row-value-spec : {M : Type 1} → statement M
 row-value-spec =

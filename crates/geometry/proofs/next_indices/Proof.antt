@@ -1,9 +1,9 @@
 -- `next_indices` meets its contract.
 use borrow.Author.Tests.{lt-ltb, le-ltb}
-use Rattle.grid.specs.Steps.{nextIndices}
+use Rattle.geometry.specs.Index.{nextIndices}
 use borrow.Author.Needs.{needs}
-use Rattle.grid.proofs.points.next_indices.Statement.{statement}
-use Rattle.grid.proofs.points.next_indices.Tie as tie
+use Rattle.geometry.proofs.next_indices.Statement.{statement}
+use Rattle.geometry.proofs.next_indices.Tie as tie
 
 add-if1 : tie.Need-add-if1
 add-if1 c = search needs
