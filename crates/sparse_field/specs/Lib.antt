@@ -5,4 +5,5 @@ pub mod CornerRun
 pub mod FlatValue
 pub mod Records
 pub mod Progress
+pub mod Startable
 pub mod Calls

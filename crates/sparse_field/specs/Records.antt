@@ -23,6 +23,8 @@ use Rattle.sparse_field.specs.declared.Input.{Input}
 use Rattle.sparse_field.specs.declared.Counts.{Counts}
 use Rattle.sparse_field.specs.declared.Cursor.{Cursor}
 use Rattle.sparse_field.specs.declared.Cursor.the-variants.{End, Corner, Point}
+use Rattle.sparse_field.specs.declared.Stop.{Stop}
+use Rattle.sparse_field.specs.declared.Stop.the-variants.{Through, At}
 use Rattle.sparse_field.specs.declared.Record.{Record}
 use Rattle.sparse_field.specs.Plan.{planOf}
 
@@ -104,3 +106,8 @@ jobOut j = record { job = true; input = j .input; lengths = lent (j .lengths); c
 abbrev pub recordOut : JobRecord sparse → Record
 recordOut noJob = noRecord
 recordOut (job j) = jobOut j
+
+-- the cursor where a function has stopped, or the end
+abbrev pub cursorAt : Stop → Cursor
+cursorAt Through = End
+cursorAt (At a) = a

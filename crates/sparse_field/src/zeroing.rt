@@ -2,6 +2,8 @@
 ghost use mathlib.Core.Path.{_≡_};
 ghost use lib.ListN.{length, replicate};
 ghost use Rattle.float.specs.Zero.{plusZero};
+ghost use Rattle.schedule.specs.Opened.{lengthsOf, zeroMemory};
+ghost use Rattle.sparse_field.specs.Calls.{memoryOf};
 
 pub fn zero_bytes(s: &mut [u8])
     ensures { λ _. ⌜ now (s .exit) ≡ replicate (length (now (s .entry))) 0 ⌝ }
@@ -31,4 +33,21 @@ pub fn zero_floats(s: &mut [f64])
         s[i] = 0.0;
         i += 1;
     }
+}
+
+// All five slices set to zero, whole.
+pub fn zero_all(
+    kinds: &mut [u8],
+    numbers: &mut [f64],
+    places: &mut [u32],
+    store: &mut [f64],
+    corners: &mut [f64],
+)
+    ensures { λ _. ⌜ memoryOf (now (kinds .exit)) (now (numbers .exit)) (now (places .exit)) (now (store .exit)) (now (corners .exit)) ≡ zeroMemory (lengthsOf (memoryOf (now (kinds .entry)) (now (numbers .entry)) (now (places .entry)) (now (store .entry)) (now (corners .entry)))) ⌝ }
+{
+    zero_bytes(kinds);
+    zero_floats(numbers);
+    zero_words(places);
+    zero_floats(store);
+    zero_floats(corners);
 }

@@ -1,0 +1,144 @@
+// A job's work on its own model, and the records that calls hand on.
+ghost use mathlib.Core.Path.{_≡_};
+ghost use mathlib.Core.Bool.{false};
+ghost use mathlib.Core.List.{[]};
+ghost use Prim.Native.Nat.{_-_, _+_, _*_, _≤_, _<_, _^_};
+ghost use Rattle.grid.specs.Blocks.{cube};
+ghost use Rattle.model.specs.Model.{refusedByFour};
+ghost use Rattle.schedule.specs.Schedule.{eventsFrom};
+ghost use Rattle.schedule.specs.Totals.{activeAll};
+ghost use Rattle.sparse_field.specs.Calls.{memoryOf};
+ghost use Rattle.sparse_field.specs.Plan.{planOf};
+ghost use Rattle.sparse_field.specs.Progress.{Sized, Lent, Advanced, readingIn};
+ghost use Rattle.schedule.specs.Opened.{lengthsOf};
+ghost use Rattle.sparse_field.specs.Records.{lent, cursorIn, cursorAt, noRecord};
+ghost use Rattle.sparse_field.specs.Startable.{Startable};
+use crate::Counts;
+use crate::Cursor;
+use crate::Input;
+use crate::Progress;
+use crate::Record;
+use crate::Stop;
+use crate::nodes;
+use geometry::BoundingBox;
+use geometry::Vec3;
+use grid::Band;
+use grid::Grid;
+use grid::Lengths;
+use model::ImplicitModel;
+use model::ModelComponent;
+use model::Part;
+
+// What is left of an input's job from a cursor on, while the budget lasts. The model's parts are laid
+// out once.
+pub fn run_job(
+    input: Input,
+    cursor: Cursor,
+    leaves: u64,
+    budget: u64,
+    kinds: &mut [u8],
+    numbers: &mut [f64],
+    places: &mut [u32],
+    store: &mut [f64],
+    corners: &mut [f64],
+) -> Progress
+    requires { ⌜ Sized (input .grid) × (refusedByFour (input .model) ≡ false) ⌝ }
+    requires { ⌜ Lent (planOf input) (memoryOf (now kinds) (now numbers) (now places) (now store) (now corners)) × Startable (planOf input) cursor leaves × (leaves ≤ activeAll (planOf input)) ⌝ }
+    ensures { λ r. ⌜ Advanced (planOf input) budget leaves (memoryOf (now (kinds .entry)) (now (numbers .entry)) (now (places .entry)) (now (store .entry)) (now (corners .entry))) (memoryOf (now (kinds .exit)) (now (numbers .exit)) (now (places .exit)) (now (store .exit)) (now (corners .exit))) (eventsFrom (planOf input) (cursorIn cursor) (readingIn (memoryOf (now (kinds .entry)) (now (numbers .entry)) (now (places .entry)) (now (store .entry)) (now (corners .entry))))) [] r (activeAll (planOf input)) ⌝ }
+{
+    let model = input.model;
+    let mut words = [0u32; 192];
+    let mut reals = [0.0; 256];
+    let mut scratch = [0.0; 4096];
+    model::lay_out(model, &mut words, &mut reals);
+    let parts = model.count as usize;
+    nodes::run_from(
+        input.grid,
+        input.band,
+        &words,
+        &reals,
+        parts,
+        cursor,
+        leaves,
+        budget,
+        &mut scratch,
+        kinds,
+        numbers,
+        places,
+        store,
+        corners,
+    )
+}
+
+// The lengths of five slices.
+pub fn lengths_of(
+    kinds: &[u8],
+    numbers: &[f64],
+    places: &[u32],
+    store: &[f64],
+    corners: &[f64],
+) -> Lengths
+    ensures { λ r. ⌜ r ≡ lent (lengthsOf (memoryOf (now (kinds .entry)) (now (numbers .entry)) (now (places .entry)) (now (store .entry)) (now (corners .entry)))) ⌝ }
+{
+    Lengths {
+        kinds: kinds.len(),
+        numbers: numbers.len(),
+        places: places.len(),
+        store: store.len(),
+        corners: corners.len(),
+    }
+}
+
+// The cursor where a function has stopped, or the end.
+pub fn cursor_of(stop: Stop) -> Cursor
+    ensures { λ r. ⌜ r ≡ cursorAt stop ⌝ }
+{
+    match stop {
+        Stop::Through => Cursor::End,
+        Stop::At(a) => a,
+    }
+}
+
+// The record without a job: every other field is zero.
+pub fn no_record() -> Record
+    ensures { λ r. ⌜ r ≡ noRecord ⌝ }
+{
+    let zero = Vec3::new(0.0, 0.0, 0.0);
+    let grid = Grid {
+        bounds: BoundingBox::new(zero, zero),
+        cell: 0.0,
+        inner: 0,
+        leaf: 0,
+    };
+    let none = ModelComponent {
+        part: Part::Constant(0.0),
+    };
+    let model = ImplicitModel {
+        parts: [none; 64],
+        count: 0,
+    };
+    let input = Input {
+        grid,
+        band: Band { min: 0.0, max: 0.0 },
+        model,
+    };
+    Record {
+        job: false,
+        input,
+        lengths: Lengths {
+            kinds: 0,
+            numbers: 0,
+            places: 0,
+            store: 0,
+            corners: 0,
+        },
+        counts: Counts {
+            nodes: 0,
+            active: 0,
+            leaves: 0,
+            sampled: 0,
+            evaluations: 0,
+        },
+        cursor: Cursor::End,
+    }
+}
