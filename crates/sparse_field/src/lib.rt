@@ -4,6 +4,7 @@ use grid::Grid;
 use grid::Lengths;
 use model::ImplicitModel;
 
+mod corners; // corners.rt: the needed corners, evaluated in rows
 mod zeroing; // zeroing.rt: slices set to zero
 
 // What a job is made from.
