@@ -34,6 +34,7 @@ pub use points::corner_point;
 pub use points::corner_points;
 pub use points::leaf_point;
 pub use points::leaf_points;
+pub use points::next_indices;
 pub use points::octet;
 pub use points::octet_values;
 pub use pruning::average;

@@ -133,7 +133,7 @@ pub fn octet_values(values: &[f64], n: u32, c: usize) -> [f64; 8]
 }
 
 // The indices after (i, j, k), i fastest.
-fn next_indices(at: Vec3i, nx: usize, ny: usize) -> Vec3i
+pub fn next_indices(at: Vec3i, nx: usize, ny: usize) -> Vec3i
     requires { ⌜ (at .i < nx) × (at .j < ny) × (at .k + 1 < 2 ^ 64) ⌝ }
     ensures { λ r. ⌜ r ≡ nextIndices at nx ny ⌝ }
 {

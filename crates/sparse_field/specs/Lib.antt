@@ -3,5 +3,6 @@ pub mod Plan
 pub mod Runs
 pub mod Around
 pub mod CornerRun
+pub mod Gathered
 pub mod Records
 pub mod Calls

@@ -7,6 +7,13 @@ ghost use Rattle.grid.specs.Blocks.{cube};
 ghost use Rattle.grid.specs.Corners.{needed};
 ghost use Rattle.grid.specs.CornerList.{nonzero};
 ghost use Rattle.sparse_field.specs.Around.{rowHas, slabHas, around};
+ghost use Rattle.sparse_field.specs.Gathered.{Gathered};
+
+// How many needed corners a search found, and where it ended.
+pub struct Found {
+    pub count: usize,
+    pub next: usize,
+}
 
 // Whether one of the two children at i of a row is active. The row starts at child `first`.
 fn row_has(n: usize, kinds: &[u8], first: usize, i: usize) -> bool
@@ -64,4 +71,43 @@ pub fn is_needed(n: u32, kinds: &[u8], corner: usize) -> bool
     let side = n as usize;
     let at = grid::indices(corner, side + 1, side + 1);
     has_child(side, kinds, at.i, at.j, at.k)
+}
+
+// How many corners a node of n children along an axis has.
+fn corner_total(n: usize) -> usize
+    requires { ⌜ n ≤ 64 ⌝ }
+    ensures { λ r. ⌜ r ≡ cube (n + 1) ⌝ }
+{
+    (n + 1) * (n + 1) * (n + 1)
+}
+
+// Lists the needed corners from corner i on, at most `most` of them, and runs on to the next needed
+// corner or past the last. The indices go along, so that no corner needs a division.
+fn gather(n: usize, kinds: &[u8], i: usize, most: usize, list: &mut [u32]) -> Found
+    requires { ⌜ (0 < n) × (n ≤ 64) × (length (now kinds) ≡ cube n) × (i ≤ cube (n + 1)) × (most ≤ length (now list)) ⌝ }
+    ensures { λ r. ⌜ Gathered (needed n (nonzero (now (kinds .entry)))) (cube (n + 1)) i most (r .count) (r .next) (now (list .exit)) ⌝ }
+{
+    let total = corner_total(n);
+    let side = n + 1;
+    let mut at = grid::indices(i, side, side);
+    let mut corner = i;
+    let mut count: usize = 0;
+    while corner < total {
+        if has_child(n, kinds, at.i, at.j, at.k) {
+            if count == most {
+                return Found {
+                    count: count,
+                    next: corner,
+                };
+            }
+            list[count] = corner as u32;
+            count += 1;
+        }
+        at = grid::next_indices(at, side, side);
+        corner += 1;
+    }
+    Found {
+        count: count,
+        next: corner,
+    }
 }
