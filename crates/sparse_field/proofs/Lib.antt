@@ -1,2 +1,4 @@
 pub mod AroundLaws
 pub mod Searching
+pub mod Writing
+pub mod Running

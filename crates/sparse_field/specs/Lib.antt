@@ -4,5 +4,6 @@ pub mod Runs
 pub mod Around
 pub mod CornerRun
 pub mod Gathered
+pub mod Written
 pub mod Records
 pub mod Calls

@@ -1,13 +1,14 @@
 // The corners that a node's active children need, found in ascending order and evaluated in rows.
 ghost use mathlib.Core.Path.{_≡_};
-ghost use Prim.Native.Nat.{_+_, _*_, _<_, _≤_};
-ghost use lib.ListN.{length};
+ghost use Prim.Native.Nat.{ℕ, _+_, _*_, _<_, _≤_};
+ghost use lib.ListN.{length, getD};
 ghost use Rattle.geometry.specs.Values.{vec3i};
 ghost use Rattle.grid.specs.Blocks.{cube};
 ghost use Rattle.grid.specs.Corners.{needed};
 ghost use Rattle.grid.specs.CornerList.{nonzero};
 ghost use Rattle.sparse_field.specs.Around.{rowHas, slabHas, around};
 ghost use Rattle.sparse_field.specs.Gathered.{Gathered};
+ghost use Rattle.sparse_field.specs.Written.{scattered};
 
 // How many needed corners a search found, and where it ended.
 pub struct Found {
@@ -109,5 +110,18 @@ fn gather(n: usize, kinds: &[u8], i: usize, most: usize, list: &mut [u32]) -> Fo
     Found {
         count: count,
         next: corner,
+    }
+}
+
+// Stores a row of values, each at the place that is listed for it.
+fn scatter(places: &[u32], values: &[f64], corners: &mut [f64])
+    requires { ⌜ (length (now places) ≤ length (now values)) × ((q : ℕ) → q < length (now places) → getD (now places) q 0 < length (now corners)) ⌝ }
+    ensures { λ _. ⌜ now (corners .exit) ≡ scattered (length (now (places .entry))) (now (places .entry)) (now (values .entry)) (now (corners .entry)) ⌝ }
+{
+    let mut q = 0;
+    while q < places.len() {
+        let place = places[q] as usize;
+        corners[place] = values[q];
+        q += 1;
     }
 }
