@@ -1,5 +1,3 @@
-pub mod Disjunctions
-pub mod Filling
 pub mod SmoothingLaws
 pub mod WalkLaws
 pub mod CutLaws

@@ -9,20 +9,21 @@ use borrow.Author.Tests.{ltb-true, not-false}
 use lib.Dec.{eqb, ltb}
 use lib.ListN.{length, getD}
 use lib.Ieee.{Float, nan}
+use Rattle.lists.proofs.Tests.{or-left, or-right}
+use Rattle.lists.proofs.Lists.{getD-any}
+use Rattle.float.specs.Zero.{plusZero}
 use Rattle.geometry.specs.declared.Vec3i.{Vec3i}
 use Rattle.geometry.specs.Values.{vec3i}
 use Rattle.geometry.specs.Causes.{firstOf}
 use Rattle.geometry.specs.Index.{placeOf}
 use Rattle.geometry.specs.Octet.{octetOrder, octetPlaces}
-use Rattle.model.specs.Part.{plusZero}
-use Rattle.model.proofs.Lists.{getD-any}
 use Rattle.dense_field.specs.Field.{valuesRefused, pointsOf}
 use Rattle.dense_field.specs.Lent.{Lent}
 use Rattle.dense_field.specs.Octets.{cellInside, octetOf}
 use Rattle.dense_field.specs.Cells.{octetCause}
 use Rattle.dense_field.specs.Walks.{octetStep, nextIn}
 use Rattle.dense_field.specs.declared.OctetStep.the-variants as octet
-use Rattle.dense_field.proofs.Lending.{lent, neither-left, neither-right}
+use Rattle.dense_field.proofs.Lending.{lent}
 
 -- a cell whose far corner is a point of the field
 pub record Inside (n c : Vec3i) : Type 0 where
@@ -125,7 +126,7 @@ stepped n c next len e =
     one false true d ha hb hd found = let z : _≡_ {A = ℕ} 0 1 = cc in absurd (omega arith)
     one false false true ha hb hd found = let z : _≡_ {A = ℕ} 0 1 = cc in absurd (omega arith)
     one false false false ha hb hd found =
-        let ci : c .i < n .i - 1 = ltb-true _ _ (not-false _ (neither-left _ _ hd)) in
-        let cj : c .j < n .j - 1 = ltb-true _ _ (not-false _ (neither-right (not (ltb (c .i) (n .i - 1))) _ hd)) in
-        let ck : c .k < n .k - 1 = ltb-true _ _ (not-false _ (neither-right (eqb (n .i - 1) 0 || eqb (n .j - 1) 0) _ hb)) in
+        let ci : c .i < n .i - 1 = ltb-true _ _ (not-false _ (or-left _ _ hd)) in
+        let cj : c .j < n .j - 1 = ltb-true _ _ (not-false _ (or-right (not (ltb (c .i) (n .i - 1))) _ hd)) in
+        let ck : c .k < n .k - 1 = ltb-true _ _ (not-false _ (or-right (eqb (n .i - 1) 0 || eqb (n .j - 1) 0) _ hb)) in
         record { held = lent n len ha; in-field = record { i-in = omega arith; j-in = omega arith; k-in = omega arith } }

@@ -2,7 +2,7 @@
 use mathlib.Core.Path.{_≡_, refl, sym, ap, _∙_}
 use mathlib.Core.Bool.{Bool, true, false, cond}
 use mathlib.Core.List.{List}
-use Prim.Native.Nat.{ℕ, zero, suc, _+_, _-_, _*_, _≤_, _<_}
+use Prim.Native.Nat.{ℕ, _+_, _-_, _*_, _≤_, _<_}
 use native.Mathlib.Nat.{mul-le-mul-right}
 use native.Mathlib.Omega.{arith}
 use lib.Dec.{eqb, ltb}
@@ -10,24 +10,14 @@ use lib.ListN.{length, getD, set, length-set}
 use lib.Seq.{ext-getD, getD-set-same, getD-set-other}
 use lib.Ieee.{Float}
 use borrow.Author.Tests.{eqb-true, eqb-false, ltb-true, ltb-false}
+use Rattle.lists.specs.Filled.{filled}
+use Rattle.lists.proofs.Filling.{filled-length, filled-same, filled-more, getD-filled, getD-unfilled, filled-all}
+use Rattle.float.specs.Zero.{plusZero}
 use Rattle.geometry.specs.declared.Vec3i.{Vec3i}
-use Rattle.model.specs.Part.{plusZero}
 use Rattle.dense_field.specs.Field.{pointsOf, outside}
-use Rattle.dense_field.specs.Filled.{filled}
 use Rattle.dense_field.specs.Lent.{Lent}
 use Rattle.dense_field.specs.Padding.{padded, paddedAt}
-use Rattle.dense_field.proofs.Filling.{filled-length, filled-same, filled-more, getD-filled, filled-all}
 use Rattle.dense_field.proofs.Edges.{rowFrom, pointAt, edge-first, edge-last, row-end, row-inner}
-
--- an element outside of a stretch is as it was
-pub getD-unfilled : {A : Type 0} (at count : ℕ) (g : ℕ → A) (l : List A) (q : ℕ) (d : A) → (at ≤ q → at + count ≤ q)
-    → getD (filled at count g l) q d ≡ getD l q d
-unfolding filled
-getD-unfilled at zero g l q d apart = refl
-getD-unfilled at (suc count) g l q d apart =
-    let other : q ≡ at + count → ⊥ = λ e. omega (arith, apart (omega arith)) in
-    getD-set-other (filled at count g l) (at + count) q _ d other
-    ∙ getD-unfilled at count g l q d (λ from. omega (arith, apart from))
 
 -- rows and slabs stand in the field
 pub record Within (n : Vec3i) (j k : ℕ) : Type 0 where

@@ -6,20 +6,21 @@ use native.Mathlib.Nat.{min-eq-left, mul-assoc, mul-comm, div-add-mod', mod-lt, 
 use native.Mathlib.Omega.{arith}
 use lib.ListN.{length, getD, drop, replicate, length-replicate, length-append, length-drop, List·getD-append}
 use lib.Ieee.{Float}
+use Rattle.lists.specs.Tabulate.{tabulate}
+use Rattle.lists.proofs.Tables.{length-tabulate, getD-tabulate}
+use Rattle.lists.specs.Filled.{filled}
+use Rattle.lists.proofs.Filling.{getD-filled, filled-same}
+use Rattle.float.specs.Zero.{plusZero}
 use Rattle.geometry.specs.declared.Vec3.{Vec3}
 use Rattle.geometry.specs.declared.Vec3i.{Vec3i}
-use Rattle.model.specs.Part.{plusZero, past}
+use Rattle.model.specs.Part.{past}
 use Rattle.model.specs.Flat.{Flat, partsOf}
 use Rattle.model.specs.Model.{modelValue}
 use Rattle.model.specs.Row.{modelRow}
-use Rattle.model.specs.Tabulate.{tabulate}
-use Rattle.model.proofs.Tables.{length-tabulate, getD-tabulate}
 use Rattle.dense_field.specs.Field.{pointsOf}
-use Rattle.dense_field.specs.Filled.{filled}
 use Rattle.dense_field.specs.Lent.{Lent}
 use Rattle.dense_field.specs.Points.{fieldPoint}
 use Rattle.dense_field.specs.Runs.{axisPoint, flatAt}
-use Rattle.dense_field.proofs.Filling.{getD-filled, filled-same}
 use Rattle.dense_field.proofs.Edges.{rowFrom, pointAt, point-of-row}
 
 -- a list of 64 zeros, filled from its beginning

@@ -6,6 +6,8 @@ use Prim.Native.Nat.{ℕ, min}
 use native.Mathlib.Omega.{arith}
 use lib.ListN.{length}
 use lib.Ieee.{Float}
+use Rattle.lists.specs.Tabulate.{tabulate}
+use Rattle.lists.proofs.Tables.{tabulate-cong}
 use Rattle.geometry.specs.declared.Vec3.{Vec3}
 use Rattle.geometry.specs.declared.Vec3i.{Vec3i}
 use Rattle.geometry.specs.Bounds.{pointRefused, cellRefused}
@@ -13,10 +15,8 @@ use Rattle.geometry.specs.Causes.{firstOf}
 use Rattle.model.specs.Part.{partIn}
 use Rattle.model.specs.Flat.{Flat, layoutOf}
 use Rattle.model.specs.Model.{refusedByFour}
-use Rattle.model.specs.Tabulate.{tabulate}
 use Rattle.model.specs.declared.ImplicitModel.{ImplicitModel}
 use Rattle.model.proofs.Accepted.{laid-value}
-use Rattle.model.proofs.Tables.{tabulate-cong}
 use Rattle.dense_field.specs.Field.{valuesRefused, pointsOf}
 use Rattle.dense_field.specs.Points.{fieldPoint}
 use Rattle.dense_field.specs.Runs.{flatAt, sampleCause}

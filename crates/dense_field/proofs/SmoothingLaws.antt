@@ -9,21 +9,21 @@ use lib.Dec.{eqb, ltb}
 use lib.Ieee.{Float, nan, binary64, add, sub, mul, div, ofBits, ofInt}
 use lib.ListN.{length, getD}
 use borrow.Author.Tests.{eq-eqb, ne-eqb, eqb-true, ltb-false, not-false}
+use Rattle.lists.proofs.Lists.{getD-any}
+use Rattle.lists.proofs.Tables.{length-tabulate}
+use Rattle.lists.specs.Filled.{filled}
+use Rattle.lists.proofs.Tests.{or-left, or-right}
+use Rattle.lists.proofs.Filling.{filled-join, filled-same, filled-more, filled-all}
+use Rattle.float.specs.Zero.{plusZero}
 use Rattle.geometry.specs.declared.Vec3i.{Vec3i}
 use Rattle.geometry.specs.Values.{vec3i}
 use Rattle.geometry.specs.Index.{dimensionsRefused, placeOf, indicesOf}
 use Rattle.geometry.specs.Axis.{asFloat}
 use Rattle.geometry.proofs.Grid.{Accepted, accepted}
 use Rattle.geometry.proofs.Inverse.{indices-of-place}
-use Rattle.model.specs.Part.{plusZero}
-use Rattle.model.proofs.Lists.{getD-any}
-use Rattle.model.proofs.Tables.{length-tabulate}
 use Rattle.dense_field.specs.Field.{valuesRefused, pointsOf, scratchNeeded, onEdge, outside}
-use Rattle.dense_field.specs.Filled.{filled}
 use Rattle.dense_field.specs.Slices.{valueOf, blendedAt, Slices, Between}
 use Rattle.dense_field.specs.Smoothing.{smoothRefused, neighbourSum, blended, smoothedAt, smoothedOnce, smoothed}
-use Rattle.dense_field.proofs.Disjunctions.{or-left, or-right}
-use Rattle.dense_field.proofs.Filling.{filled-join, filled-same, filled-more, filled-all}
 
 -- what is read past the end does not count where the six neighbours stand in the list
 pub neighbours-read : (n : Vec3i) (vs : List Float) (p : ℕ) → Between n p 1 (length vs) (length vs)

@@ -6,6 +6,7 @@ use native.Mathlib.Nat.{mul-pos, mul-comm, mul-assoc, mul-le-mul-right, mod-lt, 
 use native.Mathlib.Omega.{arith}
 use lib.Dec.{ltb, leb}
 use borrow.Author.Tests.{lt-ltb, le-ltb, le-leb, lt-leb, ltb-true, ltb-false, not-false}
+use Rattle.lists.proofs.Tests.{or-left, or-right}
 use Rattle.geometry.specs.declared.Vec3i.{Vec3i}
 use Rattle.geometry.specs.declared.BoundingBox.{BoundingBox}
 use Rattle.geometry.specs.Values.{vec3i}
@@ -18,7 +19,6 @@ use Rattle.dense_field.specs.declared.CellStep.the-variants as cell
 use Rattle.dense_field.specs.Field.{pointsOf}
 use Rattle.dense_field.specs.Walks.{nextIn, countRefused, walkRefused, walkPoint, walkCell, pointStep, cellStep}
 use Rattle.dense_field.specs.Traces.{pointAfter, pointTrace, cellAfter, cellTrace}
-use Rattle.dense_field.proofs.Disjunctions.{or-left, or-right}
 
 -- the test of the code and that of the definition
 pub leb-not-ltb : (a b : ℕ) → leb b a ≡ not (ltb a b)

@@ -6,13 +6,13 @@ use mathlib.Core.List.{List, [], _∷_}
 use lib.Dec.{eqb}
 use lib.ListN.{length, replicate}
 use lib.Ieee.{Float}
+use Rattle.float.specs.Zero.{plusZero}
 use Rattle.geometry.specs.declared.Vec3.{Vec3}
 use Rattle.geometry.specs.declared.Vec3i.{Vec3i}
 use Rattle.geometry.specs.Values.{vec3}
 use Rattle.geometry.specs.Causes.{cause, firstOf}
 use Rattle.geometry.specs.Index.{dimensionsRefused}
 use Rattle.geometry.specs.Bounds.{pointRefused, cellRefused}
-use Rattle.model.specs.Part.{plusZero}
 use Rattle.dense_field.specs.Field.{valuesRefused}
 use Rattle.dense_field.specs.Octets.{cellInside, cornersOf, octetOf}
 use Rattle.dense_field.specs.Walks.{octetStep}

@@ -6,7 +6,6 @@ pub mod Lent
 pub mod Sampling
 pub mod Padding
 pub mod Threshold
-pub mod Filled
 pub mod Smoothing
 pub mod Slices
 pub mod Octets

@@ -5,12 +5,12 @@ use mathlib.Core.List.{List, map}
 use lib.Dec.{ltb}
 use lib.ListN.{getD}
 use lib.Ieee.{Float, binary64, add, mul}
+use Rattle.float.specs.Zero.{plusZero}
 use Rattle.geometry.specs.declared.Vec3.{Vec3}
 use Rattle.geometry.specs.declared.Vec3i.{Vec3i}
 use Rattle.geometry.specs.Values.{vec3}
 use Rattle.geometry.specs.Axis.{asFloat}
 use Rattle.geometry.specs.Octet.{octetOrder, octetPlaces}
-use Rattle.model.specs.Part.{plusZero}
 
 -- cause 10: a cell is inside where the point after it on each axis is one of the field
 unfoldable pub cellInside : Vec3i → Vec3i → Bool

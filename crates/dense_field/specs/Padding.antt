@@ -4,10 +4,10 @@ use mathlib.Core.Bool.{cond}
 use mathlib.Core.List.{List}
 use lib.ListN.{getD}
 use lib.Ieee.{Float}
+use Rattle.lists.specs.Tabulate.{tabulate}
+use Rattle.float.specs.Zero.{plusZero}
 use Rattle.geometry.specs.declared.Vec3i.{Vec3i}
 use Rattle.geometry.specs.Index.{indicesOf}
-use Rattle.model.specs.Part.{plusZero}
-use Rattle.model.specs.Tabulate.{tabulate}
 use Rattle.dense_field.specs.Field.{pointsOf, outside}
 
 -- the value at one place

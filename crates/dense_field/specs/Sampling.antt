@@ -2,11 +2,11 @@
 use Prim.Native.Nat.{ℕ}
 use mathlib.Core.List.{List}
 use lib.Ieee.{Float}
+use Rattle.lists.specs.Tabulate.{tabulate}
 use Rattle.geometry.specs.declared.Vec3.{Vec3}
 use Rattle.geometry.specs.declared.Vec3i.{Vec3i}
 use Rattle.geometry.specs.Index.{indicesOf}
 use Rattle.model.specs.Model.{modelValue}
-use Rattle.model.specs.Tabulate.{tabulate}
 use Rattle.model.specs.declared.Part.{Part}
 use Rattle.dense_field.specs.Points.{fieldPoint}
 use Rattle.dense_field.specs.Field.{pointsOf}

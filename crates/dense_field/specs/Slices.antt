@@ -4,8 +4,8 @@ use mathlib.Core.Path.{_≡_}
 use mathlib.Core.List.{List}
 use lib.ListN.{length, getD}
 use lib.Ieee.{Float}
+use Rattle.float.specs.Zero.{plusZero}
 use Rattle.geometry.specs.declared.Vec3i.{Vec3i}
-use Rattle.model.specs.Part.{plusZero}
 use Rattle.dense_field.specs.Field.{pointsOf}
 use Rattle.dense_field.specs.Smoothing.{blended, neighbourSum}
 

@@ -5,11 +5,11 @@ use mathlib.Core.List.{List}
 use lib.Dec.{ltb}
 use lib.ListN.{getD}
 use lib.Ieee.{Float, binary64, add, sub, mul, div}
+use Rattle.lists.specs.Tabulate.{tabulate}
+use Rattle.float.specs.Zero.{plusZero}
 use Rattle.geometry.specs.declared.Vec3i.{Vec3i}
 use Rattle.geometry.specs.Index.{indicesOf}
 use Rattle.geometry.specs.Axis.{asFloat}
-use Rattle.model.specs.Part.{plusZero}
-use Rattle.model.specs.Tabulate.{tabulate}
 use Rattle.dense_field.specs.Field.{valuesRefused, pointsOf, scratchNeeded, outside}
 
 -- cause 9: "a dense dimension 0, product above 16,777,216, values not that long, scratch shorter"

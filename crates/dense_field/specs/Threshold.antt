@@ -3,7 +3,7 @@ use mathlib.Core.Bool.{cond}
 use mathlib.Core.List.{List, map}
 use lib.Ieee.{Float, lt}
 use Rattle.float.specs.Sign.{absOf}
-use Rattle.model.specs.Part.{plusZero}
+use Rattle.float.specs.Zero.{plusZero}
 
 unfoldable pub cut : Float → Float → Float
 cut limit v = cond (lt (absOf v) limit) plusZero v

@@ -1,3 +1,4 @@
+pub mod Zero
 pub mod Select
 pub mod Sign
 pub mod Whole

@@ -1,11 +1,12 @@
 -- A grid that cause 9 does not refuse: its dimensions are above 0, and the products that an index takes are small.
 use mathlib.Core.Path.{_≡_, refl}
-use mathlib.Core.Bool.{Bool, true, false, _||_, or-true}
+use mathlib.Core.Bool.{true, false, _||_, or-true}
 use Prim.Native.Nat.{ℕ, zero, suc, _+_, _*_, _^_, _≤_, _<_}
 use native.Mathlib.Nat.{mul-pos, mul-comm, mul-assoc, le-mul-of-pos-right, mul-le-mul, mul-le-mul-right}
 use native.Mathlib.Omega.{arith}
 use lib.Dec.{eqb}
 use borrow.Author.Tests.{lt-ltb, ltb-false, eqb-false}
+use Rattle.lists.proofs.Tests.{or-left, or-right}
 use Rattle.geometry.specs.Index.{dimensionsRefused}
 
 pub record Accepted (nx ny nz : ℕ) : Type 0 where
@@ -13,15 +14,6 @@ pub record Accepted (nx ny nz : ℕ) : Type 0 where
   pub y-above : 0 < ny
   pub z-above : 0 < nz
   pub few : nx * ny * nz ≤ 16777216
-
-or-left : (a b : Bool) → (a || b) ≡ false → a ≡ false
-or-left true b e = e
-or-left false b e = refl
-
-or-right : (a b : Bool) → (a || b) ≡ false → b ≡ false
-or-right true true e = e
-or-right true false e = refl
-or-right false b e = e
 
 above-zero : (n : ℕ) → eqb n 0 ≡ false → 0 < n
 above-zero zero e = absurd (eqb-false 0 0 e refl)

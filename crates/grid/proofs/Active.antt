@@ -3,9 +3,9 @@ use mathlib.Core.Path.{_≡_, refl, sym}
 use mathlib.Core.Bool.{Bool, true, false, _&&_}
 use Prim.Native.Nat.{ℕ}
 use lib.Ieee.{Float, le}
+use Rattle.lists.proofs.Tests.{and-then, and-else}
 use Rattle.geometry.specs.Axis.{along, alongEnd}
 use Rattle.geometry.specs.Box.{intersectsOf}
-use Rattle.geometry.proofs.Flags.{and-then, and-else}
 use Rattle.grid.specs.declared.Grid.{Grid}
 use Rattle.grid.specs.Nodes.{sizeOf}
 use Rattle.grid.specs.Boxes.{nodeLeast, nodeMost, nodeBoxAt, nodeBox, childBoxAt, childBox, nodeIndices, childIndices, active}

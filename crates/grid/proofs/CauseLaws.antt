@@ -7,14 +7,14 @@ use native.Mathlib.Omega.{arith}
 use lib.Dec.{ltb}
 use lib.Ieee.Scale.{finite}
 use borrow.Author.Tests.{ltb-false, lt-ltb, le-ltb, not-false}
-use Rattle.geometry.proofs.Flags.{or-fifth}
+use Rattle.lists.proofs.Tests.{or-left, or-right, or-fifth}
+use Rattle.geometry.specs.Causes.{firstOf}
+use Rattle.model.specs.declared.ImplicitModel.{ImplicitModel}
+use Rattle.model.specs.Model.{refusedByFour}
 use Rattle.grid.specs.declared.Grid.{Grid}
 use Rattle.grid.specs.declared.Band.{Band}
 use Rattle.grid.specs.declared.Lengths.{Lengths}
 use Rattle.grid.specs.declared.Refusal.the-variants.{None, By}
-use Rattle.geometry.specs.Causes.{firstOf}
-use Rattle.model.specs.declared.ImplicitModel.{ImplicitModel}
-use Rattle.model.specs.Model.{refusedByFour}
 use Rattle.grid.specs.Blocks.{isBlock, cube}
 use Rattle.grid.specs.Nodes.{sizeOf, nodeCounts, nodesOf}
 use Rattle.grid.specs.Boxes.{active}
@@ -25,15 +25,6 @@ use Rattle.grid.proofs.RangeLists.{countBelow-le}
 use Rattle.grid.proofs.Sums.{sum-le}
 
 -- ---- one of five tests that holds
-
-or-left : (a b : Bool) → (a || b) ≡ false → a ≡ false
-or-left true b e = e
-or-left false b e = refl
-
-or-right : (a b : Bool) → (a || b) ≡ false → b ≡ false
-or-right true true e = e
-or-right true false e = refl
-or-right false b e = e
 
 module _ (a b c d e : Bool) where
   pub or-first : a ≡ true → true ≡ (a || b || c || d || e)

@@ -10,12 +10,12 @@ use lib.Dec.{T, T-not, eqb}
 use lib.ListN.{replicate}
 use lib.Ieee.{Float, nan, inf, fin, Format, binary64, up, down, odd, round, sum, add, sub, mul, div, ofInt, lt, eq, le, isNan}
 use lib.Ieee.Fits.{and-r}
-use Rattle.float.specs.Select.{minOf, maxOf}
-use Rattle.geometry.specs.declared.BoundingBox.{BoundingBox}
-use Rattle.geometry.specs.Distance.{distanceOf, distanceSquaredOf, square}
 use Rattle.root.specs.Root.{squareRoot, rootOf, scale}
 use Rattle.root.specs.Nearest.{nearestRoot}
-use Rattle.model.specs.Part.{plusZero}
+use Rattle.float.specs.Select.{minOf, maxOf}
+use Rattle.float.specs.Zero.{plusZero}
+use Rattle.geometry.specs.declared.BoundingBox.{BoundingBox}
+use Rattle.geometry.specs.Distance.{distanceOf, distanceSquaredOf, square}
 use Rattle.grid.specs.Pruning.{halfDiagonal, folded, lowest, highest, pruned}
 use Rattle.grid.proofs.FloatOrder.{number, number-left, number-right, le-trans, le-refl, le-of-eq, le-of-lt, lt-excludes, le-of-not-lt}
 use Rattle.grid.proofs.FloatRounding.{hasSign, odd-has-sign, round-sign, difference-le-sum}

@@ -3,7 +3,7 @@ use mathlib.Core.Path.{_≡_, sym, ap, _∙_}
 use mathlib.Core.List.{List, [], _∷_}
 use lib.ListN.{length, getD}
 use lib.Ieee.{Float, binary64, add, div, ofBits}
-use Rattle.model.specs.Part.{plusZero}
+use Rattle.float.specs.Zero.{plusZero}
 use Rattle.grid.specs.Pruning.{folded, average}
 use Rattle.grid.proofs.Eight.{eight}
 use Rattle.grid.proofs.Literals.{eight-point}

@@ -5,14 +5,12 @@ pub mod Division
 pub mod Whole
 pub mod Eight
 pub mod Octets
-pub mod Filled
 pub mod Numbering
 pub mod Literals
 pub mod Counts
 pub mod Active
 pub mod Stepped
 pub mod Folds
-pub mod Any
 pub mod Pruned
 pub mod Needing
 pub mod RangeLists

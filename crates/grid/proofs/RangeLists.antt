@@ -8,7 +8,7 @@ use native.Mathlib.Omega.{arith}
 use lib.Dec.{eqb, ltb}
 use lib.ListN.{length, getD, length-append}
 use borrow.Author.Tests.{ltb-true, ltb-false, lt-ltb, le-ltb, eqb-true, eqb-false}
-use Rattle.model.proofs.Tables.{getD-before, getD-last}
+use Rattle.lists.proofs.Tables.{getD-before, getD-last}
 use Rattle.grid.specs.Ranges.{anyBelow, countBelow, listBelow}
 use Rattle.grid.specs.Corners.{among}
 

@@ -7,7 +7,6 @@ pub mod Corners
 pub mod Leaves
 pub mod Pruning
 pub mod Activity
-pub mod Rows
 pub mod Steps
 pub mod CornerList
 pub mod CornerMarks

@@ -3,10 +3,10 @@ use mathlib.Core.Bool.{Bool, _||_}
 use mathlib.Core.List.{List, [], _∷_}
 use lib.Ieee.{Float, binary64, add, sub, div, lt}
 use Rattle.float.specs.Select.{minOf, maxOf}
+use Rattle.float.specs.Zero.{plusZero}
 use Rattle.geometry.specs.declared.BoundingBox.{BoundingBox}
 use Rattle.geometry.specs.Distance.{distanceOf}
 use Rattle.geometry.specs.Axis.{asFloat}
-use Rattle.model.specs.Part.{plusZero}
 
 -- "h = distance(child min, child max) / 2."
 unfoldable pub halfDiagonal : BoundingBox → Float

@@ -2,14 +2,14 @@
 ghost use mathlib.Core.Path.{_≡_};
 ghost use Prim.Native.Nat.{_+_, _^_, _<_, _≤_};
 ghost use lib.ListN.{length, getD, set};
+ghost use Rattle.lists.specs.Filled.{filled};
+ghost use Rattle.float.specs.Zero.{plusZero};
 ghost use Rattle.geometry.specs.Values.{vec3i};
 ghost use Rattle.geometry.specs.Axis.{stepAlong};
 ghost use Rattle.geometry.specs.Octet.{octetPlaces};
-ghost use Rattle.model.specs.Part.{plusZero};
 ghost use Rattle.grid.specs.Blocks.{cube};
 ghost use Rattle.grid.specs.Corners as corners;
 ghost use Rattle.grid.specs.Leaves.{leafPoint};
-ghost use Rattle.grid.specs.Rows.{rowOf, octetValues};
 ghost use Rattle.grid.specs.Steps.{leafSteps, steppedPoint, cornerAt, nextIndices};
 use crate::nodes::indices;
 use crate::nodes::steps_between;
@@ -117,7 +117,7 @@ fn value_at(values: &[f64], p: usize) -> f64
 // The values at a child's eight corners.
 pub fn octet_values(values: &[f64], n: u32, c: usize) -> [f64; 8]
     requires { ⌜ (0 < n) × (n ≤ 64) × (c < cube n) × (cube (n + 1) ≤ length (now values)) ⌝ }
-    ensures { λ r. ⌜ r ≡ octetValues (now (values .entry)) n c ⌝ }
+    ensures { λ r. ⌜ r ≡ corners.octetValues (now (values .entry)) n c ⌝ }
 {
     let p = octet(n, c);
     [
@@ -169,9 +169,9 @@ pub fn leaf_points(
     zs: &mut [f64; 64],
 )
     requires { ⌜ (0 < l) × (count ≤ 64) × (first + count < 2 ^ 64) ⌝ }
-    ensures { λ _. ⌜ now (xs .exit) ≡ rowOf count (λ q. leafPoint b l (first + q) .x) (now (xs .entry)) ⌝ }
-    ensures { λ _. ⌜ now (ys .exit) ≡ rowOf count (λ q. leafPoint b l (first + q) .y) (now (ys .entry)) ⌝ }
-    ensures { λ _. ⌜ now (zs .exit) ≡ rowOf count (λ q. leafPoint b l (first + q) .z) (now (zs .entry)) ⌝ }
+    ensures { λ _. ⌜ now (xs .exit) ≡ filled 0 count (λ q. leafPoint b l (first + q) .x) (now (xs .entry)) ⌝ }
+    ensures { λ _. ⌜ now (ys .exit) ≡ filled 0 count (λ q. leafPoint b l (first + q) .y) (now (ys .entry)) ⌝ }
+    ensures { λ _. ⌜ now (zs .exit) ≡ filled 0 count (λ q. leafPoint b l (first + q) .z) (now (zs .entry)) ⌝ }
 {
     let min = b.min;
     let side = l as usize;
@@ -195,9 +195,9 @@ pub fn corner_points(
     zs: &mut [f64; 64],
 )
     requires { ⌜ length (now list) ≤ 64 ⌝ }
-    ensures { λ _. ⌜ now (xs .exit) ≡ rowOf (length (now (list .entry))) (λ q. corners.cornerPoint b n (getD (now (list .entry)) q 0) .x) (now (xs .entry)) ⌝ }
-    ensures { λ _. ⌜ now (ys .exit) ≡ rowOf (length (now (list .entry))) (λ q. corners.cornerPoint b n (getD (now (list .entry)) q 0) .y) (now (ys .entry)) ⌝ }
-    ensures { λ _. ⌜ now (zs .exit) ≡ rowOf (length (now (list .entry))) (λ q. corners.cornerPoint b n (getD (now (list .entry)) q 0) .z) (now (zs .entry)) ⌝ }
+    ensures { λ _. ⌜ now (xs .exit) ≡ filled 0 (length (now (list .entry))) (λ q. corners.cornerPoint b n (getD (now (list .entry)) q 0) .x) (now (xs .entry)) ⌝ }
+    ensures { λ _. ⌜ now (ys .exit) ≡ filled 0 (length (now (list .entry))) (λ q. corners.cornerPoint b n (getD (now (list .entry)) q 0) .y) (now (ys .entry)) ⌝ }
+    ensures { λ _. ⌜ now (zs .exit) ≡ filled 0 (length (now (list .entry))) (λ q. corners.cornerPoint b n (getD (now (list .entry)) q 0) .z) (now (zs .entry)) ⌝ }
 {
     let min = b.min;
     let c = corner_step(b, n);

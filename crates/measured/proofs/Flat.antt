@@ -9,14 +9,14 @@ use native.Mathlib.Omega.{arith}
 use lib.ListN.{length, getD}
 use lib.Seq.{ext-getD}
 use lib.Ieee.{Float}
+use Rattle.lists.specs.Tabulate.{tabulate}
+use Rattle.lists.proofs.Tables.{length-tabulate, getD-tabulate}
+use Rattle.float.specs.Zero.{plusZero}
 use Rattle.geometry.specs.declared.Vec3i.{Vec3i}
 use Rattle.geometry.specs.Index.{indicesOf}
-use Rattle.model.specs.Part.{plusZero}
-use Rattle.model.specs.Tabulate.{tabulate}
-use Rattle.model.proofs.Tables.{length-tabulate, getD-tabulate}
 use Rattle.dense_field.specs.Field.{pointsOf, onEdge, outside}
-use Rattle.measured.specs.Measured.{OfTwo, along-x, along-y, along-z}
 use Rattle.dense_field.specs.Smoothing.{smoothedAt, smoothedOnce, smoothed}
+use Rattle.measured.specs.Measured.{OfTwo, along-x, along-y, along-z}
 
 -- an index below 2 is the first or the last of two
 edge-of-two : (i : ℕ) → i < 2 → onEdge i 2 ≡ true

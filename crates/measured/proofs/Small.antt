@@ -7,27 +7,27 @@ use lib.ListN.{length, getD, replicate}
 use lib.IntN.{pos, negsuc}
 use lib.Dec.{lit<}
 use lib.Ieee.{Float, fin, binary64, ofBits, ofInt, add, sub, mul, div, lt, le, toUnsigned, size, odd}
+use Rattle.lists.proofs.Tables.{getD-tabulate}
 use Rattle.root.specs.Nearest.{nearestRoot}
 use Rattle.root.specs.Root.{squareRoot, rootOf, scale}
 use Rattle.float.specs.Sign.{absOf}
 use Rattle.float.specs.Whole.{ceilOf}
+use Rattle.float.specs.Zero.{plusZero}
 use Rattle.geometry.specs.declared.Vec3i.{Vec3i}
 use Rattle.geometry.specs.Values.{vec3, vec3i, box}
 use Rattle.geometry.specs.Box.{intersectsOf}
 use Rattle.geometry.specs.Index.{indicesOf, placeOf}
 use Rattle.geometry.specs.Axis.{asFloat, stepAlong, along, alongEnd}
 use Rattle.geometry.specs.Octet.{octetOrder, octetPlaces}
-use Rattle.model.specs.Part.{plusZero}
-use Rattle.model.proofs.Tables.{getD-tabulate}
+use Rattle.dense_field.specs.Field.{onEdge, outside}
+use Rattle.dense_field.specs.Threshold.{cut}
+use Rattle.dense_field.specs.Smoothing.{neighbourSum, blended, smoothedAt, smoothedOnce, smoothed}
 use Rattle.grid.specs.Ranges.{anyBelow, countBelow, listBelow}
 use Rattle.grid.specs.Nodes.{nodeSize, nodesAlong, nodeCounts}
 use Rattle.grid.specs.Boxes.{nodeLeast, nodeMost, nodeBoxAt, nodeBox, childBoxAt, childBox, active}
 use Rattle.grid.specs.Corners.{octet, among, needed, neededCorners}
 use Rattle.grid.specs.Pruning.{folded, average}
-use Rattle.dense_field.specs.Field.{onEdge, outside}
-use Rattle.dense_field.specs.Threshold.{cut}
 use Rattle.measured.specs.Measured.{minusZero, minusOne, half, aboveTwo, cubic, activeIn, cornersIn, CentreOfSixes}
-use Rattle.dense_field.specs.Smoothing.{neighbourSum, blended, smoothedAt, smoothedOnce, smoothed}
 
 pub eight-of-eight : activeIn (cubic (asFloat 1) 2 2) ≡ 8
 unfolding countBelow active nodeBox nodeBoxAt nodeLeast nodeMost nodeSize nodeCounts nodesAlong ceilOf childBox childBoxAt stepAlong along alongEnd indicesOf intersectsOf ofInt add sub mul div le toUnsigned

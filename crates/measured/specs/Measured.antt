@@ -8,12 +8,15 @@ use lib.ListN.{length, getD, replicate}
 use lib.IntN.{pos, negsuc}
 use lib.Ieee.{Float, nan, fin, binary64, ofBits, add, eq, le}
 use Rattle.root.specs.Root.{squareRoot}
+use Rattle.float.specs.Zero.{plusZero}
 use Rattle.geometry.specs.declared.Vec3i.{Vec3i}
 use Rattle.geometry.specs.declared.BoundingBox.{BoundingBox}
 use Rattle.geometry.specs.Values.{vec3, vec3i, box}
 use Rattle.geometry.specs.Index.{indicesOf}
 use Rattle.geometry.specs.Axis.{asFloat}
-use Rattle.model.specs.Part.{plusZero}
+use Rattle.dense_field.specs.Field.{pointsOf, outside}
+use Rattle.dense_field.specs.Threshold.{cut}
+use Rattle.dense_field.specs.Smoothing.{smoothed}
 use Rattle.grid.specs.declared.Grid.{Grid}
 use Rattle.grid.specs.Ranges.{countBelow}
 use Rattle.grid.specs.Blocks.{cube}
@@ -21,9 +24,6 @@ use Rattle.grid.specs.Nodes.{nodeSize, nodesAlong}
 use Rattle.grid.specs.Boxes.{active}
 use Rattle.grid.specs.Corners.{neededCorners}
 use Rattle.grid.specs.Pruning.{halfDiagonal, lowest, highest, pruned, average}
-use Rattle.dense_field.specs.Field.{pointsOf, outside}
-use Rattle.dense_field.specs.Threshold.{cut}
-use Rattle.dense_field.specs.Smoothing.{smoothed}
 
 -- floats by name: -0, -1, 1/2, and the next float above 2
 abbrev pub minusZero : Float

@@ -1,6 +1,6 @@
 -- A model that cause 4 does not refuse: its count and its order, and its value from its flat layout.
-use mathlib.Core.Path.{_≡_, refl, ap, _∙_}
-use mathlib.Core.Bool.{Bool, true, false, _||_}
+use mathlib.Core.Path.{_≡_, ap, _∙_}
+use mathlib.Core.Bool.{true, false, _||_}
 use mathlib.Core.List.{map}
 use Prim.Native.Nat.{ℕ, min, _≤_}
 use native.Mathlib.Nat.{min-eq-left}
@@ -9,20 +9,12 @@ use lib.Dec.{eqb, ltb}
 use lib.ListN.{length, length-map}
 use lib.Ieee.{Float}
 use borrow.Author.Tests.{ltb-false, not-false}
+use Rattle.lists.proofs.Tests.{or-left, or-right}
 use Rattle.model.specs.Part.{partIn}
 use Rattle.model.specs.Model.{orderedTo, modelValue, refusedByFour}
 use Rattle.model.specs.Flat.{Flat, layoutOf, partsOf}
 use Rattle.model.specs.declared.ImplicitModel.{ImplicitModel}
 use Rattle.model.proofs.ReadBack.{same-value}
-
-or-left : (a b : Bool) → (a || b) ≡ false → a ≡ false
-or-left true b e = e
-or-left false b e = refl
-
-or-right : (a b : Bool) → (a || b) ≡ false → b ≡ false
-or-right true true e = e
-or-right true false e = refl
-or-right false b e = e
 
 module _ (m : ImplicitModel) (passed : refusedByFour m ≡ false) where
   pub count-le : m .count ≤ 64

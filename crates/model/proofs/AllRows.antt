@@ -11,13 +11,14 @@ use lib.ListN.{length, getD, drop}
 use lib.Seq.{ext-getD}
 use lib.Ieee.{Float}
 use borrow.Author.Tests.{ltb-true, ltb-false}
-use Rattle.model.specs.Part.{plusZero, past, partValue}
+use Rattle.lists.specs.Tabulate.{tabulate}
+use Rattle.lists.proofs.Lists.{getD-any}
+use Rattle.lists.proofs.Tables.{length-tabulate, getD-tabulate, tabulate-cong, getD-before, getD-last}
+use Rattle.float.specs.Zero.{plusZero}
+use Rattle.model.specs.Part.{past, partValue}
 use Rattle.model.specs.Model.{valuesTo, modelValue}
-use Rattle.model.specs.Tabulate.{tabulate}
 use Rattle.model.specs.Flat.{Flat, partAt, partsOf}
 use Rattle.model.specs.Row.{laneAt, filledRow, lane, valuesAt, evaluatedRows, modelRow}
-use Rattle.model.proofs.Lists.{getD-any}
-use Rattle.model.proofs.Tables.{length-tabulate, getD-tabulate, tabulate-cong, getD-before, getD-last}
 use Rattle.model.proofs.Values.{length-valuesTo, reads-below}
 use Rattle.model.proofs.ReadBack.{partAt-below}
 use Rattle.model.proofs.FlatValues.{value-more, none-value}

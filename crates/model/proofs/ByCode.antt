@@ -9,9 +9,10 @@ use lib.ListN.{getD, List·getD-eq-default}
 use lib.Ieee.{Float, binary64, add, sub, neg}
 use borrow.Author.Tests.{lt-ltb, le-ltb}
 use Rattle.float.specs.Select.{minOf, maxOf}
+use Rattle.float.specs.Zero.{plusZero}
 use Rattle.geometry.specs.declared.Vec3.{Vec3}
 use Rattle.geometry.specs.Values.{vec3}
-use Rattle.model.specs.Part.{plusZero, past, sphereValue, planeValue, partValue, inputsBelow}
+use Rattle.model.specs.Part.{past, sphereValue, planeValue, partValue, inputsBelow}
 use Rattle.model.specs.declared.Part.{Part}
 use Rattle.model.specs.declared.Part.the-variants.{Constant, Sphere, Plane, Min, Max, Add, Sub, Neg}
 use Rattle.model.specs.Flat.{Flat, partFrom, placed, partAt}

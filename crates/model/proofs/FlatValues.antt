@@ -6,13 +6,14 @@ use native.Mathlib.Numerals.{add-one}
 use native.Mathlib.Omega.{arith}
 use lib.ListN.{length, getD, set, drop, length-append, length-drop, List·getD-append}
 use lib.Ieee.{Float}
-use Rattle.model.specs.Part.{plusZero, past, partValue}
+use Rattle.lists.proofs.Lists.{front-set, getD-any}
+use Rattle.lists.proofs.Tables.{getD-tabulate}
+use Rattle.float.specs.Zero.{plusZero}
+use Rattle.model.specs.Part.{past, partValue}
 use Rattle.model.specs.Model.{partOf, valuesTo, modelValue}
 use Rattle.model.specs.Flat.{Flat, partAt, partsOf}
 use Rattle.model.specs.declared.Part.{Part}
 use Rattle.model.specs.declared.Part.the-variants.{Constant}
-use Rattle.model.proofs.Lists.{front-set, getD-any}
-use Rattle.model.proofs.Tables.{getD-tabulate}
 use Rattle.model.proofs.Values.{length-valuesTo, reads-below}
 use Rattle.model.proofs.ReadBack.{partAt-below}
 

@@ -1,6 +1,4 @@
-pub mod Lists
 pub mod InOrder
-pub mod Tables
 pub mod Values
 pub mod ReadBack
 pub mod ByCode

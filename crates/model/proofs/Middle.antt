@@ -1,14 +1,17 @@
 -- A row that is lent as a part of the whole list, and comes back with g applied to each of its lanes.
-use mathlib.Core.Path.{_≡_, ap, _∙_}
+use mathlib.Core.Path.{_≡_, refl, ap, _∙_}
+use mathlib.Core.Bool.{Bool, true, false}
 use mathlib.Core.List.{List, map, _++_}
 use Prim.Native.Nat.{ℕ, _+_, _*_, _-_, _≤_, _<_}
 use native.Mathlib.Omega.{arith}
+use lib.Dec.{ltb}
 use lib.ListN.{length, getD, take, drop, length-append, length-drop, length-map, List·getD-append}
 use lib.Seq.{length-take-le, getD-take, getD-drop, getD-append-add}
 use lib.Ieee.{Float}
+use borrow.Author.Tests.{ltb-true, ltb-false}
+use Rattle.lists.proofs.Lists.{getD-map-in}
 use Rattle.model.specs.Part.{past}
 use Rattle.model.specs.Row.{laneAt, filledRow}
-use Rattle.model.proofs.Lists.{getD-map-in}
 use Rattle.model.proofs.Rows.{filled-is}
 
 module _ (values : List Float) (p n : ℕ) (g : Float → Float) (long : laneAt p n ≤ length values) where
@@ -56,12 +59,22 @@ module _ (values : List Float) (p n : ℕ) (g : Float → Float) (long : laneAt 
       ∙ getD-drop (p * 64) values (n + r) past
       ∙ ap (λ (i : ℕ). getD values i past) back
 
+  before-row : (j : ℕ) → j < p * 64 → getD (before ++ (map g row ++ after)) j past ≡ getD values j past
+  before-row j h =
+      List·getD-append before (map g row ++ after) past j (omega (arith, before-long)) ∙ getD-take (p * 64) values j past h
+
+  apart : (j : ℕ) → (p * 64 ≤ j → laneAt p n ≤ j) → getD (before ++ (map g row ++ after)) j past ≡ getD values j past
+  apart j out = one (ltb j (p * 64)) refl
+    where
+      one : (b : Bool) → ltb j (p * 64) ≡ b → getD (before ++ (map g row ++ after)) j past ≡ getD values j past
+      one true t = before-row j (ltb-true j (p * 64) t)
+      one false t = past-row j (out (ltb-false j (p * 64) t))
+
   whole-filled : before ++ (map g row ++ after) ≡ filledRow values p n (λ k. g (getD values (laneAt p k) past))
   whole-filled =
       filled-is values p n _ (before ++ (map g row ++ after)) whole-long
-      (λ j h. List·getD-append before (map g row ++ after) past j (omega (arith, before-long)) ∙ getD-take (p * 64) values j past h)
       (λ k h within. in-row k h)
-      past-row
+      apart
 
   -- the same, where the part's length is the end less the start
   pub lent-row : {ys : List Float} → ys ≡ map g (take (laneAt p n - p * 64) (drop (p * 64) values))

@@ -7,15 +7,16 @@ use native.Mathlib.Omega.{arith}
 use lib.ListN.{length, getD, take}
 use lib.Seq.{ext-getD, getD-take, length-take-le}
 use lib.Ieee.{Float}
+use Rattle.lists.proofs.Lists.{getD-map-in}
+use Rattle.lists.proofs.Tables.{length-tabulate, getD-tabulate}
+use Rattle.float.specs.Zero.{plusZero}
 use Rattle.geometry.specs.Values.{vec3}
-use Rattle.model.specs.Part.{plusZero, past, inputsBelow}
+use Rattle.model.specs.Part.{past, inputsBelow}
 use Rattle.model.specs.Model.{partOf, orderedTo, modelValue}
 use Rattle.model.specs.Flat.{Flat, codeOf, firstInput, secondInput, vectorOf, numberOf, layoutOf, partFrom, placed, partAt, partsOf}
 use Rattle.model.specs.declared.Part.{Part}
 use Rattle.model.specs.declared.Part.the-variants.{Constant, Sphere, Plane, Min, Max, Add, Sub, Neg}
-use Rattle.model.proofs.Lists.{getD-map-in}
 use Rattle.model.proofs.InOrder.{ordered-at}
-use Rattle.model.proofs.Tables.{length-tabulate, getD-tabulate}
 use Rattle.model.proofs.Values.{modelValue-cong}
 
 pub placed-below : (p : ℕ) (part : Part) → inputsBelow p (placed p part) ≡ true

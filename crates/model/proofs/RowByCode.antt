@@ -4,13 +4,14 @@ use mathlib.Core.List.{List}
 use Prim.Native.Nat.{ℕ, _≤_, _<_}
 use lib.ListN.{getD}
 use lib.Ieee.{Float, binary64, add, sub, neg}
+use Rattle.lists.proofs.Tables.{getD-tabulate}
 use Rattle.float.specs.Select.{minOf, maxOf}
+use Rattle.float.specs.Zero.{plusZero}
 use Rattle.geometry.specs.declared.Vec3.{Vec3}
 use Rattle.geometry.specs.Values.{vec3}
-use Rattle.model.specs.Part.{plusZero, past, sphereValue, planeValue, partValue}
+use Rattle.model.specs.Part.{past, sphereValue, planeValue, partValue}
 use Rattle.model.specs.Flat.{Flat, partAt}
 use Rattle.model.specs.Row.{laneAt, filledRow, lane}
-use Rattle.model.proofs.Tables.{getD-tabulate}
 use Rattle.model.proofs.Rows.{filled-cong}
 use Rattle.model.proofs.ByCode.{at-entries, valueOf, of-constant, of-sphere, of-plane, of-min, of-max, of-add, of-sub, of-neg, first-late, second-late, of-other}
 

@@ -1,6 +1,6 @@
 -- The values of a list of parts: how many there are, and what they depend on.
 use mathlib.Core.Path.{_≡_, refl, ap, _∙_}
-use mathlib.Core.Bool.{Bool, true, false, _&&_}
+use mathlib.Core.Bool.{true, _&&_}
 use mathlib.Core.List.{List, [], _∷_, _++_}
 use Prim.Native.Nat.{ℕ, zero, suc, _+_, _-_, _<_}
 use native.Mathlib.Omega.{arith}
@@ -8,12 +8,14 @@ use lib.Dec.{ltb}
 use lib.ListN.{length, getD}
 use lib.Ieee.{Float, binary64, add, sub, neg}
 use borrow.Author.Tests.{ltb-true}
+use Rattle.lists.proofs.Tests.{and-left, and-right}
+use Rattle.lists.proofs.Tables.{length-more}
 use Rattle.float.specs.Select.{minOf, maxOf}
-use Rattle.model.specs.Part.{plusZero, past, partValue, inputsBelow}
+use Rattle.float.specs.Zero.{plusZero}
+use Rattle.model.specs.Part.{past, partValue, inputsBelow}
 use Rattle.model.specs.Model.{partOf, valuesTo, modelValue}
 use Rattle.model.specs.declared.Part.{Part}
 use Rattle.model.specs.declared.Part.the-variants.{Constant, Sphere, Plane, Min, Max, Add, Sub, Neg}
-use Rattle.model.proofs.Tables.{length-more}
 
 pub length-valuesTo : (parts : List Part) (x y z : Float) (p : ℕ) → length (valuesTo parts x y z p) ≡ p
 unfolding valuesTo
@@ -23,15 +25,6 @@ length-valuesTo parts x y z (suc p) = length-more (valuesTo parts x y z p) _ ∙
 -- two lists that agree below p
 abbrev pub Agree : (u v : List Float) → ℕ → Type 0
 Agree u v p = (q : ℕ) → q < p → getD u q past ≡ getD v q past
-
-and-left : (a b : Bool) → (a && b) ≡ true → a ≡ true
-and-left true b e = refl
-and-left false b e = e
-
-and-right : (a b : Bool) → (a && b) ≡ true → b ≡ true
-and-right true b e = e
-and-right false true e = refl
-and-right false false e = e
 
 two : (f : Float → Float → Float) (u v : List Float) (a b p : ℕ) → (ltb a p && ltb b p) ≡ true → Agree u v p
     → f (getD u a past) (getD u b past) ≡ f (getD v a past) (getD v b past)

@@ -4,10 +4,11 @@ use mathlib.Core.Bool.{cond}
 use mathlib.Core.List.{List, [], _∷_, map}
 use lib.ListN.{getD}
 use lib.Ieee.{Float}
+use Rattle.lists.specs.Tabulate.{tabulate}
+use Rattle.float.specs.Zero.{plusZero}
 use Rattle.geometry.specs.declared.Vec3.{Vec3}
 use Rattle.geometry.specs.Values.{vec3}
-use Rattle.model.specs.Part.{plusZero, past, inputsBelow}
-use Rattle.model.specs.Tabulate.{tabulate}
+use Rattle.model.specs.Part.{past, inputsBelow}
 use Rattle.model.specs.declared.Part.{Part}
 use Rattle.model.specs.declared.Part.the-variants.{Constant, Sphere, Plane, Min, Max, Add, Sub, Neg}
 

@@ -5,13 +5,14 @@ use mathlib.Core.List.{List, [], _∷_, _++_, map}
 use lib.ListN.{getD}
 use lib.Dec.{eqb, ltb}
 use lib.Ieee.{Float}
-use Rattle.model.specs.Part.{plusZero, partIn, partValue, inputsBelow}
+use Rattle.float.specs.Zero.{plusZero}
+use Rattle.geometry.specs.Causes.{cause, firstOf}
+use Rattle.model.specs.Part.{partIn, partValue, inputsBelow}
 use Rattle.model.specs.declared.Part.{Part}
 use Rattle.model.specs.declared.Part.the-variants.{Constant}
 use Rattle.model.specs.declared.ImplicitModel.{ImplicitModel}
 use Rattle.model.specs.declared.Evaluation.{Evaluation}
 use Rattle.model.specs.declared.Evaluation.the-variants.{Value, Refused}
-use Rattle.geometry.specs.Causes.{cause, firstOf}
 
 -- the part at a place of a list
 abbrev pub partOf : List Part → ℕ → Part

@@ -4,17 +4,13 @@ use mathlib.Core.Bool.{Bool, true, _&&_}
 use mathlib.Core.List.{List}
 use lib.ListN.{getD}
 use lib.Dec.{ltb}
-use lib.Ieee.{Float, nan, binary64, ofBits, add, sub, mul, neg}
+use lib.Ieee.{Float, nan, binary64, add, sub, mul, neg}
 use Rattle.float.specs.Select.{minOf, maxOf}
 use Rattle.geometry.specs.declared.Vec3.{Vec3}
 use Rattle.geometry.specs.Distance.{distanceOf}
 use Rattle.model.specs.declared.Part.{Part}
 use Rattle.model.specs.declared.Part.the-variants.{Constant, Sphere, Plane, Min, Max, Add, Sub, Neg}
 use Rattle.model.specs.declared.ModelComponent.{ModelComponent}
-
--- +0, the float whose bits are all 0
-abbrev pub plusZero : Float
-plusZero = ofBits binary64 0
 
 -- what is read past the end of a list, where no input of a model in order reads
 abbrev pub past : Float

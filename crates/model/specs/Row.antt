@@ -1,13 +1,14 @@
 -- Values of parts at a row of points: part p's value at lane k stands at p × 64 + k.
-use Prim.Native.Nat.{ℕ, zero, suc, _+_, _*_, _/_, _%_}
+use Prim.Native.Nat.{ℕ, _+_, _-_, _*_, _/_, _%_}
 use mathlib.Core.Bool.{cond, _&&_}
 use mathlib.Core.List.{List, _++_}
 use lib.Dec.{ltb}
-use lib.ListN.{length, getD, set, drop}
+use lib.ListN.{length, getD, drop}
 use lib.Ieee.{Float}
+use Rattle.lists.specs.Tabulate.{tabulate}
+use Rattle.lists.specs.Filled.{filled}
 use Rattle.model.specs.Part.{past}
 use Rattle.model.specs.Model.{valuesTo, modelValue}
-use Rattle.model.specs.Tabulate.{tabulate}
 use Rattle.model.specs.Flat.{Flat, partsOf}
 
 -- the place of part p's value at lane k
@@ -16,8 +17,7 @@ laneAt p k = p * 64 + k
 
 -- row p with its first n lanes set to f 0, f 1, ..
 unfoldable pub filledRow : List Float → (p n : ℕ) → (ℕ → Float) → List Float
-filledRow values p zero f = values
-filledRow values p (suc n) f = set (filledRow values p n f) (laneAt p n) (f n)
+filledRow values p n f = filled (p * 64) n (λ q. f (q - p * 64)) values
 
 -- the values of the first p parts at lane k
 abbrev pub lane : List Float → (k p : ℕ) → List Float

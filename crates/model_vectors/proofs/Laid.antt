@@ -5,13 +5,13 @@ use Prim.Native.Nat.{ℕ, min}
 use native.Mathlib.Omega.{arith}
 use lib.ListN.{length, getD, drop, List·getD-append}
 use lib.Ieee.{Float}
+use Rattle.lists.specs.Tabulate.{tabulate}
+use Rattle.lists.proofs.Tables.{length-tabulate, getD-tabulate}
 use Rattle.model.specs.Part.{partIn, past}
 use Rattle.model.specs.Model.{modelValue}
 use Rattle.model.specs.Flat.{Flat, layoutOf, partsOf}
 use Rattle.model.specs.Row.{modelRow}
-use Rattle.model.specs.Tabulate.{tabulate}
 use Rattle.model.specs.declared.ImplicitModel.{ImplicitModel}
-use Rattle.model.proofs.Tables.{length-tabulate, getD-tabulate}
 use Rattle.model_vectors.specs.Compare.{flatValue}
 
 module _ (m : ImplicitModel) (l : Flat) (laid : l ≡ layoutOf (map partIn (m .parts))) where

@@ -1,8 +1,8 @@
 -- `box_refused` meets its contract.
 use mathlib.Core.Path.{_≡_, sym, _∙_}
 use borrow.Author.Needs.{needs}
+use Rattle.lists.proofs.Tests.{or-fifth}
 use Rattle.geometry.specs.Bounds.{boxRefused}
-use Rattle.geometry.proofs.Flags.{or-fifth}
 use Rattle.geometry.proofs.box_refused.Statement.{statement}
 use Rattle.geometry.proofs.box_refused.Tie as tie
 

@@ -6,10 +6,10 @@ use mathlib.Core.List.{map}
 use Prim.Native.Nat.{_≤_, _<_, _-_}
 use native.Mathlib.Numerals.{add-one}
 use lib.ListN.{length}
+use Rattle.lists.proofs.Lists.{getD-map-in}
 use Rattle.model.proofs.InOrder.{unordered}
 use Rattle.model.specs.Part.{partIn, inputsBelow}
 use Rattle.model.specs.Model.{orderedTo}
-use Rattle.model.proofs.Lists.{getD-map-in}
 use native.Mathlib.Omega.{arith}
 use borrow.Author.Tests.{not-true, not-false}
 use Rattle.model.proofs.ordered.Statement.{statement}

@@ -4,8 +4,8 @@ use native.Mathlib.Omega.{arith}
 use borrow.Author.Needs.{needs}
 use Prim.Native.Nat.{_≤_, _-_}
 use lib.ListN.{length}
-use Rattle.dense_field.specs.Filled.{filled}
-use Rattle.dense_field.proofs.Filling.{filled-none, filled-length, filled-store, filled-done}
+use Rattle.lists.specs.Filled.{filled}
+use Rattle.lists.proofs.Filling.{filled-none, filled-length, filled-store, filled-done}
 use Rattle.dense_field.proofs.pad.fill.Statement.{statement}
 use Rattle.dense_field.proofs.pad.fill.Tie as tie
 

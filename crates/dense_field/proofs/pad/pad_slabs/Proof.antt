@@ -5,10 +5,10 @@ use borrow.Author.Needs.{needs}
 use Prim.Native.Nat.{_+_, _*_, _-_, _≤_}
 use native.Mathlib.Nat.{mul-comm}
 use lib.ListN.{length}
+use Rattle.lists.specs.Filled.{filled}
+use Rattle.lists.proofs.Filling.{filled-none, filled-length, filled-done}
 use Rattle.dense_field.specs.Lent.{Lent}
-use Rattle.dense_field.specs.Filled.{filled}
 use Rattle.dense_field.specs.Padding.{paddedAt}
-use Rattle.dense_field.proofs.Filling.{filled-none, filled-length, filled-done}
 use Rattle.dense_field.proofs.PadLaws.{pad-more, pad-all}
 use Rattle.dense_field.proofs.pad.pad_slabs.Statement.{statement}
 use Rattle.dense_field.proofs.pad.pad_slabs.Tie as tie

@@ -4,9 +4,9 @@ use native.Mathlib.Omega.{arith}
 use borrow.Author.Needs.{needs}
 use Prim.Native.Nat.{_+_, _≤_, _-_}
 use lib.ListN.{length, getD}
+use Rattle.lists.specs.Filled.{filled}
+use Rattle.lists.proofs.Filling.{filled-none, filled-length, filled-store, filled-done}
 use Rattle.model.specs.Part.{past}
-use Rattle.dense_field.specs.Filled.{filled}
-use Rattle.dense_field.proofs.Filling.{filled-none, filled-length, filled-store, filled-done}
 use Rattle.dense_field.proofs.sampling.copy_run.Statement.{statement}
 use Rattle.dense_field.proofs.sampling.copy_run.Tie as tie
 

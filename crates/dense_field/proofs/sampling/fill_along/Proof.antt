@@ -5,9 +5,9 @@ use borrow.Author.Needs.{needs}
 use lib.Ieee.{Float}
 use Prim.Native.Nat.{ℕ, _+_, _≤_, _-_}
 use lib.ListN.{length, set}
-use Rattle.dense_field.specs.Filled.{filled}
+use Rattle.lists.specs.Filled.{filled}
+use Rattle.lists.proofs.Filling.{filled-none, filled-length, filled-store, filled-done}
 use Rattle.dense_field.specs.Runs.{axisPoint}
-use Rattle.dense_field.proofs.Filling.{filled-none, filled-length, filled-store, filled-done}
 use Rattle.dense_field.proofs.sampling.fill_along.Statement.{statement}
 use Rattle.dense_field.proofs.sampling.fill_along.Tie as tie
 

@@ -4,12 +4,12 @@ use native.Mathlib.Omega.{arith}
 use borrow.Author.Needs.{needs}
 use Prim.Native.Nat.{min, _+_, _*_, _≤_, _-_}
 use lib.ListN.{length}
+use Rattle.lists.specs.Filled.{filled}
+use Rattle.lists.proofs.Filling.{filled-none, filled-length, filled-more, filled-done}
 use Rattle.model.specs.Flat.{flat}
 use Rattle.dense_field.specs.Lent.{Lent}
-use Rattle.dense_field.specs.Filled.{filled}
 use Rattle.dense_field.specs.Runs.{flatAt}
 use Rattle.dense_field.proofs.PadLaws.{Within, within}
-use Rattle.dense_field.proofs.Filling.{filled-none, filled-length, filled-more, filled-done}
 use Rattle.dense_field.proofs.sampling.sample_row.Statement.{statement}
 use Rattle.dense_field.proofs.sampling.sample_row.Tie as tie
 

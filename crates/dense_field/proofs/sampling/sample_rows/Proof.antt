@@ -4,13 +4,13 @@ use native.Mathlib.Omega.{arith}
 use borrow.Author.Needs.{needs}
 use Prim.Native.Nat.{min, _+_, _*_, _≤_, _-_}
 use lib.ListN.{length}
+use Rattle.lists.specs.Filled.{filled}
+use Rattle.lists.proofs.Filling.{filled-none, filled-length, filled-more, filled-done, filled-all}
+use Rattle.float.specs.Zero.{plusZero}
 use Rattle.model.specs.Flat.{flat}
-use Rattle.model.specs.Part.{plusZero}
 use Rattle.dense_field.specs.Lent.{Lent}
 use Rattle.dense_field.specs.Field.{pointsOf}
-use Rattle.dense_field.specs.Filled.{filled}
 use Rattle.dense_field.specs.Runs.{flatAt}
-use Rattle.dense_field.proofs.Filling.{filled-none, filled-length, filled-more, filled-done, filled-all}
 use Rattle.dense_field.proofs.RunLaws.{RowIn, row-in, row-number, rows-few, rows-all}
 use Rattle.dense_field.proofs.sampling.sample_rows.Statement.{statement}
 use Rattle.dense_field.proofs.sampling.sample_rows.Tie as tie

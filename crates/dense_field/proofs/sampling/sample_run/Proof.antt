@@ -3,9 +3,9 @@ use mathlib.Core.Path.{sym, ap, _∙_}
 use native.Mathlib.Omega.{arith}
 use borrow.Author.Needs.{needs}
 use lib.ListN.{length, replicate, length-replicate}
-use Rattle.model.specs.Part.{plusZero}
+use Rattle.lists.specs.Filled.{filled}
+use Rattle.float.specs.Zero.{plusZero}
 use Rattle.dense_field.specs.Lent.{Lent}
-use Rattle.dense_field.specs.Filled.{filled}
 use Rattle.dense_field.proofs.PadLaws.{Within, within}
 use Rattle.dense_field.proofs.RunLaws.{run-filled, row-length}
 use Rattle.dense_field.proofs.sampling.sample_run.Statement.{statement}

@@ -5,10 +5,10 @@ use native.Mathlib.Omega.{arith}
 use borrow.Author.Needs.{needs}
 use lib.Ieee.{Float, binary64, sub}
 use lib.ListN.{length}
+use Rattle.lists.specs.Filled.{filled}
+use Rattle.lists.proofs.Filling.{filled-none, filled-store, filled-done}
 use Rattle.geometry.specs.Axis.{asFloat}
-use Rattle.dense_field.specs.Filled.{filled}
 use Rattle.dense_field.specs.Slices.{blendedAt}
-use Rattle.dense_field.proofs.Filling.{filled-none, filled-store, filled-done}
 use Rattle.dense_field.proofs.SmoothingLaws.{one-as-float, blended-read}
 use Rattle.dense_field.proofs.smoothing.blend_values.Statement.{statement}
 use Rattle.dense_field.proofs.smoothing.blend_values.Tie as tie

@@ -5,9 +5,9 @@ use native.Mathlib.Omega.{arith}
 use borrow.Author.Needs.{needs}
 use lib.ListN.{length, set}
 use native.Mathlib.Nat.{zero-add}
-use Rattle.model.specs.Part.{plusZero}
-use Rattle.dense_field.specs.Filled.{filled}
-use Rattle.dense_field.proofs.Filling.{filled-none, filled-store, filled-done, filled-constant}
+use Rattle.lists.specs.Filled.{filled}
+use Rattle.lists.proofs.Filling.{filled-none, filled-store, filled-done, filled-constant}
+use Rattle.float.specs.Zero.{plusZero}
 use Rattle.dense_field.proofs.smoothing.clear.Statement.{statement}
 use Rattle.dense_field.proofs.smoothing.clear.Tie as tie
 

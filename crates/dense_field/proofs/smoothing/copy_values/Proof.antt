@@ -5,11 +5,11 @@ use native.Mathlib.Omega.{arith}
 use borrow.Author.Needs.{needs}
 use lib.Ieee.{nan}
 use lib.ListN.{length}
-use Rattle.model.specs.Part.{plusZero}
-use Rattle.model.proofs.Lists.{getD-any}
-use Rattle.dense_field.specs.Filled.{filled}
+use Rattle.lists.proofs.Lists.{getD-any}
+use Rattle.lists.specs.Filled.{filled}
+use Rattle.lists.proofs.Filling.{filled-none, filled-store, filled-done}
+use Rattle.float.specs.Zero.{plusZero}
 use Rattle.dense_field.specs.Slices.{valueOf}
-use Rattle.dense_field.proofs.Filling.{filled-none, filled-store, filled-done}
 use Rattle.dense_field.proofs.smoothing.copy_values.Statement.{statement}
 use Rattle.dense_field.proofs.smoothing.copy_values.Tie as tie
 

@@ -5,7 +5,7 @@ use native.Mathlib.Omega.{arith}
 use borrow.Author.Needs.{needs}
 use lib.ListN.{length, take, replicate}
 use lib.Seq.{length-take-le, length-front}
-use Rattle.model.specs.Part.{plusZero}
+use Rattle.float.specs.Zero.{plusZero}
 use Rattle.dense_field.proofs.SmoothingLaws.{scratch-long, smooth-slices}
 use Rattle.dense_field.proofs.smoothing.smooth.Statement.{statement}
 use Rattle.dense_field.proofs.smoothing.smooth.Tie as tie

@@ -4,10 +4,10 @@ use Prim.Native.Nat.{ℕ, _+_, _-_, _*_, _≤_, _<_}
 use native.Mathlib.Omega.{arith}
 use borrow.Author.Needs.{needs}
 use lib.ListN.{length}
-use Rattle.dense_field.specs.Filled.{filled}
+use Rattle.lists.specs.Filled.{filled}
+use Rattle.lists.proofs.Filling.{filled-none, filled-length, filled-done, filled-more}
 use Rattle.dense_field.specs.Slices.{Slices}
 use Rattle.dense_field.specs.Smoothing.{smoothedAt}
-use Rattle.dense_field.proofs.Filling.{filled-none, filled-length, filled-done, filled-more}
 use Rattle.dense_field.proofs.SmoothingLaws.{all-slabs}
 use Rattle.dense_field.proofs.smoothing.smooth_once.Statement.{statement}
 use Rattle.dense_field.proofs.smoothing.smooth_once.Tie as tie

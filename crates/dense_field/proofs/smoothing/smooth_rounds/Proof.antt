@@ -4,10 +4,10 @@ use Prim.Native.Nat.{ℕ, _+_, _-_, _*_, _≤_, _<_}
 use native.Mathlib.Omega.{arith}
 use borrow.Author.Needs.{needs}
 use lib.ListN.{length}
-use Rattle.model.specs.Part.{plusZero}
+use Rattle.lists.proofs.Filling.{filled-copy}
+use Rattle.float.specs.Zero.{plusZero}
 use Rattle.dense_field.specs.Slices.{Slices}
 use Rattle.dense_field.specs.Smoothing.{smoothed}
-use Rattle.dense_field.proofs.Filling.{filled-copy}
 use Rattle.dense_field.proofs.SmoothingLaws.{once-length, no-rounds, rounds-done, round-more, other-slices}
 use Rattle.dense_field.proofs.smoothing.smooth_rounds.Statement.{statement}
 use Rattle.dense_field.proofs.smoothing.smooth_rounds.Tie as tie

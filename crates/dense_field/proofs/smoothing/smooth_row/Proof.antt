@@ -5,8 +5,8 @@ use native.Mathlib.Nat.{mul-le-mul-right}
 use native.Mathlib.Omega.{arith}
 use lib.ListN.{length}
 use borrow.Author.Needs.{needs}
+use Rattle.lists.proofs.Filling.{filled-length}
 use Rattle.dense_field.specs.Slices.{Slices, Between}
-use Rattle.dense_field.proofs.Filling.{filled-length}
 use Rattle.dense_field.proofs.SmoothingLaws.{RowIn, SlabIn, row-in, slab-in, first-edge, last-edge, thin-row, edge-row, inner-row}
 use Rattle.dense_field.proofs.smoothing.smooth_row.Statement.{statement}
 use Rattle.dense_field.proofs.smoothing.smooth_row.Tie as tie

@@ -5,10 +5,10 @@ use native.Mathlib.Nat.{mul-comm}
 use native.Mathlib.Omega.{arith}
 use borrow.Author.Needs.{needs}
 use lib.ListN.{length}
-use Rattle.dense_field.specs.Filled.{filled}
+use Rattle.lists.specs.Filled.{filled}
+use Rattle.lists.proofs.Filling.{filled-none, filled-length, filled-done, filled-more}
 use Rattle.dense_field.specs.Slices.{Slices}
 use Rattle.dense_field.specs.Smoothing.{smoothedAt}
-use Rattle.dense_field.proofs.Filling.{filled-none, filled-length, filled-done, filled-more}
 use Rattle.dense_field.proofs.SmoothingLaws.{RowIn, SlabIn, row-in, slab-in, first-edge, last-edge, slab-stays}
 use Rattle.dense_field.proofs.smoothing.smooth_slab.Statement.{statement}
 use Rattle.dense_field.proofs.smoothing.smooth_slab.Tie as tie

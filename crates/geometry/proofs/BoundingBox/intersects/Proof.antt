@@ -3,9 +3,9 @@ use mathlib.Core.Path.{_≡_, refl, sym}
 use mathlib.Core.Bool.{Bool, _&&_}
 use mathlib.Core.Logic.{⊎-elim}
 use lib.Ieee.{le}
+use Rattle.lists.proofs.Tests.{and-then, and-else}
 use Rattle.geometry.specs.Box.{intersectsOf}
 use Rattle.geometry.specs.declared.BoundingBox.{BoundingBox}
-use Rattle.geometry.proofs.Flags.{and-then, and-else}
 use Rattle.geometry.proofs.BoundingBox.intersects.Statement.{statement}
 use Rattle.geometry.proofs.BoundingBox.intersects.Tie as tie
 

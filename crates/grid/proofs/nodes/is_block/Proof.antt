@@ -1,5 +1,5 @@
 -- `is_block` meets its contract.
-use Rattle.grid.proofs.Any.{or-sixth}
+use Rattle.lists.proofs.Tests.{or-sixth}
 use mathlib.Core.Path.{sym, ap}
 use borrow.Author.Tests.{ne-eqb}
 use Rattle.grid.specs.Blocks.{isBlock}

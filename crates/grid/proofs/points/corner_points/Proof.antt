@@ -1,13 +1,13 @@
 -- `corner_points` meets its contract: the places passed hold their corners.
-use mathlib.Core.Path.{_≡_, ap, _∙_}
+use mathlib.Core.Path.{_≡_, sym, ap, _∙_}
 use Prim.Native.Nat.{ℕ, _+_, _-_, _≤_}
 use native.Mathlib.Omega.{arith}
 use lib.ListN.{length, getD}
+use Rattle.lists.specs.Filled.{filled}
+use Rattle.lists.proofs.Filling.{filled-none, front-store, filled-done, filled-same}
 use Rattle.geometry.specs.Index.{indicesOf}
 use Rattle.grid.specs.Corners.{cornerPoint}
-use Rattle.grid.specs.Rows.{rowOf}
 use Rattle.grid.specs.Steps.{cornerAt}
-use Rattle.grid.proofs.Filled.{filled-none, filled-more, filled-all}
 use Rattle.grid.proofs.Stepped.{corner-stepped}
 use borrow.Author.Needs.{needs}
 use Rattle.grid.proofs.points.corner_points.Statement.{statement}
@@ -16,9 +16,9 @@ use Rattle.grid.proofs.points.corner_points.Tie as tie
 abbrev Inv-loop : tie.InvT-loop
 Inv-loop n list xs₀ ys₀ zs₀ min c side q₀ xs ys zs q =
     (q ≤ length list)
-    × (xs ≡ rowOf q (λ q. cornerAt min c (indicesOf (getD list q 0) side side) .x) xs₀)
-    × (ys ≡ rowOf q (λ q. cornerAt min c (indicesOf (getD list q 0) side side) .y) ys₀)
-    × (zs ≡ rowOf q (λ q. cornerAt min c (indicesOf (getD list q 0) side side) .z) zs₀)
+    × (xs ≡ filled 0 q (λ q. cornerAt min c (indicesOf (getD list q 0) side side) .x) xs₀)
+    × (ys ≡ filled 0 q (λ q. cornerAt min c (indicesOf (getD list q 0) side side) .y) ys₀)
+    × (zs ≡ filled 0 q (λ q. cornerAt min c (indicesOf (getD list q 0) side side) .z) zs₀)
 
 abbrev μ-loop : tie.MeasureT-loop
 μ-loop n list xs₀ ys₀ zs₀ min c side q₀ xs ys zs q = length list - q
@@ -30,7 +30,7 @@ add-side : tie.Need-add-side Inv-loop μ-loop
 add-side c = search needs
 
 loop-holds : tie.Need-loop-holds Inv-loop μ-loop
-loop-holds c = (search needs, filled-none _ _, filled-none _ _, filled-none _ _)
+loop-holds c = (search needs, sym (filled-none _ _ _), sym (filled-none _ _ _), sym (filled-none _ _ _))
 
 mul-corner : tie.Need-mul-corner Inv-loop μ-loop
 mul-corner c = search needs
@@ -64,9 +64,9 @@ loop-again c =
     let there = c .before .before .before .before in
     let point = there .corner-at .ensures ∙ ap (cornerAt _ _) (there .before .indices .ensures) in (
       omega arith,
-      filled-more _ _ q (inv .1) (c .store-point .ensures .0) (ap (λ p. p .x) point),
-      filled-more _ _ q (inv .2) (c .store-point .ensures .1 .0) (ap (λ p. p .y) point),
-      filled-more _ _ q (inv .3) (c .store-point .ensures .1 .1) (ap (λ p. p .z) point),
+      c .store-point .ensures .0 ∙ front-store q _ _ (inv .1) (ap (λ p. p .x) point),
+      c .store-point .ensures .1 .0 ∙ front-store q _ _ (inv .2) (ap (λ p. p .y) point),
+      c .store-point .ensures .1 .1 ∙ front-store q _ _ (inv .3) (ap (λ p. p .z) point),
     )
 
 returns : tie.Need-returns Inv-loop μ-loop
@@ -76,8 +76,8 @@ returns c =
     let last : c .before .loop .q ≡ length (a .list .now) = omega arith in
     let same : (q : ℕ) → cornerAt (a .b .min) (c .before .before .corner-step .result) (indicesOf (getD (a .list .now) q 0) (a .n + 1) (a .n + 1)) ≡ cornerPoint (a .b) (a .n) (getD (a .list .now) q 0) =
     λ q. corner-stepped (a .b) (a .n) (getD (a .list .now) q 0) (c .before .before .corner-step .ensures) in (
-      filled-all _ _ _ (inv .1) last (λ q. ap (λ p. p .x) (same q)),
-      (filled-all _ _ _ (inv .2) last (λ q. ap (λ p. p .y) (same q)), filled-all _ _ _ (inv .3) last (λ q. ap (λ p. p .z) (same q))),
+      filled-done 0 _ _ (inv .1) last ∙ filled-same 0 _ _ _ _ (λ q from below. ap (λ p. p .x) (same q)),
+      (filled-done 0 _ _ (inv .2) last ∙ filled-same 0 _ _ _ _ (λ q from below. ap (λ p. p .y) (same q)), filled-done 0 _ _ (inv .3) last ∙ filled-same 0 _ _ _ _ (λ q from below. ap (λ p. p .z) (same q))),
     )
 
 pub corner-points-spec : {M : Type 1} → statement M

@@ -1,13 +1,13 @@
 -- `leaf_points` meets its contract: the places passed hold their points, and the indices are those of the next one.
 use mathlib.Core.Path.{_≡_, sym, ap, _∙_, subst}
 use Rattle.grid.proofs.Division.{column-below, line-below, slab-le}
-use Rattle.grid.proofs.Filled.{filled-none, filled-more, filled-all}
 use native.Mathlib.Nat.{add-zero, add-assoc}
 use Prim.Native.Nat.{ℕ, _+_, _-_, _≤_, _<_}
 use native.Mathlib.Omega.{arith}
+use Rattle.lists.specs.Filled.{filled}
+use Rattle.lists.proofs.Filling.{filled-none, front-store, filled-done, filled-same}
 use Rattle.geometry.specs.Index.{indicesOf}
 use Rattle.grid.specs.Leaves.{leafPoint}
-use Rattle.grid.specs.Rows.{rowOf}
 use Rattle.grid.specs.Steps.{steppedPoint, nextIndices}
 use Rattle.grid.proofs.Numbering.{next-of}
 use Rattle.grid.proofs.Stepped.{leaf-stepped}
@@ -19,9 +19,9 @@ abbrev Inv-loop : tie.InvT-loop
 Inv-loop l first count xs₀ ys₀ zs₀ min side steps at₀ q₀ xs ys zs at q =
     (q ≤ count)
     × (at ≡ indicesOf (first + q) side side)
-    × (xs ≡ rowOf q (λ q. steppedPoint min steps (indicesOf (first + q) side side) .x) xs₀)
-    × (ys ≡ rowOf q (λ q. steppedPoint min steps (indicesOf (first + q) side side) .y) ys₀)
-    × (zs ≡ rowOf q (λ q. steppedPoint min steps (indicesOf (first + q) side side) .z) zs₀)
+    × (xs ≡ filled 0 q (λ q. steppedPoint min steps (indicesOf (first + q) side side) .x) xs₀)
+    × (ys ≡ filled 0 q (λ q. steppedPoint min steps (indicesOf (first + q) side side) .y) ys₀)
+    × (zs ≡ filled 0 q (λ q. steppedPoint min steps (indicesOf (first + q) side side) .z) zs₀)
 
 abbrev μ-loop : tie.MeasureT-loop
 μ-loop l first count xs₀ ys₀ zs₀ min side steps at₀ q₀ xs ys zs at q = count - q
@@ -35,7 +35,7 @@ indices-requires c κs = search needs
 loop-holds : tie.Need-loop-holds Inv-loop μ-loop
 loop-holds c =
     let l = c .before .before .before .args .l in
-    (search needs, c .indices .ensures ∙ ap (λ m. indicesOf m l l) (sym (add-zero _)), filled-none _ _, filled-none _ _, filled-none _ _)
+    (search needs, c .indices .ensures ∙ ap (λ m. indicesOf m l l) (sym (add-zero _)), sym (filled-none _ _ _), sym (filled-none _ _ _), sym (filled-none _ _ _))
 
 stepped-point-requires : tie.Need-stepped-point-requires Inv-loop μ-loop
 stepped-point-requires c κs = search needs
@@ -78,9 +78,9 @@ loop-again c =
           ∙ ap (λ v. nextIndices v l l) (inv .1)
           ∙ next-of l l above above (start .args .first + q)
           ∙ ap (λ m. indicesOf m l l) (add-assoc (start .args .first) q 1),
-      filled-more _ _ q (inv .2) (c .before .store-point .ensures .0) (ap (λ p. p .x) point),
-      filled-more _ _ q (inv .3) (c .before .store-point .ensures .1 .0) (ap (λ p. p .y) point),
-      filled-more _ _ q (inv .4) (c .before .store-point .ensures .1 .1) (ap (λ p. p .z) point),
+      c .before .store-point .ensures .0 ∙ front-store q _ _ (inv .2) (ap (λ p. p .x) point),
+      c .before .store-point .ensures .1 .0 ∙ front-store q _ _ (inv .3) (ap (λ p. p .y) point),
+      c .before .store-point .ensures .1 .1 ∙ front-store q _ _ (inv .4) (ap (λ p. p .z) point),
     )
 
 returns : tie.Need-returns Inv-loop μ-loop
@@ -92,8 +92,8 @@ returns c =
     let steps = c .before .before .before .leaf-steps in
     let same : (q : ℕ) → steppedPoint (a .b .min) (steps .result) (indicesOf (a .first + q) l l) ≡ leafPoint (a .b) l (a .first + q) =
     λ q. leaf-stepped (a .b) l (a .first + q) (steps .ensures) in (
-      filled-all _ _ _ (inv .2) last (λ q. ap (λ p. p .x) (same q)),
-      (filled-all _ _ _ (inv .3) last (λ q. ap (λ p. p .y) (same q)), filled-all _ _ _ (inv .4) last (λ q. ap (λ p. p .z) (same q))),
+      filled-done 0 _ _ (inv .2) last ∙ filled-same 0 _ _ _ _ (λ q from below. ap (λ p. p .x) (same q)),
+      (filled-done 0 _ _ (inv .3) last ∙ filled-same 0 _ _ _ _ (λ q from below. ap (λ p. p .y) (same q)), filled-done 0 _ _ (inv .4) last ∙ filled-same 0 _ _ _ _ (λ q from below. ap (λ p. p .z) (same q))),
     )
 
 pub leaf-points-spec : {M : Type 1} → statement M

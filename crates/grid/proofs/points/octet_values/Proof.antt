@@ -5,8 +5,8 @@ use Prim.Native.Nat.{ℕ, _<_}
 use native.Mathlib.Omega.{arith}
 use lib.ListN.{length, getD}
 use lib.Ieee.{Float}
-use Rattle.model.specs.Part.{plusZero}
-use Rattle.grid.specs.Rows.{octetValues}
+use Rattle.float.specs.Zero.{plusZero}
+use Rattle.grid.specs.Corners.{octetValues}
 use Rattle.grid.proofs.Eight.{eight}
 use Rattle.grid.proofs.Octets.{octet-below, octet-length}
 use borrow.Author.Needs.{needs}

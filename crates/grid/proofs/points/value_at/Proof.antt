@@ -1,5 +1,5 @@
 -- `value_at` meets its contract: within the list it does not matter what stands past its end.
-use Rattle.model.proofs.Lists.{getD-any}
+use Rattle.lists.proofs.Lists.{getD-any}
 use borrow.Author.Needs.{needs}
 use Rattle.grid.proofs.points.value_at.Statement.{statement}
 use Rattle.grid.proofs.points.value_at.Tie as tie

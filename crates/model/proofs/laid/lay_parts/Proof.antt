@@ -6,11 +6,12 @@ use Prim.Native.Nat.{ℕ, _+_, _-_, _≤_, _<_}
 use lib.Ieee.{Float}
 use lib.ListN.{length, replicate, getD, set, length-map}
 use native.Mathlib.Omega.{arith}
-use Rattle.model.specs.Part.{plusZero, partIn}
+use Rattle.lists.proofs.Lists.{front, front-more, front-all, getD-map-in}
+use Rattle.float.specs.Zero.{plusZero}
+use Rattle.model.specs.Part.{partIn}
 use Rattle.model.specs.Flat.{flat, codeOf, firstInput, secondInput, vectorOf, numberOf}
 use Rattle.model.specs.declared.Part.{Part}
 use Rattle.model.specs.declared.ModelComponent.{ModelComponent}
-use Rattle.model.proofs.Lists.{front, front-more, front-all, getD-map-in}
 use Rattle.model.proofs.laid.lay_parts.Statement.{statement}
 use Rattle.model.proofs.laid.lay_parts.Tie as tie
 

@@ -3,7 +3,7 @@ use borrow.Author.Needs.{needs}
 use mathlib.Core.Path.{_≡_, refl, ap, _∙_}
 use Prim.Native.Nat.{ℕ, _-_, _≤_}
 use Rattle.model.specs.Row.{filledRow}
-use Rattle.model.proofs.Rows.{lane-more}
+use Rattle.model.proofs.Rows.{no-lanes, lane-more}
 use native.Mathlib.Omega.{arith}
 use Rattle.model.proofs.lanes.fill_constant.Statement.{statement}
 use Rattle.model.proofs.lanes.fill_constant.Tie as tie
@@ -18,8 +18,7 @@ mul-row : tie.Need-mul-row Inv-loop μ-loop
 mul-row c = search needs
 
 loop-holds : tie.Need-loop-holds Inv-loop μ-loop
-unfolding filledRow
-loop-holds c = (omega arith, refl)
+loop-holds c = (omega arith, no-lanes _ _ _)
 
 add-values : tie.Need-add-values Inv-loop μ-loop
 add-values c = search needs

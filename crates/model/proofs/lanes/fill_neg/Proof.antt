@@ -1,11 +1,11 @@
 -- `lanes::fill_neg` meets its contract: the lanes passed so far hold an earlier row's, negated.
 use borrow.Author.Needs.{needs}
-use mathlib.Core.Path.{_≡_, refl, ap, _∙_}
+use mathlib.Core.Path.{_≡_, ap, _∙_}
 use Prim.Native.Nat.{ℕ, _-_, _≤_}
 use Rattle.model.specs.Row.{laneAt, filledRow}
 use lib.ListN.{getD}
 use Rattle.model.specs.Part.{past}
-use Rattle.model.proofs.Rows.{lane-more, read-row}
+use Rattle.model.proofs.Rows.{no-lanes, lane-more, read-row}
 use lib.Ieee.{neg}
 use native.Mathlib.Omega.{arith}
 use Rattle.model.proofs.lanes.fill_neg.Statement.{statement}
@@ -24,8 +24,7 @@ mul-first : tie.Need-mul-first Inv-loop μ-loop
 mul-first c = search needs
 
 loop-holds : tie.Need-loop-holds Inv-loop μ-loop
-unfolding filledRow
-loop-holds c = (omega arith, refl)
+loop-holds c = (omega arith, no-lanes _ _ _)
 
 add-computed : tie.Need-add-computed Inv-loop μ-loop
 add-computed c = search needs

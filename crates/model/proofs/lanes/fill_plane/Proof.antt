@@ -1,11 +1,11 @@
 -- `lanes::fill_plane` meets its contract: the lanes passed so far hold the plane's values.
 use borrow.Author.Needs.{needs}
-use mathlib.Core.Path.{_≡_, refl, ap, _∙_}
+use mathlib.Core.Path.{_≡_, ap, _∙_}
 use Prim.Native.Nat.{ℕ, _-_, _≤_}
 use Rattle.model.specs.Row.{filledRow}
 use lib.ListN.{getD}
 use Rattle.model.specs.Part.{past, planeValue}
-use Rattle.model.proofs.Rows.{lane-more}
+use Rattle.model.proofs.Rows.{no-lanes, lane-more}
 use Rattle.geometry.specs.Values.{vec3}
 use native.Mathlib.Omega.{arith}
 use Rattle.model.proofs.lanes.fill_plane.Statement.{statement}
@@ -21,8 +21,7 @@ mul-row : tie.Need-mul-row Inv-loop μ-loop
 mul-row c = search needs
 
 loop-holds : tie.Need-loop-holds Inv-loop μ-loop
-unfolding filledRow
-loop-holds c = (omega arith, refl)
+loop-holds c = (omega arith, no-lanes _ _ _)
 
 mul-plane-value : tie.Need-mul-plane-value Inv-loop μ-loop
 mul-plane-value c = search needs

@@ -1,11 +1,11 @@
 -- `lanes::fill_squares` meets its contract: the lanes passed so far hold the squares of their distances.
 use borrow.Author.Needs.{needs}
-use mathlib.Core.Path.{_≡_, refl, ap, _∙_}
+use mathlib.Core.Path.{_≡_, ap, _∙_}
 use Prim.Native.Nat.{ℕ, _-_, _≤_}
 use Rattle.model.specs.Row.{filledRow}
 use lib.ListN.{getD}
 use Rattle.model.specs.Part.{past}
-use Rattle.model.proofs.Rows.{lane-more}
+use Rattle.model.proofs.Rows.{no-lanes, lane-more}
 use Rattle.geometry.specs.Values.{vec3}
 use Rattle.geometry.specs.Distance.{distanceSquaredOf}
 use native.Mathlib.Omega.{arith}
@@ -22,8 +22,7 @@ mul-row : tie.Need-mul-row Inv-loop μ-loop
 mul-row c = search needs
 
 loop-holds : tie.Need-loop-holds Inv-loop μ-loop
-unfolding filledRow
-loop-holds c = (omega arith, refl)
+loop-holds c = (omega arith, no-lanes _ _ _)
 
 mul-square-distance : tie.Need-mul-square-distance Inv-loop μ-loop
 mul-square-distance c = search needs

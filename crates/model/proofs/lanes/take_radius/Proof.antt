@@ -1,11 +1,11 @@
 -- `lanes::take_radius` meets its contract: the lanes passed so far have lost the radius.
 use borrow.Author.Needs.{needs}
-use mathlib.Core.Path.{_≡_, refl, ap, _∙_}
+use mathlib.Core.Path.{_≡_, ap, _∙_}
 use Prim.Native.Nat.{ℕ, _-_, _≤_}
 use Rattle.model.specs.Row.{laneAt, filledRow}
 use lib.ListN.{getD}
 use Rattle.model.specs.Part.{past}
-use Rattle.model.proofs.Rows.{lane-more, read-own}
+use Rattle.model.proofs.Rows.{no-lanes, lane-more, read-own}
 use lib.Ieee.{Float, binary64, sub}
 use native.Mathlib.Omega.{arith}
 use Rattle.model.proofs.lanes.take_radius.Statement.{statement}
@@ -21,8 +21,7 @@ mul-row : tie.Need-mul-row Inv-loop μ-loop
 mul-row c = search needs
 
 loop-holds : tie.Need-loop-holds Inv-loop μ-loop
-unfolding filledRow
-loop-holds c = (omega arith, refl)
+loop-holds c = (omega arith, no-lanes _ _ _)
 
 add-computed : tie.Need-add-computed Inv-loop μ-loop
 add-computed c = search needs

@@ -4,9 +4,9 @@ use Prim.Native.Nat.{_-_, _≤_}
 use borrow.Author.Needs.{needs}
 use lib.ListN.{length}
 use denote.Ref.{now}
-use Rattle.model.specs.Tabulate.{tabulate}
-use Rattle.model.proofs.Tables.{tabled, tabled-more, length-tabled}
-use Rattle.model.specs.Part.{plusZero}
+use Rattle.lists.specs.Tabulate.{tabulate}
+use Rattle.lists.proofs.Tables.{tabled, tabled-more, length-tabled}
+use Rattle.float.specs.Zero.{plusZero}
 use native.Mathlib.Omega.{arith}
 use Rattle.model.proofs.row.clear_row.Statement.{statement}
 use Rattle.model.proofs.row.clear_row.Tie as tie

@@ -4,8 +4,8 @@ use Prim.Native.Nat.{_-_, _≤_}
 use borrow.Author.Needs.{needs}
 use lib.ListN.{length, getD}
 use denote.Ref.{now}
-use Rattle.model.specs.Tabulate.{tabulate}
-use Rattle.model.proofs.Tables.{tabled, tabled-more, length-tabled}
+use Rattle.lists.specs.Tabulate.{tabulate}
+use Rattle.lists.proofs.Tables.{tabled, tabled-more, length-tabled}
 use Rattle.model.specs.Part.{past}
 use Rattle.model.specs.Row.{laneAt}
 use native.Mathlib.Omega.{arith}

@@ -10,8 +10,8 @@ use lib.Dec.{ltb}
 use lib.ListN.{length, getD, set, drop, length-append, length-drop, List·getD-append}
 use lib.Seq.{getD-at}
 use borrow.Author.Tests.{ltb-true, ltb-false}
-use Rattle.model.specs.Tabulate.{tabulate}
-use Rattle.model.proofs.Lists.{front-set}
+use Rattle.lists.specs.Tabulate.{tabulate}
+use Rattle.lists.proofs.Lists.{front-set}
 
 -- one more element behind a list
 module _ {A : Type 0} (l : List A) (v : A) where

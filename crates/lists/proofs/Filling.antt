@@ -6,13 +6,13 @@ use Prim.Native.Nat.{ℕ, zero, suc, _+_, _≤_, _<_}
 use native.Mathlib.Nat.{zero-add}
 use native.Mathlib.Numerals.{add-one}
 use native.Mathlib.Omega.{arith}
-use lib.Dec.{eqb}
+use lib.Dec.{eqb, ltb}
 use lib.ListN.{length, getD, set, length-set, replicate, length-replicate, getD-replicate}
 use lib.Seq.{ext-getD, getD-set-same, getD-set-other}
-use borrow.Author.Tests.{eqb-true, eqb-false}
-use Rattle.model.specs.Tabulate.{tabulate}
-use Rattle.model.proofs.Tables.{length-tabulate, getD-tabulate}
-use Rattle.dense_field.specs.Filled.{filled}
+use borrow.Author.Tests.{eqb-true, eqb-false, ltb-true, ltb-false}
+use Rattle.lists.specs.Tabulate.{tabulate}
+use Rattle.lists.proofs.Tables.{length-tabulate, getD-tabulate}
+use Rattle.lists.specs.Filled.{filled}
 
 module _ {A : Type 0} where
   pub filled-none : (at : ℕ) (g : ℕ → A) (l : List A) → filled at 0 g l ≡ l
@@ -34,6 +34,13 @@ module _ {A : Type 0} where
       → set x (at + count) v ≡ filled at (count + 1) g l
   filled-store at count g l so-far value =
       ap₂ (λ (x : List A) (v : A). set x (at + count) v) so-far value ∙ filled-next at count g l
+
+  -- at a list's front
+  pub front-store : (count : ℕ) (g : ℕ → A) (l : List A) {x : List A} {v : A} → x ≡ filled 0 count g l → v ≡ g count
+      → set x count v ≡ filled 0 (count + 1) g l
+  front-store count g l {x} {v} so-far value =
+      let here : count ≡ 0 + count = sym (zero-add count) in
+      ap (λ (q : ℕ). set x q v) here ∙ filled-store 0 count g l so-far (value ∙ ap g here)
 
   pub filled-done : (at : ℕ) {i count : ℕ} (g : ℕ → A) (l : List A) {x : List A} → x ≡ filled at i g l → i ≡ count → x ≡ filled at count g l
   filled-done at g l so-far last = so-far ∙ ap (λ (n : ℕ). filled at n g l) last
@@ -83,6 +90,39 @@ module _ {A : Type 0} where
           let other : q ≡ at + count → ⊥ = eqb-false q (at + count) t in
           let earlier : q < at + count = omega arith in
           getD-set-other (filled at count g l) (at + count) q _ d other ∙ before earlier
+
+  -- an element outside of it is as it was
+  pub getD-unfilled : (at count : ℕ) (g : ℕ → A) (l : List A) (q : ℕ) (d : A) → (at ≤ q → at + count ≤ q)
+      → getD (filled at count g l) q d ≡ getD l q d
+  unfolding filled
+  getD-unfilled at zero g l q d apart = refl
+  getD-unfilled at (suc count) g l q d apart =
+      let other : q ≡ at + count → ⊥ = λ e. omega (arith, apart (omega arith)) in
+      getD-set-other (filled at count g l) (at + count) q _ d other
+      ∙ getD-unfilled at count g l q d (λ from. omega (arith, apart from))
+
+  -- a list is filled where its elements are
+  pub filled-is : (at count : ℕ) (g : ℕ → A) (l t : List A) (d : A) → length t ≡ length l
+      → ((q : ℕ) → at ≤ q → q < at + count → q < length l → getD t q d ≡ g q)
+      → ((q : ℕ) → (at ≤ q → at + count ≤ q) → getD t q d ≡ getD l q d)
+      → t ≡ filled at count g l
+  filled-is at count g l t d long inside apart =
+      ext-getD d t (filled at count g l) (long ∙ sym (filled-length at count g l))
+      (λ q h. before q (omega arith) (ltb q at) refl)
+    where
+      behind : (q : ℕ) → q < length l → at ≤ q → (b : Bool) → ltb q (at + count) ≡ b → getD t q d ≡ getD (filled at count g l) q d
+      behind q h from true t =
+          let below : q < at + count = ltb-true q (at + count) t in
+          inside q from below h ∙ sym (getD-filled at count g l q d from below h)
+      behind q h from false t =
+          let past : at + count ≤ q = ltb-false q (at + count) t in
+          apart q (λ f. past) ∙ sym (getD-unfilled at count g l q d (λ f. past))
+
+      before : (q : ℕ) → q < length l → (b : Bool) → ltb q at ≡ b → getD t q d ≡ getD (filled at count g l) q d
+      before q h true t =
+          let low : q < at = ltb-true q at t in
+          apart q (λ f. omega arith) ∙ sym (getD-unfilled at count g l q d (λ f. omega arith))
+      before q h false t = behind q h (ltb-false q at t) (ltb q (at + count)) refl
 
   -- all of a list
   pub filled-all : (n : ℕ) (g : ℕ → A) (l : List A) (d : A) → length l ≡ n → filled 0 n g l ≡ tabulate n g
