@@ -4,7 +4,7 @@ use mathlib.Core.Bool.{Bool, true, false}
 use mathlib.Core.List.{List}
 use lib.ListN.{replicate}
 use Rattle.geometry.specs.Values.{vec3, box}
-use Rattle.model.specs.Part.{plusZero}
+use Rattle.float.specs.Zero.{plusZero}
 use Rattle.model.specs.declared.ImplicitModel.{ImplicitModel}
 use Rattle.model.specs.declared.ModelComponent.{ModelComponent}
 use Rattle.model.specs.declared.Part.the-variants.{Constant}

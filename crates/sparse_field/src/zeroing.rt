@@ -1,7 +1,7 @@
 // Slices set to zero, whole.
 ghost use mathlib.Core.Path.{_≡_};
 ghost use lib.ListN.{length, replicate};
-ghost use Rattle.model.specs.Part.{plusZero};
+ghost use Rattle.float.specs.Zero.{plusZero};
 
 pub fn zero_bytes(s: &mut [u8])
     ensures { λ _. ⌜ now (s .exit) ≡ replicate (length (now (s .entry))) 0 ⌝ }
