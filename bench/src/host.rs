@@ -29,13 +29,8 @@ mod model {
 
     extern "C" {
         fn bench_evaluate(
-            codes: &[u32; ROW],
-            firsts: &[u32; ROW],
-            seconds: &[u32; ROW],
-            xs: &[f64; ROW],
-            ys: &[f64; ROW],
-            zs: &[f64; ROW],
-            ws: &[f64; ROW],
+            words: &[u32; 3 * ROW],
+            numbers: &[f64; 4 * ROW],
             count: usize,
             x: f64,
             y: f64,
@@ -44,13 +39,8 @@ mod model {
         ) -> f64;
         #[cfg(feature = "rows")]
         fn bench_evaluate_row(
-            codes: &[u32; ROW],
-            firsts: &[u32; ROW],
-            seconds: &[u32; ROW],
-            xs: &[f64; ROW],
-            ys: &[f64; ROW],
-            zs: &[f64; ROW],
-            ws: &[f64; ROW],
+            words: &[u32; 3 * ROW],
+            numbers: &[f64; 4 * ROW],
             count: usize,
             px: &[f64; ROW],
             py: &[f64; ROW],
@@ -60,28 +50,18 @@ mod model {
         );
     }
 
-    /// A model laid out in flat arrays, part by part.
+    /// A model laid out in flat arrays: rows of codes, first and second inputs, and rows of x, y, z and w.
     pub struct Layout {
-        codes: [u32; ROW],
-        firsts: [u32; ROW],
-        seconds: [u32; ROW],
-        xs: [f64; ROW],
-        ys: [f64; ROW],
-        zs: [f64; ROW],
-        ws: [f64; ROW],
+        words: [u32; 3 * ROW],
+        numbers: [f64; 4 * ROW],
         count: usize,
     }
 
     impl Layout {
         pub fn new(parts: &[Part]) -> Layout {
             let mut layout = Layout {
-                codes: [0; ROW],
-                firsts: [0; ROW],
-                seconds: [0; ROW],
-                xs: [0.0; ROW],
-                ys: [0.0; ROW],
-                zs: [0.0; ROW],
-                ws: [0.0; ROW],
+                words: [0; 3 * ROW],
+                numbers: [0.0; 4 * ROW],
                 count: parts.len(),
             };
             for (place, part) in parts.iter().enumerate() {
@@ -100,36 +80,27 @@ mod model {
         }
 
         fn shape(&mut self, place: usize, code: u32, c: [f64; 3], w: f64) {
-            self.codes[place] = code;
-            [self.xs[place], self.ys[place], self.zs[place]] = c;
-            self.ws[place] = w;
+            self.words[place] = code;
+            for (row, number) in [c[0], c[1], c[2], w].into_iter().enumerate() {
+                self.numbers[row * ROW + place] = number;
+            }
         }
 
         fn operation(&mut self, place: usize, code: u32, a: u32, b: u32) {
-            self.codes[place] = code;
-            self.firsts[place] = a;
-            self.seconds[place] = b;
+            for (row, word) in [code, a, b].into_iter().enumerate() {
+                self.words[row * ROW + place] = word;
+            }
         }
     }
 
     /// The model's value at a point. The values of the parts are written too.
     pub fn evaluate(l: &Layout, x: f64, y: f64, z: f64, values: &mut [f64; ROW]) -> f64 {
-        unsafe {
-            bench_evaluate(
-                &l.codes, &l.firsts, &l.seconds, &l.xs, &l.ys, &l.zs, &l.ws, l.count, x, y, z,
-                values,
-            )
-        }
+        unsafe { bench_evaluate(&l.words, &l.numbers, l.count, x, y, z, values) }
     }
 
     /// The values of the parts at a row of points, part by part.
     #[cfg(feature = "rows")]
     pub fn evaluate_row(l: &Layout, [px, py, pz]: [&[f64; ROW]; 3], values: &mut [f64; ROW * ROW]) {
-        unsafe {
-            bench_evaluate_row(
-                &l.codes, &l.firsts, &l.seconds, &l.xs, &l.ys, &l.zs, &l.ws, l.count, px, py, pz,
-                ROW, values,
-            )
-        }
+        unsafe { bench_evaluate_row(&l.words, &l.numbers, l.count, px, py, pz, ROW, values) }
     }
 }

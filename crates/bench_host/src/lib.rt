@@ -5,7 +5,7 @@ ghost use Prim.Native.Nat.{min};
 ghost use lib.ListN.{drop};
 ghost use Rattle.root.specs.Root.{squareRoot};
 ghost use Rattle.model.specs.Model.{valuesTo, modelValue};
-ghost use Rattle.model.specs.Flat.{flat, partsOf};
+ghost use Rattle.model.specs.Flat.{flatOf, partsOf};
 ghost use Rattle.model.specs.Row.{evaluatedRows};
 
 // The correctly rounded square root.
@@ -27,48 +27,25 @@ pub extern "C" fn bench_sqrt_row(xs: &mut [f64])
 // The value at a point of the first `count` parts of flat arrays, 64 at most, with the parts' values left in `values`.
 #[no_mangle]
 pub extern "C" fn bench_evaluate(
-    codes: &[u32; 64],
-    firsts: &[u32; 64],
-    seconds: &[u32; 64],
-    xs: &[f64; 64],
-    ys: &[f64; 64],
-    zs: &[f64; 64],
-    ws: &[f64; 64],
+    words: &[u32; 192],
+    numbers: &[f64; 256],
     count: usize,
     x: f64,
     y: f64,
     z: f64,
     values: &mut [f64; 64],
 ) -> f64
-    ensures { λ r. ⌜ r ≡ modelValue (partsOf (flat (now (codes .entry)) (now (firsts .entry)) (now (seconds .entry)) (now (xs .entry)) (now (ys .entry)) (now (zs .entry)) (now (ws .entry))) (min count 64)) (min count 64) x y z ⌝ }
-    ensures { λ _. ⌜ now (values .exit) ≡ valuesTo (partsOf (flat (now (codes .entry)) (now (firsts .entry)) (now (seconds .entry)) (now (xs .entry)) (now (ys .entry)) (now (zs .entry)) (now (ws .entry))) (min count 64)) x y z (min count 64) ++ drop (min count 64) (now (values .entry)) ⌝ }
+    ensures { λ r. ⌜ r ≡ modelValue (partsOf (flatOf (now (words .entry)) (now (numbers .entry))) (min count 64)) (min count 64) x y z ⌝ }
+    ensures { λ _. ⌜ now (values .exit) ≡ valuesTo (partsOf (flatOf (now (words .entry)) (now (numbers .entry))) (min count 64)) x y z (min count 64) ++ drop (min count 64) (now (values .entry)) ⌝ }
 {
-    model::evaluate_flat(
-        codes,
-        firsts,
-        seconds,
-        xs,
-        ys,
-        zs,
-        ws,
-        count,
-        x,
-        y,
-        z,
-        values,
-    )
+    model::evaluate_flat(words, numbers, count, x, y, z, values)
 }
 
 // The values of the first `count` parts at n points, 64 at most of each: part p's value at point i is left at p * 64 + i.
 #[no_mangle]
 pub extern "C" fn bench_evaluate_row(
-    codes: &[u32; 64],
-    firsts: &[u32; 64],
-    seconds: &[u32; 64],
-    xs: &[f64; 64],
-    ys: &[f64; 64],
-    zs: &[f64; 64],
-    ws: &[f64; 64],
+    words: &[u32; 192],
+    numbers: &[f64; 256],
     count: usize,
     px: &[f64; 64],
     py: &[f64; 64],
@@ -76,21 +53,7 @@ pub extern "C" fn bench_evaluate_row(
     n: usize,
     values: &mut [f64; 4096],
 )
-    ensures { λ _. ⌜ now (values .exit) ≡ evaluatedRows (flat (now (codes .entry)) (now (firsts .entry)) (now (seconds .entry)) (now (xs .entry)) (now (ys .entry)) (now (zs .entry)) (now (ws .entry))) (min count 64) (min n 64) (now (px .entry)) (now (py .entry)) (now (pz .entry)) (now (values .entry)) ⌝ }
+    ensures { λ _. ⌜ now (values .exit) ≡ evaluatedRows (flatOf (now (words .entry)) (now (numbers .entry))) (min count 64) (min n 64) (now (px .entry)) (now (py .entry)) (now (pz .entry)) (now (values .entry)) ⌝ }
 {
-    model::evaluate_row(
-        codes,
-        firsts,
-        seconds,
-        xs,
-        ys,
-        zs,
-        ws,
-        count,
-        px,
-        py,
-        pz,
-        n,
-        values,
-    );
+    model::evaluate_row(words, numbers, count, px, py, pz, n, values);
 }

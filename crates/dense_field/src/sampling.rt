@@ -1,5 +1,5 @@
 // A model's values at a field's points, in runs of up to 64 points of a row. A row is the points of
-// one j and k. The model's parts stand in seven flat arrays, as `model::lay_out` leaves them.
+// one j and k. The model's parts stand in two flat arrays, as `model::lay_out` leaves them.
 ghost use mathlib.Core.Path.{_≡_};
 ghost use mathlib.Core.Bool.{cond};
 ghost use mathlib.Core.List.{map};
@@ -8,7 +8,7 @@ ghost use lib.Dec.{eqb};
 ghost use lib.ListN.{length, getD};
 ghost use Rattle.lists.specs.Tabulate.{tabulate};
 ghost use Rattle.lists.specs.Filled.{filled};
-ghost use Rattle.model.specs.Flat.{flat};
+ghost use Rattle.model.specs.Flat.{flatOf};
 ghost use Rattle.model.specs.Part.{past, partIn};
 ghost use Rattle.dense_field.specs.Field.{pointsOf};
 ghost use Rattle.dense_field.specs.Lent.{Lent};
@@ -62,13 +62,8 @@ fn run_length(left: usize) -> usize
 
 // The values at `len` points of a row, from number i on.
 fn sample_run(
-    codes: &[u32; 64],
-    firsts: &[u32; 64],
-    seconds: &[u32; 64],
-    xs: &[f64; 64],
-    ys: &[f64; 64],
-    zs: &[f64; 64],
-    ws: &[f64; 64],
+    words: &[u32; 192],
+    numbers: &[f64; 256],
     count: usize,
     origin: Vec3,
     cell: f64,
@@ -80,7 +75,7 @@ fn sample_run(
 )
     requires { ⌜ Lent n (length (now values)) ⌝ }
     requires { ⌜ (first .i + len ≤ n .i) × (first .j < n .j) × (first .k < n .k) × (len ≤ 64) ⌝ }
-    ensures { λ _. ⌜ now (values .exit) ≡ filled (first .k * (n .i * n .j) + first .j * n .i + first .i) len (flatAt (flat (now (codes .entry)) (now (firsts .entry)) (now (seconds .entry)) (now (xs .entry)) (now (ys .entry)) (now (zs .entry)) (now (ws .entry))) (min count 64) origin cell n) (now (values .entry)) ⌝ }
+    ensures { λ _. ⌜ now (values .exit) ≡ filled (first .k * (n .i * n .j) + first .j * n .i + first .i) len (flatAt (flatOf (now (words .entry)) (now (numbers .entry))) (min count 64) origin cell n) (now (values .entry)) ⌝ }
 {
     let mut px = [0.0; 64];
     let mut py = [0.0; 64];
@@ -92,13 +87,8 @@ fn sample_run(
     let z = axis_point(origin.z, cell, first.k);
     pad::fill(z, &mut pz, 0, len);
     model::evaluate_row_into(
-        codes,
-        firsts,
-        seconds,
-        xs,
-        ys,
-        zs,
-        ws,
+        words,
+        numbers,
         count,
         &px,
         &py,
@@ -113,13 +103,8 @@ fn sample_run(
 
 // The values at the points of a row.
 fn sample_row(
-    codes: &[u32; 64],
-    firsts: &[u32; 64],
-    seconds: &[u32; 64],
-    xs: &[f64; 64],
-    ys: &[f64; 64],
-    zs: &[f64; 64],
-    ws: &[f64; 64],
+    words: &[u32; 192],
+    numbers: &[f64; 256],
     count: usize,
     origin: Vec3,
     cell: f64,
@@ -131,7 +116,7 @@ fn sample_row(
 )
     requires { ⌜ Lent n (length (now values)) ⌝ }
     requires { ⌜ (j < n .j) × (k < n .k) ⌝ }
-    ensures { λ _. ⌜ now (values .exit) ≡ filled (k * (n .i * n .j) + j * n .i) (n .i) (flatAt (flat (now (codes .entry)) (now (firsts .entry)) (now (seconds .entry)) (now (xs .entry)) (now (ys .entry)) (now (zs .entry)) (now (ws .entry))) (min count 64) origin cell n) (now (values .entry)) ⌝ }
+    ensures { λ _. ⌜ now (values .exit) ≡ filled (k * (n .i * n .j) + j * n .i) (n .i) (flatAt (flatOf (now (words .entry)) (now (numbers .entry))) (min count 64) origin cell n) (now (values .entry)) ⌝ }
 {
     let row = n.i;
     let mut i = 0;
@@ -139,13 +124,8 @@ fn sample_row(
         let len = run_length(row - i);
         let first = Vec3i::new(i, j, k);
         sample_run(
-            codes,
-            firsts,
-            seconds,
-            xs,
-            ys,
-            zs,
-            ws,
+            words,
+            numbers,
             count,
             origin,
             cell,
@@ -161,13 +141,8 @@ fn sample_row(
 
 // The values at all points, row by row.
 fn sample_rows(
-    codes: &[u32; 64],
-    firsts: &[u32; 64],
-    seconds: &[u32; 64],
-    xs: &[f64; 64],
-    ys: &[f64; 64],
-    zs: &[f64; 64],
-    ws: &[f64; 64],
+    words: &[u32; 192],
+    numbers: &[f64; 256],
     count: usize,
     origin: Vec3,
     cell: f64,
@@ -176,7 +151,7 @@ fn sample_rows(
     values: &mut [f64],
 )
     requires { ⌜ Lent n (length (now values)) ⌝ }
-    ensures { λ _. ⌜ now (values .exit) ≡ tabulate (pointsOf n) (flatAt (flat (now (codes .entry)) (now (firsts .entry)) (now (seconds .entry)) (now (xs .entry)) (now (ys .entry)) (now (zs .entry)) (now (ws .entry))) (min count 64) origin cell n) ⌝ }
+    ensures { λ _. ⌜ now (values .exit) ≡ tabulate (pointsOf n) (flatAt (flatOf (now (words .entry)) (now (numbers .entry))) (min count 64) origin cell n) ⌝ }
 {
     let rows = n.j * n.k;
     let mut r = 0;
@@ -184,13 +159,8 @@ fn sample_rows(
         let j = r % n.j;
         let k = r / n.j;
         sample_row(
-            codes,
-            firsts,
-            seconds,
-            xs,
-            ys,
-            zs,
-            ws,
+            words,
+            numbers,
             count,
             origin,
             cell,
@@ -235,33 +205,14 @@ pub fn sample(
     if cause != 0 {
         return Outcome::Refused(cause);
     }
-    let mut codes = [0u32; 64];
-    let mut firsts = [0u32; 64];
-    let mut seconds = [0u32; 64];
-    let mut xs = [0.0; 64];
-    let mut ys = [0.0; 64];
-    let mut zs = [0.0; 64];
-    let mut ws = [0.0; 64];
-    model::lay_out(
-        model,
-        &mut codes,
-        &mut firsts,
-        &mut seconds,
-        &mut xs,
-        &mut ys,
-        &mut zs,
-        &mut ws,
-    );
+    let mut words = [0u32; 192];
+    let mut numbers = [0.0; 256];
+    model::lay_out(model, &mut words, &mut numbers);
     let count = model.count as usize;
     let mut scratch = [0.0; 4096];
     sample_rows(
-        &codes,
-        &firsts,
-        &seconds,
-        &xs,
-        &ys,
-        &zs,
-        &ws,
+        &words,
+        &numbers,
         count,
         origin,
         cell,

@@ -1,14 +1,14 @@
 -- Stores in a row: how one stretch follows another, which elements they set, and what they leave of a whole list.
 use mathlib.Core.Path.{_≡_, refl, sym, ap, ap₂, _∙_}
 use mathlib.Core.Bool.{Bool, true, false}
-use mathlib.Core.List.{List}
+use mathlib.Core.List.{List, [], _∷_, _++_, append-nil, append-assoc}
 use Prim.Native.Nat.{ℕ, zero, suc, _+_, _≤_, _<_}
-use native.Mathlib.Nat.{zero-add}
+use native.Mathlib.Nat.{zero-add, add-zero}
 use native.Mathlib.Numerals.{add-one}
 use native.Mathlib.Omega.{arith}
 use lib.Dec.{eqb, ltb}
-use lib.ListN.{length, getD, set, length-set, replicate, length-replicate, getD-replicate}
-use lib.Seq.{ext-getD, getD-set-same, getD-set-other}
+use lib.ListN.{length, getD, set, take, length-set, replicate, length-replicate, getD-replicate}
+use lib.Seq.{ext-getD, getD-set-same, getD-set-other, set-comm, take-suc-set}
 use borrow.Author.Tests.{eqb-true, eqb-false, ltb-true, ltb-false}
 use Rattle.lists.specs.Tabulate.{tabulate}
 use Rattle.lists.proofs.Tables.{length-tabulate, getD-tabulate}
@@ -100,6 +100,29 @@ module _ {A : Type 0} where
       let other : q ≡ at + count → ⊥ = λ e. omega (arith, apart (omega arith)) in
       getD-set-other (filled at count g l) (at + count) q _ d other
       ∙ getD-unfilled at count g l q d (λ from. omega (arith, apart from))
+
+  -- a store outside of it goes before it as well as after it
+  pub set-filled : (at count : ℕ) (g : ℕ → A) (l : List A) (i : ℕ) (v : A) → (at ≤ i → at + count ≤ i)
+      → set (filled at count g l) i v ≡ filled at count g (set l i v)
+  unfolding filled
+  set-filled at zero g l i v apart = refl
+  set-filled at (suc count) g l i v apart =
+      let other : at + count ≡ i → ⊥ = λ e. omega (arith, apart (omega arith)) in
+      set-comm (filled at count g l) (at + count) i (g (at + count)) v other
+      ∙ ap (λ (x : List A). set x (at + count) (g (at + count))) (set-filled at count g l i v (λ from. omega (arith, apart from)))
+
+  -- the list up to the end of the stretch
+  pub take-filled : (at count : ℕ) (g : ℕ → A) (l : List A) → at + count ≤ length l
+      → take (at + count) (filled at count g l) ≡ take at l ++ tabulate count (λ k. g (at + k))
+  unfolding filled tabulate
+  take-filled at zero g l long = ap (λ (n : ℕ). take n l) (add-zero at) ∙ sym (append-nil (take at l))
+  take-filled at (suc count) g l long =
+      let next : at + suc count ≡ suc (at + count) = omega arith in
+      let x = filled at count g l in
+      ap (λ (n : ℕ). take n (set x (at + count) (g (at + count)))) next
+      ∙ take-suc-set x (at + count) (g (at + count)) (omega (arith, filled-length at count g l))
+      ∙ ap (λ (t : List A). t ++ (g (at + count) ∷ [])) (take-filled at count g l (omega arith))
+      ∙ append-assoc (take at l) (tabulate count (λ k. g (at + k))) (g (at + count) ∷ [])
 
   -- a list is filled where its elements are
   pub filled-is : (at count : ℕ) (g : ℕ → A) (l t : List A) (d : A) → length t ≡ length l

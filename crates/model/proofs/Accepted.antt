@@ -31,4 +31,4 @@ module _ (m : ImplicitModel) (passed : refusedByFour m ≡ false) where
       let within : m .count ≤ length (map partIn (m .parts)) = omega (arith, count-le, length-map (m .parts) partIn) in
       ap (λ (n : ℕ). modelValue (partsOf l n) n x y z) (min-eq-left count-le)
       ∙ ap (λ (k : Flat). modelValue (partsOf k (m .count)) (m .count) x y z) e
-      ∙ same-value (map partIn (m .parts)) (m .count) within in-order x y z
+      ∙ same-value (map partIn (m .parts)) (m .count) count-le within in-order x y z

@@ -1,5 +1,6 @@
 pub mod InOrder
 pub mod Values
+pub mod EntryRows
 pub mod ReadBack
 pub mod ByCode
 pub mod FlatValues

@@ -1,22 +1,22 @@
 -- What flat lists stand for: each part has its inputs below its place, and a model in order is read back as it was laid out.
 use mathlib.Core.Path.{_≡_, refl, sym, ap, _∙_}
 use mathlib.Core.Bool.{Bool, true, false, cond}
-use mathlib.Core.List.{List, map}
+use mathlib.Core.List.{List, [], _∷_}
 use Prim.Native.Nat.{ℕ, _≤_, _<_}
 use native.Mathlib.Omega.{arith}
-use lib.ListN.{length, getD, take}
+use lib.ListN.{length, take}
 use lib.Seq.{ext-getD, getD-take, length-take-le}
 use lib.Ieee.{Float}
-use Rattle.lists.proofs.Lists.{getD-map-in}
 use Rattle.lists.proofs.Tables.{length-tabulate, getD-tabulate}
 use Rattle.float.specs.Zero.{plusZero}
 use Rattle.geometry.specs.Values.{vec3}
 use Rattle.model.specs.Part.{past, inputsBelow}
 use Rattle.model.specs.Model.{partOf, orderedTo, modelValue}
-use Rattle.model.specs.Flat.{Flat, codeOf, firstInput, secondInput, vectorOf, numberOf, layoutOf, partFrom, placed, partAt, partsOf}
+use Rattle.model.specs.Flat.{Flat, codeOf, firstInput, secondInput, vectorOf, numberOf, wordEntries, numberEntries, layoutOf, partFrom, placed, partAt, partsOf}
 use Rattle.model.specs.declared.Part.{Part}
 use Rattle.model.specs.declared.Part.the-variants.{Constant, Sphere, Plane, Min, Max, Add, Sub, Neg}
 use Rattle.model.proofs.InOrder.{ordered-at}
+use Rattle.model.proofs.EntryRows.{first-row, row-entry}
 use Rattle.model.proofs.Values.{modelValue-cong}
 
 pub placed-below : (p : ℕ) (part : Part) → inputsBelow p (placed p part) ≡ true
@@ -48,24 +48,21 @@ from-entries (Sub a b) = refl
 from-entries (Neg a) = refl
 
 module _ (parts : List Part) where
-  entry : {A : Type 0} (f : Part → A) (p : ℕ) (d : A) → p < length parts → getD (map f parts) p d ≡ f (partOf parts p)
-  entry f p d h = getD-map-in f parts p (Constant plusZero) d h
-
-  pub read-back-at : (p : ℕ) → p < length parts → inputsBelow p (partOf parts p) ≡ true → partAt (layoutOf parts) p ≡ partOf parts p
+  pub read-back-at : (p : ℕ) → p < 64 → inputsBelow p (partOf parts p) ≡ true → partAt (layoutOf parts) p ≡ partOf parts p
   unfolding partAt
   read-back-at p h below =
-      let code = entry codeOf p 0 h in
-      let first = entry firstInput p 0 h in
-      let second = entry secondInput p 0 h in
-      let x = entry (λ q. vectorOf q .x) p past h in
-      let y = entry (λ q. vectorOf q .y) p past h in
-      let z = entry (λ q. vectorOf q .z) p past h in
-      let w = entry numberOf p past h in
+      let code = first-row parts codeOf (firstInput ∷ secondInput ∷ []) p 0 h in
+      let first = row-entry parts wordEntries 1 p codeOf 0 (omega arith) h in
+      let second = row-entry parts wordEntries 2 p codeOf 0 (omega arith) h in
+      let x = first-row parts (λ q. vectorOf q .x) ((λ q. vectorOf q .y) ∷ (λ q. vectorOf q .z) ∷ numberOf ∷ []) p past h in
+      let y = row-entry parts numberEntries 1 p numberOf past (omega arith) h in
+      let z = row-entry parts numberEntries 2 p numberOf past (omega arith) h in
+      let w = row-entry parts numberEntries 3 p numberOf past (omega arith) h in
       (λ i. placed p (partFrom (code i) (vec3 (x i) (y i) (z i)) (w i) (first i) (second i)))
       ∙ ap (placed p) (from-entries (partOf parts p))
       ∙ placed-same p (partOf parts p) below
 
-  module _ (count : ℕ) (long : count ≤ length parts) (ordered : orderedTo parts count ≡ true) where
+  module _ (count : ℕ) (few : count ≤ 64) (long : count ≤ length parts) (ordered : orderedTo parts count ≡ true) where
     -- laying out a model in order and reading it back gives its parts
     pub read-back : partsOf (layoutOf parts) count ≡ take count parts
     read-back =

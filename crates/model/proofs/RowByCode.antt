@@ -1,7 +1,7 @@
 -- The row of the part that a code stands for: the lane loops' results, as the part's value at each lane.
 use mathlib.Core.Path.{_≡_, refl, sym, ap, _∙_}
 use mathlib.Core.List.{List}
-use Prim.Native.Nat.{ℕ, _≤_, _<_}
+use Prim.Native.Nat.{ℕ, _+_, _≤_, _<_}
 use lib.ListN.{getD}
 use lib.Ieee.{Float, binary64, add, sub, neg}
 use Rattle.lists.proofs.Tables.{getD-tabulate}
@@ -80,8 +80,8 @@ module _ (p : ℕ) (v : Vec3) (w : Float) (a b : ℕ) (px py pz : List Float) (n
 
 -- the row at a place of flat lists, from the entries there
 pub row-at : (l : Flat) (p a b : ℕ) (px py pz : List Float) (n : ℕ) (values : List Float) {last : List Float}
-    → last ≡ rowOf p (vec3 (getD (l .xs) p past) (getD (l .ys) p past) (getD (l .zs) p past)) (getD (l .ws) p past) a b px py pz n values (getD (l .codes) p 0)
-    → a ≡ getD (l .firsts) p 0 → b ≡ getD (l .seconds) p 0
+    → last ≡ rowOf p (vec3 (getD (l .numbers) p past) (getD (l .numbers) (64 + p) past) (getD (l .numbers) (128 + p) past)) (getD (l .numbers) (192 + p) past) a b px py pz n values (getD (l .words) p 0)
+    → a ≡ getD (l .words) (64 + p) 0 → b ≡ getD (l .words) (128 + p) 0
     → last ≡ filledRow values p n (λ k. partValue (partAt l p) (getD px k past) (getD py k past) (getD pz k past) (lane values k p))
 row-at l p a b px py pz n values row first second =
     row ∙ filled-cong values p n _ _ (λ k h. at-entries l p a b (getD px k past) (getD py k past) (getD pz k past) (lane values k p) refl first second)

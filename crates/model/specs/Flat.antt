@@ -1,7 +1,7 @@
--- A model's parts laid out in seven lists: at each place a code, two inputs, a vector and a number.
-use Prim.Native.Nat.{ℕ}
+-- A model's parts laid out in two lists, in rows of 64: a row of codes and two of inputs, and four rows of numbers.
+use Prim.Native.Nat.{ℕ, _+_}
 use mathlib.Core.Bool.{cond}
-use mathlib.Core.List.{List, [], _∷_, map}
+use mathlib.Core.List.{List, [], _∷_, _++_}
 use lib.ListN.{getD}
 use lib.Ieee.{Float}
 use Rattle.lists.specs.Tabulate.{tabulate}
@@ -9,6 +9,7 @@ use Rattle.float.specs.Zero.{plusZero}
 use Rattle.geometry.specs.declared.Vec3.{Vec3}
 use Rattle.geometry.specs.Values.{vec3}
 use Rattle.model.specs.Part.{past, inputsBelow}
+use Rattle.model.specs.Model.{partOf}
 use Rattle.model.specs.declared.Part.{Part}
 use Rattle.model.specs.declared.Part.the-variants.{Constant, Sphere, Plane, Min, Max, Add, Sub, Neg}
 
@@ -67,24 +68,26 @@ numberOf (Neg a) = plusZero
 -- ---- what lists of any contents stand for
 
 pub record Flat : Type 0 where
-  pub codes : List ℕ
-  pub firsts : List ℕ
-  pub seconds : List ℕ
-  pub xs : List Float
-  pub ys : List Float
-  pub zs : List Float
-  pub ws : List Float
+  pub words : List ℕ
+  pub numbers : List Float
 
-abbrev pub flat : (codes firsts seconds : List ℕ) (xs ys zs ws : List Float) → Flat
-flat codes firsts seconds xs ys zs ws =
-    record { codes = codes; firsts = firsts; seconds = seconds; xs = xs; ys = ys; zs = zs; ws = ws }
+abbrev pub flatOf : List ℕ → List Float → Flat
+flatOf words numbers = record { words = words; numbers = numbers }
+
+-- rows of 64, one for each function of a list: its value for the part at each place
+unfoldable pub entryRows : {A : Type 0} → List (Part → A) → List Part → List A
+entryRows [] parts = []
+entryRows (f ∷ fs) parts = tabulate 64 (λ p. f (partOf parts p)) ++ entryRows fs parts
+
+abbrev pub wordEntries : List (Part → ℕ)
+wordEntries = codeOf ∷ firstInput ∷ secondInput ∷ []
+
+abbrev pub numberEntries : List (Part → Float)
+numberEntries = (λ q. vectorOf q .x) ∷ (λ q. vectorOf q .y) ∷ (λ q. vectorOf q .z) ∷ numberOf ∷ []
 
 -- the lists of a list of parts
 abbrev pub layoutOf : List Part → Flat
-layoutOf parts =
-    flat (map codeOf parts) (map firstInput parts) (map secondInput parts)
-    (map (λ q. vectorOf q .x) parts) (map (λ q. vectorOf q .y) parts) (map (λ q. vectorOf q .z) parts)
-    (map numberOf parts)
+layoutOf parts = flatOf (entryRows wordEntries parts) (entryRows numberEntries parts)
 
 -- the parts in the order of their codes: the part of a code with its vector, number and inputs; a code that no part has stands for the constant +0
 unfoldable pub partFrom : ℕ → Vec3 → Float → (a b : ℕ) → Part
@@ -99,11 +102,11 @@ placed p part = cond (inputsBelow p part) part (Constant plusZero)
 unfoldable pub partAt : Flat → ℕ → Part
 partAt l p =
     placed p
-    (partFrom (getD (l .codes) p 0)
-    (vec3 (getD (l .xs) p past) (getD (l .ys) p past) (getD (l .zs) p past))
-    (getD (l .ws) p past)
-    (getD (l .firsts) p 0)
-    (getD (l .seconds) p 0))
+    (partFrom (getD (l .words) p 0)
+    (vec3 (getD (l .numbers) p past) (getD (l .numbers) (64 + p) past) (getD (l .numbers) (128 + p) past))
+    (getD (l .numbers) (192 + p) past)
+    (getD (l .words) (64 + p) 0)
+    (getD (l .words) (128 + p) 0))
 
 -- the first `count` parts
 abbrev pub partsOf : Flat → ℕ → List Part

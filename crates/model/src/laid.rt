@@ -1,12 +1,12 @@
 // A part's places in the flat arrays: a code, two inputs, a vector and a number, each 0 where the part has none.
 ghost use mathlib.Core.Path.{_≡_};
 ghost use mathlib.Core.List.{map};
-ghost use Prim.Native.Nat.{_<_};
+ghost use Prim.Native.Nat.{_+_, _<_};
 ghost use lib.ListN.{length, set};
 ghost use Rattle.float.specs.Zero.{plusZero};
 ghost use Rattle.geometry.specs.Values.{vec3};
 ghost use Rattle.model.specs.Part.{partIn};
-ghost use Rattle.model.specs.Flat.{flat, layoutOf, codeOf, firstInput, secondInput, vectorOf, numberOf};
+ghost use Rattle.model.specs.Flat.{flatOf, layoutOf, codeOf, firstInput, secondInput, vectorOf, numberOf};
 use super::ModelComponent;
 use super::Part;
 use geometry::Vec3;
@@ -71,64 +71,35 @@ pub fn entries(part: Part) -> Entry
     }
 }
 
-// Writes a part's entries at its place.
-pub fn store_part(
-    part: Part,
-    p: usize,
-    codes: &mut [u32; 64],
-    firsts: &mut [u32; 64],
-    seconds: &mut [u32; 64],
-    xs: &mut [f64; 64],
-    ys: &mut [f64; 64],
-    zs: &mut [f64; 64],
-    ws: &mut [f64; 64],
-)
+// Writes a part's entries at its place in each row of 64.
+pub fn store_part(part: Part, p: usize, words: &mut [u32; 192], numbers: &mut [f64; 256])
     requires { ⌜ p < 64 ⌝ }
-    ensures { λ _. ⌜ now (codes .exit) ≡ set (now (codes .entry)) p (codeOf part) ⌝ }
-    ensures { λ _. ⌜ now (firsts .exit) ≡ set (now (firsts .entry)) p (firstInput part) ⌝ }
-    ensures { λ _. ⌜ now (seconds .exit) ≡ set (now (seconds .entry)) p (secondInput part) ⌝ }
-    ensures { λ _. ⌜ now (xs .exit) ≡ set (now (xs .entry)) p (vectorOf part .x) ⌝ }
-    ensures { λ _. ⌜ now (ys .exit) ≡ set (now (ys .entry)) p (vectorOf part .y) ⌝ }
-    ensures { λ _. ⌜ now (zs .exit) ≡ set (now (zs .entry)) p (vectorOf part .z) ⌝ }
-    ensures { λ _. ⌜ now (ws .exit) ≡ set (now (ws .entry)) p (numberOf part) ⌝ }
+    ensures { λ _. ⌜ now (words .exit) ≡ set (set (set (now (words .entry)) p (codeOf part)) (64 + p) (firstInput part)) (128 + p) (secondInput part) ⌝ }
+    ensures { λ _. ⌜ now (numbers .exit) ≡ set (set (set (set (now (numbers .entry)) p (vectorOf part .x)) (64 + p) (vectorOf part .y)) (128 + p) (vectorOf part .z)) (192 + p) (numberOf part) ⌝ }
 {
     let e = entries(part);
     let v = e.vector;
-    codes[p] = e.code;
-    firsts[p] = e.first;
-    seconds[p] = e.second;
-    xs[p] = v.x;
-    ys[p] = v.y;
-    zs[p] = v.z;
-    ws[p] = e.number;
+    words[p] = e.code;
+    words[64 + p] = e.first;
+    words[128 + p] = e.second;
+    numbers[p] = v.x;
+    numbers[64 + p] = v.y;
+    numbers[128 + p] = v.z;
+    numbers[192 + p] = e.number;
 }
 
 // Writes the entries of all 64 parts. Clearing the arrays first makes their lengths known to the proof.
-pub fn lay_parts(
-    parts: [ModelComponent; 64],
-    codes: &mut [u32; 64],
-    firsts: &mut [u32; 64],
-    seconds: &mut [u32; 64],
-    xs: &mut [f64; 64],
-    ys: &mut [f64; 64],
-    zs: &mut [f64; 64],
-    ws: &mut [f64; 64],
-)
-    ensures { λ _. ⌜ flat (now (codes .exit)) (now (firsts .exit)) (now (seconds .exit)) (now (xs .exit)) (now (ys .exit)) (now (zs .exit)) (now (ws .exit)) ≡ layoutOf (map partIn parts) ⌝ }
+pub fn lay_parts(parts: [ModelComponent; 64], words: &mut [u32; 192], numbers: &mut [f64; 256])
+    ensures { λ _. ⌜ flatOf (now (words .exit)) (now (numbers .exit)) ≡ layoutOf (map partIn parts) ⌝ }
     ensures { λ _. ⌜ length parts ≡ 64 ⌝ }
 {
-    *codes = [0; 64];
-    *firsts = [0; 64];
-    *seconds = [0; 64];
-    *xs = [0.0; 64];
-    *ys = [0.0; 64];
-    *zs = [0.0; 64];
-    *ws = [0.0; 64];
+    *words = [0; 192];
+    *numbers = [0.0; 256];
     let mut p: usize = 0;
     while p < 64 {
         let component = parts[p];
         let part = component.part;
-        store_part(part, p, codes, firsts, seconds, xs, ys, zs, ws);
+        store_part(part, p, words, numbers);
         p += 1;
     }
 }

@@ -7,7 +7,7 @@ ghost use Prim.Native.Nat.{_≤_, min};
 ghost use lib.ListN.{length, drop};
 ghost use lib.Dec.{ltb};
 ghost use Rattle.model.specs.Part.{partIn, inputsBelow};
-ghost use Rattle.model.specs.Flat.{flat, layoutOf, partsOf};
+ghost use Rattle.model.specs.Flat.{flatOf, layoutOf, partsOf};
 ghost use Rattle.model.specs.Row.{evaluatedRows, modelRow};
 ghost use Rattle.model.specs.Model.{valuesTo, modelValue, orderedTo, refusedByFour, evaluationOf};
 use geometry::Vec3;
@@ -109,22 +109,14 @@ pub fn cause_four(model: ImplicitModel) -> bool
     !ordered(parts, count)
 }
 
-// Lays a model's parts out in seven arrays, whole: for each part its code, its inputs and its numbers.
-pub fn lay_out(
-    model: ImplicitModel,
-    codes: &mut [u32; 64],
-    firsts: &mut [u32; 64],
-    seconds: &mut [u32; 64],
-    xs: &mut [f64; 64],
-    ys: &mut [f64; 64],
-    zs: &mut [f64; 64],
-    ws: &mut [f64; 64],
-)
-    ensures { λ _. ⌜ flat (now (codes .exit)) (now (firsts .exit)) (now (seconds .exit)) (now (xs .exit)) (now (ys .exit)) (now (zs .exit)) (now (ws .exit)) ≡ layoutOf (map partIn (model .parts)) ⌝ }
+// Lays a model's parts out in two arrays, whole: the codes, first inputs and second inputs of its 64 parts in one, their
+// numbers x, y, z and w in the other.
+pub fn lay_out(model: ImplicitModel, words: &mut [u32; 192], numbers: &mut [f64; 256])
+    ensures { λ _. ⌜ flatOf (now (words .exit)) (now (numbers .exit)) ≡ layoutOf (map partIn (model .parts)) ⌝ }
     ensures { λ _. ⌜ length (model .parts) ≡ 64 ⌝ }
 {
     let parts = model.parts;
-    laid::lay_parts(parts, codes, firsts, seconds, xs, ys, zs, ws);
+    laid::lay_parts(parts, words, numbers);
 }
 
 // n, or 64 where n is more.
@@ -137,24 +129,19 @@ fn at_most_64(n: usize) -> usize
 // The value at a point of the first `count` parts that flat arrays of any contents stand for, 64 at most. The parts' values
 // are left in `values`, in order.
 pub fn evaluate_flat(
-    codes: &[u32; 64],
-    firsts: &[u32; 64],
-    seconds: &[u32; 64],
-    xs: &[f64; 64],
-    ys: &[f64; 64],
-    zs: &[f64; 64],
-    ws: &[f64; 64],
+    words: &[u32; 192],
+    numbers: &[f64; 256],
     count: usize,
     x: f64,
     y: f64,
     z: f64,
     values: &mut [f64; 64],
 ) -> f64
-    ensures { λ r. ⌜ r ≡ modelValue (partsOf (flat (now (codes .entry)) (now (firsts .entry)) (now (seconds .entry)) (now (xs .entry)) (now (ys .entry)) (now (zs .entry)) (now (ws .entry))) (min count 64)) (min count 64) x y z ⌝ }
-    ensures { λ _. ⌜ now (values .exit) ≡ valuesTo (partsOf (flat (now (codes .entry)) (now (firsts .entry)) (now (seconds .entry)) (now (xs .entry)) (now (ys .entry)) (now (zs .entry)) (now (ws .entry))) (min count 64)) x y z (min count 64) ++ drop (min count 64) (now (values .entry)) ⌝ }
+    ensures { λ r. ⌜ r ≡ modelValue (partsOf (flatOf (now (words .entry)) (now (numbers .entry))) (min count 64)) (min count 64) x y z ⌝ }
+    ensures { λ _. ⌜ now (values .exit) ≡ valuesTo (partsOf (flatOf (now (words .entry)) (now (numbers .entry))) (min count 64)) x y z (min count 64) ++ drop (min count 64) (now (values .entry)) ⌝ }
 {
     let m = at_most_64(count);
-    point::fill_values(codes, firsts, seconds, xs, ys, zs, ws, m, x, y, z, values);
+    point::fill_values(words, numbers, m, x, y, z, values);
     if m == 0 {
         return 0.0;
     }
@@ -168,51 +155,19 @@ pub fn evaluate_at_coord(model: ImplicitModel, x: f64, y: f64, z: f64) -> Evalua
     if cause_four(model) {
         return Evaluation::Refused(4);
     }
-    let mut codes = [0u32; 64];
-    let mut firsts = [0u32; 64];
-    let mut seconds = [0u32; 64];
-    let mut xs = [0.0; 64];
-    let mut ys = [0.0; 64];
-    let mut zs = [0.0; 64];
-    let mut ws = [0.0; 64];
+    let mut words = [0u32; 192];
+    let mut numbers = [0.0; 256];
     let mut values = [0.0; 64];
-    lay_out(
-        model,
-        &mut codes,
-        &mut firsts,
-        &mut seconds,
-        &mut xs,
-        &mut ys,
-        &mut zs,
-        &mut ws,
-    );
+    lay_out(model, &mut words, &mut numbers);
     let count = model.count as usize;
-    let value = evaluate_flat(
-        &codes,
-        &firsts,
-        &seconds,
-        &xs,
-        &ys,
-        &zs,
-        &ws,
-        count,
-        x,
-        y,
-        z,
-        &mut values,
-    );
+    let value = evaluate_flat(&words, &numbers, count, x, y, z, &mut values);
     Evaluation::Value(value)
 }
 
 // The values of the first `count` parts at n points, 64 at most of each: part p's value at point i is left at p * 64 + i.
 pub fn evaluate_row(
-    codes: &[u32; 64],
-    firsts: &[u32; 64],
-    seconds: &[u32; 64],
-    xs: &[f64; 64],
-    ys: &[f64; 64],
-    zs: &[f64; 64],
-    ws: &[f64; 64],
+    words: &[u32; 192],
+    numbers: &[f64; 256],
     count: usize,
     px: &[f64; 64],
     py: &[f64; 64],
@@ -220,36 +175,17 @@ pub fn evaluate_row(
     n: usize,
     values: &mut [f64; 4096],
 )
-    ensures { λ _. ⌜ now (values .exit) ≡ evaluatedRows (flat (now (codes .entry)) (now (firsts .entry)) (now (seconds .entry)) (now (xs .entry)) (now (ys .entry)) (now (zs .entry)) (now (ws .entry))) (min count 64) (min n 64) (now (px .entry)) (now (py .entry)) (now (pz .entry)) (now (values .entry)) ⌝ }
+    ensures { λ _. ⌜ now (values .exit) ≡ evaluatedRows (flatOf (now (words .entry)) (now (numbers .entry))) (min count 64) (min n 64) (now (px .entry)) (now (py .entry)) (now (pz .entry)) (now (values .entry)) ⌝ }
 {
     let parts = at_most_64(count);
     let points = at_most_64(n);
-    row::fill_parts(
-        codes,
-        firsts,
-        seconds,
-        xs,
-        ys,
-        zs,
-        ws,
-        parts,
-        px,
-        py,
-        pz,
-        points,
-        values,
-    );
+    row::fill_parts(words, numbers, parts, px, py, pz, points, values);
 }
 
 // The same, with the model's value at each point left at the front of `results`.
 pub fn evaluate_row_into(
-    codes: &[u32; 64],
-    firsts: &[u32; 64],
-    seconds: &[u32; 64],
-    xs: &[f64; 64],
-    ys: &[f64; 64],
-    zs: &[f64; 64],
-    ws: &[f64; 64],
+    words: &[u32; 192],
+    numbers: &[f64; 256],
     count: usize,
     px: &[f64; 64],
     py: &[f64; 64],
@@ -258,26 +194,12 @@ pub fn evaluate_row_into(
     values: &mut [f64; 4096],
     results: &mut [f64; 64],
 )
-    ensures { λ _. ⌜ now (values .exit) ≡ evaluatedRows (flat (now (codes .entry)) (now (firsts .entry)) (now (seconds .entry)) (now (xs .entry)) (now (ys .entry)) (now (zs .entry)) (now (ws .entry))) (min count 64) (min n 64) (now (px .entry)) (now (py .entry)) (now (pz .entry)) (now (values .entry)) ⌝ }
-    ensures { λ _. ⌜ now (results .exit) ≡ modelRow (flat (now (codes .entry)) (now (firsts .entry)) (now (seconds .entry)) (now (xs .entry)) (now (ys .entry)) (now (zs .entry)) (now (ws .entry))) (min count 64) (min n 64) (now (px .entry)) (now (py .entry)) (now (pz .entry)) (now (results .entry)) ⌝ }
+    ensures { λ _. ⌜ now (values .exit) ≡ evaluatedRows (flatOf (now (words .entry)) (now (numbers .entry))) (min count 64) (min n 64) (now (px .entry)) (now (py .entry)) (now (pz .entry)) (now (values .entry)) ⌝ }
+    ensures { λ _. ⌜ now (results .exit) ≡ modelRow (flatOf (now (words .entry)) (now (numbers .entry))) (min count 64) (min n 64) (now (px .entry)) (now (py .entry)) (now (pz .entry)) (now (results .entry)) ⌝ }
 {
     let parts = at_most_64(count);
     let points = at_most_64(n);
-    row::fill_parts(
-        codes,
-        firsts,
-        seconds,
-        xs,
-        ys,
-        zs,
-        ws,
-        parts,
-        px,
-        py,
-        pz,
-        points,
-        values,
-    );
+    row::fill_parts(words, numbers, parts, px, py, pz, points, values);
     if parts == 0 {
         row::clear_row(points, results);
         return;

@@ -6,7 +6,7 @@ ghost use lib.ListN.{length, drop};
 ghost use Rattle.geometry.specs.Values.{vec3};
 ghost use Rattle.model.specs.Part.{sphereValue, planeValue, partValue};
 ghost use Rattle.model.specs.Model.{valuesTo};
-ghost use Rattle.model.specs.Flat.{flat, partFrom, placed, partAt, partsOf};
+ghost use Rattle.model.specs.Flat.{flatOf, partFrom, placed, partAt, partsOf};
 use geometry::Vec3;
 
 // A place that an array of u32 names, as an index.
@@ -85,13 +85,8 @@ pub fn entry_value(
 
 // The value of the part at place p of the flat arrays.
 pub fn part_value(
-    codes: &[u32; 64],
-    firsts: &[u32; 64],
-    seconds: &[u32; 64],
-    xs: &[f64; 64],
-    ys: &[f64; 64],
-    zs: &[f64; 64],
-    ws: &[f64; 64],
+    words: &[u32; 192],
+    numbers: &[f64; 256],
     p: usize,
     x: f64,
     y: f64,
@@ -99,18 +94,18 @@ pub fn part_value(
     values: &[f64],
 ) -> f64
     requires { ⌜ (p < 64) × (p ≤ length (now values)) ⌝ }
-    ensures { λ r. ⌜ r ≡ partValue (partAt (flat (now (codes .entry)) (now (firsts .entry)) (now (seconds .entry)) (now (xs .entry)) (now (ys .entry)) (now (zs .entry)) (now (ws .entry))) p) x y z (now (values .entry)) ⌝ }
+    ensures { λ r. ⌜ r ≡ partValue (partAt (flatOf (now (words .entry)) (now (numbers .entry))) p) x y z (now (values .entry)) ⌝ }
 {
-    let a = place(firsts[p]);
-    let b = place(seconds[p]);
+    let a = place(words[64 + p]);
+    let b = place(words[128 + p]);
     entry_value(
-        codes[p],
+        words[p],
         a,
         b,
-        xs[p],
-        ys[p],
-        zs[p],
-        ws[p],
+        numbers[p],
+        numbers[64 + p],
+        numbers[128 + p],
+        numbers[192 + p],
         p,
         x,
         y,
@@ -121,13 +116,8 @@ pub fn part_value(
 
 // The values of the first `count` parts, in order.
 pub fn fill_values(
-    codes: &[u32; 64],
-    firsts: &[u32; 64],
-    seconds: &[u32; 64],
-    xs: &[f64; 64],
-    ys: &[f64; 64],
-    zs: &[f64; 64],
-    ws: &[f64; 64],
+    words: &[u32; 192],
+    numbers: &[f64; 256],
     count: usize,
     x: f64,
     y: f64,
@@ -135,12 +125,12 @@ pub fn fill_values(
     values: &mut [f64],
 )
     requires { ⌜ (count ≤ 64) × (count ≤ length (now values)) ⌝ }
-    ensures { λ _. ⌜ now (values .exit) ≡ valuesTo (partsOf (flat (now (codes .entry)) (now (firsts .entry)) (now (seconds .entry)) (now (xs .entry)) (now (ys .entry)) (now (zs .entry)) (now (ws .entry))) count) x y z count ++ drop count (now (values .entry)) ⌝ }
+    ensures { λ _. ⌜ now (values .exit) ≡ valuesTo (partsOf (flatOf (now (words .entry)) (now (numbers .entry))) count) x y z count ++ drop count (now (values .entry)) ⌝ }
     ensures { λ _. ⌜ count ≤ length (now (values .entry)) ⌝ }
 {
     let mut p: usize = 0;
     while p < count {
-        let value = part_value(codes, firsts, seconds, xs, ys, zs, ws, p, x, y, z, values);
+        let value = part_value(words, numbers, p, x, y, z, values);
         values[p] = value;
         p += 1;
     }

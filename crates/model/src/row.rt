@@ -7,7 +7,7 @@ ghost use Rattle.lists.specs.Tabulate.{tabulate};
 ghost use Rattle.float.specs.Zero.{plusZero};
 ghost use Rattle.geometry.specs.Values.{vec3};
 ghost use Rattle.model.specs.Part.{past, partValue};
-ghost use Rattle.model.specs.Flat.{flat, partFrom, placed, partAt};
+ghost use Rattle.model.specs.Flat.{flatOf, partFrom, placed, partAt};
 ghost use Rattle.model.specs.Row.{laneAt, filledRow, lane, evaluatedRows};
 use super::lanes;
 use super::point;
@@ -77,13 +77,8 @@ pub fn fill_entry(
 
 // The row of the part at place p of the flat arrays.
 pub fn fill_part(
-    codes: &[u32; 64],
-    firsts: &[u32; 64],
-    seconds: &[u32; 64],
-    xs: &[f64; 64],
-    ys: &[f64; 64],
-    zs: &[f64; 64],
-    ws: &[f64; 64],
+    words: &[u32; 192],
+    numbers: &[f64; 256],
     p: usize,
     px: &[f64; 64],
     py: &[f64; 64],
@@ -92,18 +87,18 @@ pub fn fill_part(
     values: &mut [f64; 4096],
 )
     requires { ⌜ (p < 64) × (n ≤ 64) ⌝ }
-    ensures { λ _. ⌜ now (values .exit) ≡ filledRow (now (values .entry)) p n (λ k. partValue (partAt (flat (now (codes .entry)) (now (firsts .entry)) (now (seconds .entry)) (now (xs .entry)) (now (ys .entry)) (now (zs .entry)) (now (ws .entry))) p) (getD (now (px .entry)) k past) (getD (now (py .entry)) k past) (getD (now (pz .entry)) k past) (lane (now (values .entry)) k p)) ⌝ }
+    ensures { λ _. ⌜ now (values .exit) ≡ filledRow (now (values .entry)) p n (λ k. partValue (partAt (flatOf (now (words .entry)) (now (numbers .entry))) p) (getD (now (px .entry)) k past) (getD (now (py .entry)) k past) (getD (now (pz .entry)) k past) (lane (now (values .entry)) k p)) ⌝ }
 {
-    let a = point::place(firsts[p]);
-    let b = point::place(seconds[p]);
+    let a = point::place(words[64 + p]);
+    let b = point::place(words[128 + p]);
     fill_entry(
-        codes[p],
+        words[p],
         a,
         b,
-        xs[p],
-        ys[p],
-        zs[p],
-        ws[p],
+        numbers[p],
+        numbers[64 + p],
+        numbers[128 + p],
+        numbers[192 + p],
         p,
         px,
         py,
@@ -115,13 +110,8 @@ pub fn fill_part(
 
 // The rows of the first `count` parts, in order.
 pub fn fill_parts(
-    codes: &[u32; 64],
-    firsts: &[u32; 64],
-    seconds: &[u32; 64],
-    xs: &[f64; 64],
-    ys: &[f64; 64],
-    zs: &[f64; 64],
-    ws: &[f64; 64],
+    words: &[u32; 192],
+    numbers: &[f64; 256],
     count: usize,
     px: &[f64; 64],
     py: &[f64; 64],
@@ -130,25 +120,11 @@ pub fn fill_parts(
     values: &mut [f64; 4096],
 )
     requires { ⌜ (count ≤ 64) × (n ≤ 64) ⌝ }
-    ensures { λ _. ⌜ now (values .exit) ≡ evaluatedRows (flat (now (codes .entry)) (now (firsts .entry)) (now (seconds .entry)) (now (xs .entry)) (now (ys .entry)) (now (zs .entry)) (now (ws .entry))) count n (now (px .entry)) (now (py .entry)) (now (pz .entry)) (now (values .entry)) ⌝ }
+    ensures { λ _. ⌜ now (values .exit) ≡ evaluatedRows (flatOf (now (words .entry)) (now (numbers .entry))) count n (now (px .entry)) (now (py .entry)) (now (pz .entry)) (now (values .entry)) ⌝ }
 {
     let mut p: usize = 0;
     while p < count {
-        fill_part(
-            codes,
-            firsts,
-            seconds,
-            xs,
-            ys,
-            zs,
-            ws,
-            p,
-            px,
-            py,
-            pz,
-            n,
-            values,
-        );
+        fill_part(words, numbers, p, px, py, pz, n, values);
         p += 1;
     }
 }

@@ -39,39 +39,12 @@ pub fn refusal_right(model: ImplicitModel, p: Vec3) -> bool
 pub fn flat_value(model: ImplicitModel, p: Vec3) -> f64
     ensures { λ r. ⌜ r ≡ flatValue model (p .x) (p .y) (p .z) ⌝ }
 {
-    let mut codes = [0u32; 64];
-    let mut firsts = [0u32; 64];
-    let mut seconds = [0u32; 64];
-    let mut xs = [0.0; 64];
-    let mut ys = [0.0; 64];
-    let mut zs = [0.0; 64];
-    let mut ws = [0.0; 64];
+    let mut words = [0u32; 192];
+    let mut numbers = [0.0; 256];
     let mut values = [0.0; 64];
-    model::lay_out(
-        model,
-        &mut codes,
-        &mut firsts,
-        &mut seconds,
-        &mut xs,
-        &mut ys,
-        &mut zs,
-        &mut ws,
-    );
+    model::lay_out(model, &mut words, &mut numbers);
     let count = model.count as usize;
-    model::evaluate_flat(
-        &codes,
-        &firsts,
-        &seconds,
-        &xs,
-        &ys,
-        &zs,
-        &ws,
-        count,
-        p.x,
-        p.y,
-        p.z,
-        &mut values,
-    )
+    model::evaluate_flat(&words, &numbers, count, p.x, p.y, p.z, &mut values)
 }
 
 // A row of coordinates with x in lane 3, among others.
@@ -91,37 +64,18 @@ fn around(x: f64) -> [f64; 64]
 pub fn row_value(model: ImplicitModel, p: Vec3) -> f64
     ensures { λ r. ⌜ r ≡ flatValue model (p .x) (p .y) (p .z) ⌝ }
 {
-    let mut codes = [0u32; 64];
-    let mut firsts = [0u32; 64];
-    let mut seconds = [0u32; 64];
-    let mut xs = [0.0; 64];
-    let mut ys = [0.0; 64];
-    let mut zs = [0.0; 64];
-    let mut ws = [0.0; 64];
+    let mut words = [0u32; 192];
+    let mut numbers = [0.0; 256];
     let mut values = [0.0; 4096];
     let mut results = [0.0; 64];
-    model::lay_out(
-        model,
-        &mut codes,
-        &mut firsts,
-        &mut seconds,
-        &mut xs,
-        &mut ys,
-        &mut zs,
-        &mut ws,
-    );
+    model::lay_out(model, &mut words, &mut numbers);
     let px = around(p.x);
     let py = around(p.y);
     let pz = around(p.z);
     let count = model.count as usize;
     model::evaluate_row_into(
-        &codes,
-        &firsts,
-        &seconds,
-        &xs,
-        &ys,
-        &zs,
-        &ws,
+        &words,
+        &numbers,
         count,
         &px,
         &py,

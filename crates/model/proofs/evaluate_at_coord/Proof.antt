@@ -27,9 +27,9 @@ evaluate-flat-requires c κs = search needs
 returns-2 : tie.Need-returns-2
 unfolding evaluationOf firstOf
 returns-2 c =
-    let a = c .before .before .before .before .before .before .before .before .before .before .before .before .before .before .before .before .before .before .before .before .args in
-    let passed = sym (c .before .before .before .before .before .before .before .before .before .before .before .before .before .before .before .before .before .before .before .cause-four .ensures) ∙ c .before .before .before .before .before .before .before .before .before .before .before .before .before .before .before .before .before .before .if1 .left in
-    let laid = c .before .before .before .before .before .before .before .before .before .before .lay-out .ensures in
+    let a = c .before .before .before .before .before .before .before .before .before .before .args in
+    let passed = sym (c .before .before .before .before .before .before .before .before .before .cause-four .ensures) ∙ c .before .before .before .before .before .before .before .before .if1 .left in
+    let laid = c .before .before .before .before .before .lay-out .ensures in
     simp passed
     (ap Value
     (c .evaluate-flat .ensures .0

@@ -8,7 +8,7 @@ use lib.Ieee.{Float}
 use denote.Ref.{now}
 use Rattle.model.specs.Part.{past}
 use Rattle.model.specs.Model.{modelValue}
-use Rattle.model.specs.Flat.{Flat, flat, partsOf}
+use Rattle.model.specs.Flat.{Flat, flatOf, partsOf}
 use Rattle.model.proofs.FlatValues.{written, none-value, last-written}
 use native.Mathlib.Omega.{arith}
 use Rattle.model.proofs.evaluate_flat.Statement.{statement}
@@ -23,7 +23,7 @@ fill-values-requires c κs = search needs
 returns : tie.Need-returns
 returns c =
     let a = c .before .before .before .before .args in
-    let l : Flat = flat (now (a .codes)) (now (a .firsts)) (now (a .seconds)) (now (a .xs)) (now (a .ys)) (now (a .zs)) (now (a .ws)) in
+    let l : Flat = flatOf (now (a .words)) (now (a .numbers)) in
     let cut = c .before .before .before .at-most-64 .ensures in
     let filled = c .before .fill-values .ensures .0 in (
       sym (none-value l (a .x) (a .y) (a .z) (sym cut ∙ c .if1 .taken)),
@@ -42,7 +42,7 @@ element-copy-out-result c = search needs
 returns-2 : tie.Need-returns-2
 returns-2 c =
     let a = c .before .before .before .before .before .args in
-    let l : Flat = flat (now (a .codes)) (now (a .firsts)) (now (a .seconds)) (now (a .xs)) (now (a .ys)) (now (a .zs)) (now (a .ws)) in
+    let l : Flat = flatOf (now (a .words)) (now (a .numbers)) in
     let cut = c .before .before .before .before .at-most-64 .ensures in
     let filled = c .before .before .fill-values .ensures .0 in
     let m = c .before .before .before .before .at-most-64 .result in

@@ -2,7 +2,7 @@
 use borrow.Author.Needs.{needs}
 use mathlib.Core.Path.{_∙_}
 use denote.Ref.{now}
-use Rattle.model.specs.Flat.{Flat, flat}
+use Rattle.model.specs.Flat.{Flat, flatOf}
 use Rattle.model.specs.Row.{evaluatedRows}
 use Rattle.model.proofs.evaluate_row.Statement.{statement}
 use Rattle.model.proofs.evaluate_row.Tie as tie
@@ -19,7 +19,7 @@ fill-parts-requires c κs = search needs
 returns : tie.Need-returns
 returns c =
     let a = c .before .before .before .before .args in
-    let l : Flat = flat (now (a .codes)) (now (a .firsts)) (now (a .seconds)) (now (a .xs)) (now (a .ys)) (now (a .zs)) (now (a .ws)) in
+    let l : Flat = flatOf (now (a .words)) (now (a .numbers)) in
     let parts = c .before .before .before .at-most-64 .ensures in
     let points = c .before .before .at-most-642 .ensures in
     c .fill-parts .ensures

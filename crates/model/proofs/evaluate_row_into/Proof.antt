@@ -2,7 +2,7 @@
 use borrow.Author.Needs.{needs}
 use mathlib.Core.Path.{_∙_}
 use denote.Ref.{now}
-use Rattle.model.specs.Flat.{Flat, flat}
+use Rattle.model.specs.Flat.{Flat, flatOf}
 use Rattle.model.specs.Row.{evaluatedRows, modelRow}
 use Rattle.model.proofs.AllRows.{row-of-last, row-of-none}
 use native.Mathlib.Omega.{arith}
@@ -24,7 +24,7 @@ clear-row-requires c κs = search needs
 returns : tie.Need-returns
 returns c =
     let a = c .before .before .before .before .before .before .before .args in
-    let l : Flat = flat (now (a .codes)) (now (a .firsts)) (now (a .seconds)) (now (a .xs)) (now (a .ys)) (now (a .zs)) (now (a .ws)) in
+    let l : Flat = flatOf (now (a .words)) (now (a .numbers)) in
     let parts = c .before .before .before .before .before .before .at-most-64 in
     let points = c .before .before .before .before .before .at-most-642 in
     let filled = c .before .before .before .fill-parts .ensures in (
@@ -43,7 +43,7 @@ copy-row-requires c κs = search needs
 returns-2 : tie.Need-returns-2
 returns-2 c =
     let a = c .before .before .before .before .before .before .before .before .before .args in
-    let l : Flat = flat (now (a .codes)) (now (a .firsts)) (now (a .seconds)) (now (a .xs)) (now (a .ys)) (now (a .zs)) (now (a .ws)) in
+    let l : Flat = flatOf (now (a .words)) (now (a .numbers)) in
     let parts = c .before .before .before .before .before .before .before .before .at-most-64 in
     let points = c .before .before .before .before .before .before .before .at-most-642 in
     let filled = c .before .before .before .before .before .fill-parts .ensures in (

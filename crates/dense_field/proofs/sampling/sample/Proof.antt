@@ -28,7 +28,7 @@ cast-count c = search needs
 
 sample-rows-requires : tie.Need-sample-rows-requires
 sample-rows-requires c κs =
-    let none = sym (c .before .before .before .before .before .before .before .before .before .before .before .before .before .before .before .before .before .before .before .sample-cause .ensures) ∙ c .before .before .before .before .before .before .before .before .before .before .before .before .before .before .before .before .before .before .if1 .left in
+    let none = sym (c .before .before .before .before .before .before .before .before .before .sample-cause .ensures) ∙ c .before .before .before .before .before .before .before .before .if1 .left in
     lent _ _ (passed _ _ _ _ _ none .right-length)
 
 same-length : tie.Need-same-length
@@ -37,9 +37,9 @@ same-length c = search needs
 returns-2 : tie.Need-returns-2
 unfolding sampleOutcome
 returns-2 c =
-    let a = c .before .before .before .before .before .before .before .before .before .before .before .before .before .before .before .before .before .before .before .before .before .before .before .before .args in
-    let none = sym (c .before .before .before .before .before .before .before .before .before .before .before .before .before .before .before .before .before .before .before .before .before .before .sample-cause .ensures) ∙ c .before .before .before .before .before .before .before .before .before .before .before .before .before .before .before .before .before .before .before .before .before .if1 .left in
-    let laid = c .before .before .before .before .before .before .before .before .before .before .before .before .before .lay-out .ensures in
+    let a = c .before .before .before .before .before .before .before .before .before .before .before .before .before .before .args in
+    let none = sym (c .before .before .before .before .before .before .before .before .before .before .before .before .sample-cause .ensures) ∙ c .before .before .before .before .before .before .before .before .before .before .before .if1 .left in
+    let laid = c .before .before .before .before .before .before .before .before .lay-out .ensures in
     let zero = ap (λ m. eqb m 0) none in
     let in-order = passed _ _ _ _ _ none .in-order in
     (rw zero refl, rw zero (c .before .before .sample-rows .ensures ∙ flat-sampled (a .model) _ (a .origin) (a .cell) (a .n) in-order (laid .1) (laid .0)))

@@ -6,7 +6,7 @@ use Prim.Native.Nat.{min, _+_, _*_, _≤_, _-_}
 use lib.ListN.{length}
 use Rattle.lists.specs.Filled.{filled}
 use Rattle.lists.proofs.Filling.{filled-none, filled-length, filled-more, filled-done}
-use Rattle.model.specs.Flat.{flat}
+use Rattle.model.specs.Flat.{flatOf}
 use Rattle.dense_field.specs.Lent.{Lent}
 use Rattle.dense_field.specs.Runs.{flatAt}
 use Rattle.dense_field.proofs.PadLaws.{Within, within}
@@ -14,10 +14,10 @@ use Rattle.dense_field.proofs.sampling.sample_row.Statement.{statement}
 use Rattle.dense_field.proofs.sampling.sample_row.Tie as tie
 
 abbrev Inv-loop : tie.InvT-loop
-Inv-loop codes firsts seconds xs ys zs ws count origin cell n j k scratch₀ values₀ row i₀ scratch values i = (i ≤ n .i) × (length values ≡ length values₀) × (values ≡ filled (k * (n .i * n .j) + j * n .i) i (flatAt (flat codes firsts seconds xs ys zs ws) (min count 64) origin cell n) values₀)
+Inv-loop words numbers count origin cell n j k scratch₀ values₀ row i₀ scratch values i = (i ≤ n .i) × (length values ≡ length values₀) × (values ≡ filled (k * (n .i * n .j) + j * n .i) i (flatAt (flatOf words numbers) (min count 64) origin cell n) values₀)
 
 abbrev μ-loop : tie.MeasureT-loop
-μ-loop codes firsts seconds xs ys zs ws count origin cell n j k scratch₀ values₀ row i₀ scratch values i = n .i - i
+μ-loop words numbers count origin cell n j k scratch₀ values₀ row i₀ scratch values i = n .i - i
 
 loop-holds : tie.Need-loop-holds Inv-loop μ-loop
 loop-holds c = (search needs, search needs, sym (filled-none _ _ _))
@@ -53,7 +53,7 @@ loop-again : tie.Need-loop-again Inv-loop μ-loop
 loop-again c =
     let a = c .before .before .before .before .before .before .before .before .before .before .args in
     let s = c .before .before .before .before .before .before .before .before .loop in
-    let g = flatAt (flat (a .codes .now) (a .firsts .now) (a .seconds .now) (a .xs .now) (a .ys .now) (a .zs .now) (a .ws .now)) (min (a .count) 64) (a .origin) (a .cell) (a .n) in
+    let g = flatAt (flatOf (a .words .now) (a .numbers .now)) (min (a .count) 64) (a .origin) (a .cell) (a .n) in
     let from = a .k * (a .n .i * a .n .j) + a .j * a .n .i in
     let len = c .before .before .before .before .before .before .run-length .result in
     let e = c .before .before .before .before .before .new .ensures in

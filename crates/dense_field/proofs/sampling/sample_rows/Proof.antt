@@ -7,7 +7,7 @@ use lib.ListN.{length}
 use Rattle.lists.specs.Filled.{filled}
 use Rattle.lists.proofs.Filling.{filled-none, filled-length, filled-more, filled-done, filled-all}
 use Rattle.float.specs.Zero.{plusZero}
-use Rattle.model.specs.Flat.{flat}
+use Rattle.model.specs.Flat.{flatOf}
 use Rattle.dense_field.specs.Lent.{Lent}
 use Rattle.dense_field.specs.Field.{pointsOf}
 use Rattle.dense_field.specs.Runs.{flatAt}
@@ -16,10 +16,10 @@ use Rattle.dense_field.proofs.sampling.sample_rows.Statement.{statement
 use Rattle.dense_field.proofs.sampling.sample_rows.Tie as tie
 
 abbrev Inv-loop : tie.InvT-loop
-Inv-loop codes firsts seconds xs ys zs ws count origin cell n scratch₀ values₀ rows r₀ scratch values r = (r ≤ n .j * n .k) × (length values ≡ length values₀) × (values ≡ filled 0 (r * n .i) (flatAt (flat codes firsts seconds xs ys zs ws) (min count 64) origin cell n) values₀)
+Inv-loop words numbers count origin cell n scratch₀ values₀ rows r₀ scratch values r = (r ≤ n .j * n .k) × (length values ≡ length values₀) × (values ≡ filled 0 (r * n .i) (flatAt (flatOf words numbers) (min count 64) origin cell n) values₀)
 
 abbrev μ-loop : tie.MeasureT-loop
-μ-loop codes firsts seconds xs ys zs ws count origin cell n scratch₀ values₀ rows r₀ scratch values r = n .j * n .k - r
+μ-loop words numbers count origin cell n scratch₀ values₀ rows r₀ scratch values r = n .j * n .k - r
 
 mul-rows : tie.Need-mul-rows Inv-loop μ-loop
 mul-rows c = omega (arith, rows-few (c .before .before .pre))
@@ -27,7 +27,7 @@ mul-rows c = omega (arith, rows-few (c .before .before .pre))
 loop-holds : tie.Need-loop-holds Inv-loop μ-loop
 loop-holds c =
     let a = c .before .before .args in
-    let g = flatAt (flat (a .codes .now) (a .firsts .now) (a .seconds .now) (a .xs .now) (a .ys .now) (a .zs .now) (a .ws .now)) (min (a .count) 64) (a .origin) (a .cell) (a .n) in
+    let g = flatAt (flatOf (a .words .now) (a .numbers .now)) (min (a .count) 64) (a .origin) (a .cell) (a .n) in
     let none : 0 ≡ 0 * a .n .i = omega arith in
     (search needs, search needs, filled-done 0 g (a .values .now) (sym (filled-none 0 g (a .values .now))) none)
 
@@ -55,7 +55,7 @@ loop-again : tie.Need-loop-again Inv-loop μ-loop
 loop-again c =
     let a = c .before .before .before .before .before .before .before .before .before .before .before .args in
     let s = c .before .before .before .before .before .before .before .before .loop in
-    let g = flatAt (flat (a .codes .now) (a .firsts .now) (a .seconds .now) (a .xs .now) (a .ys .now) (a .zs .now) (a .ws .now)) (min (a .count) 64) (a .origin) (a .cell) (a .n) in
+    let g = flatAt (flatOf (a .words .now) (a .numbers .now)) (min (a .count) 64) (a .origin) (a .cell) (a .n) in
     let here : s .r * a .n .i ≡ 0 + s .r * a .n .i = omega arith in
     let row = c .before .before .sample-row .ensures ∙ ap (λ m. filled m (a .n .i) g (s .values)) (row-number (a .n) (s .r) ∙ here) in
     let next = filled-more 0 (s .r * a .n .i) (a .n .i) {total = (s .r + 1) * a .n .i} g (a .values .now) (s .inv .2) row (omega arith) in
@@ -68,7 +68,7 @@ returns : tie.Need-returns Inv-loop μ-loop
 returns c =
     let a = c .before .before .before .before .args in
     let s = c .before .loop in
-    let g = flatAt (flat (a .codes .now) (a .firsts .now) (a .seconds .now) (a .xs .now) (a .ys .now) (a .zs .now) (a .ws .now)) (min (a .count) 64) (a .origin) (a .cell) (a .n) in
+    let g = flatAt (flatOf (a .words .now) (a .numbers .now)) (min (a .count) 64) (a .origin) (a .cell) (a .n) in
     let last : s .r ≡ a .n .j * a .n .k = omega arith in
     filled-done 0 g (a .values .now) (s .inv .2) (ap (λ m. m * a .n .i) last ∙ rows-all (a .n))
     ∙ filled-all (pointsOf (a .n)) g (a .values .now) plusZero (c .before .before .before .before .pre .long)

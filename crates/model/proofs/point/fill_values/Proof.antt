@@ -5,22 +5,22 @@ use Prim.Native.Nat.{_-_, _≤_}
 use lib.ListN.{length}
 use denote.Ref.{now}
 use Rattle.model.specs.Model.{valuesTo}
-use Rattle.model.specs.Flat.{Flat, flat}
+use Rattle.model.specs.Flat.{Flat, flatOf}
 use Rattle.model.proofs.FlatValues.{written, written-more, length-written}
 use native.Mathlib.Omega.{arith}
 use Rattle.model.proofs.point.fill_values.Statement.{statement}
 use Rattle.model.proofs.point.fill_values.Tie as tie
 
 abbrev Inv-loop : tie.InvT-loop
-Inv-loop codes firsts seconds xs ys zs ws count x y z values₀ p₀ values p = (p ≤ count) × (values ≡ written (flat codes firsts seconds xs ys zs ws) count x y z values₀ p)
+Inv-loop words numbers count x y z values₀ p₀ values p = (p ≤ count) × (values ≡ written (flatOf words numbers) count x y z values₀ p)
 
 abbrev μ-loop : tie.MeasureT-loop
-μ-loop codes firsts seconds xs ys zs ws count x y z values₀ p₀ values p = count - p
+μ-loop words numbers count x y z values₀ p₀ values p = count - p
 
 abbrev layout : tie.At-loop Inv-loop μ-loop → Flat
 layout c =
     let a = c .before .before .args in
-    flat (now (a .codes)) (now (a .firsts)) (now (a .seconds)) (now (a .xs)) (now (a .ys)) (now (a .zs)) (now (a .ws))
+    flatOf (now (a .words)) (now (a .numbers))
 
 same-long : (c : tie.At-loop Inv-loop μ-loop) → length (c .loop .values) ≡ length (c .before .before .args .values .now)
 same-long c =

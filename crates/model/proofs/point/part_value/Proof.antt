@@ -1,10 +1,13 @@
 -- `point::part_value` meets its contract: it hands the part's entries on.
 use borrow.Author.Needs.{needs}
-use Rattle.model.specs.Flat.{flat}
+use Rattle.model.specs.Flat.{flatOf}
 use Rattle.model.proofs.ByCode.{at-entries}
 use denote.Ref.{now}
 use Rattle.model.proofs.point.part_value.Statement.{statement}
 use Rattle.model.proofs.point.part_value.Tie as tie
+
+add-place : tie.Need-add-place
+add-place c = search needs
 
 mul-place : tie.Need-mul-place
 mul-place c = search needs
@@ -14,6 +17,9 @@ element-copy-out-place c = search needs
 
 place-requires : tie.Need-place-requires
 place-requires c κs = search needs
+
+add-place-2 : tie.Need-add-place-2
+add-place-2 c = search needs
 
 mul-place-2 : tie.Need-mul-place-2
 mul-place-2 c = search needs
@@ -36,17 +42,26 @@ mul-entry-value-2 c = search needs
 element-copy-out-entry-value-2 : tie.Need-element-copy-out-entry-value-2
 element-copy-out-entry-value-2 c = search needs
 
+add-entry-value : tie.Need-add-entry-value
+add-entry-value c = search needs
+
 mul-entry-value-3 : tie.Need-mul-entry-value-3
 mul-entry-value-3 c = search needs
 
 element-copy-out-entry-value-3 : tie.Need-element-copy-out-entry-value-3
 element-copy-out-entry-value-3 c = search needs
 
+add-entry-value-2 : tie.Need-add-entry-value-2
+add-entry-value-2 c = search needs
+
 mul-entry-value-4 : tie.Need-mul-entry-value-4
 mul-entry-value-4 c = search needs
 
 element-copy-out-entry-value-4 : tie.Need-element-copy-out-entry-value-4
 element-copy-out-entry-value-4 c = search needs
+
+add-entry-value-3 : tie.Need-add-entry-value-3
+add-entry-value-3 c = search needs
 
 mul-entry-value-5 : tie.Need-mul-entry-value-5
 mul-entry-value-5 c = search needs
@@ -61,7 +76,7 @@ returns : tie.Need-returns
 returns c =
     let a = c .before .before .before .before .before .before .before .before .before .before .before .args in
     at-entries
-    (flat (now (a .codes)) (now (a .firsts)) (now (a .seconds)) (now (a .xs)) (now (a .ys)) (now (a .zs)) (now (a .ws)))
+    (flatOf (now (a .words)) (now (a .numbers)))
     (a .p)
     (c .before .before .before .before .before .before .before .before .place .result)
     (c .before .before .before .before .before .before .place2 .result)
@@ -77,9 +92,11 @@ pub part-value-spec : {M : Type 1} → statement M
 part-value-spec =
     tie.close
     (tie.spec
+    add-place
     mul-place
     element-copy-out-place
     place-requires
+    add-place-2
     mul-place-2
     element-copy-out-place-2
     place-requires-2
@@ -87,10 +104,13 @@ part-value-spec =
     element-copy-out-entry-value
     mul-entry-value-2
     element-copy-out-entry-value-2
+    add-entry-value
     mul-entry-value-3
     element-copy-out-entry-value-3
+    add-entry-value-2
     mul-entry-value-4
     element-copy-out-entry-value-4
+    add-entry-value-3
     mul-entry-value-5
     element-copy-out-entry-value-5
     entry-value-requires

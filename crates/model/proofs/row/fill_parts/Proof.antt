@@ -3,22 +3,22 @@ use borrow.Author.Needs.{needs}
 use mathlib.Core.Path.{_≡_, refl, ap, _∙_}
 use Prim.Native.Nat.{_-_, _≤_}
 use denote.Ref.{now}
-use Rattle.model.specs.Flat.{Flat, flat}
+use Rattle.model.specs.Flat.{Flat, flatOf}
 use Rattle.model.proofs.AllRows.{rowsTo, rows-more, all-rows}
 use native.Mathlib.Omega.{arith}
 use Rattle.model.proofs.row.fill_parts.Statement.{statement}
 use Rattle.model.proofs.row.fill_parts.Tie as tie
 
 abbrev Inv-loop : tie.InvT-loop
-Inv-loop codes firsts seconds xs ys zs ws count px py pz n values₀ p₀ values p = (p ≤ count) × (values ≡ rowsTo (flat codes firsts seconds xs ys zs ws) n px py pz values₀ p)
+Inv-loop words numbers count px py pz n values₀ p₀ values p = (p ≤ count) × (values ≡ rowsTo (flatOf words numbers) n px py pz values₀ p)
 
 abbrev μ-loop : tie.MeasureT-loop
-μ-loop codes firsts seconds xs ys zs ws count px py pz n values₀ p₀ values p = count - p
+μ-loop words numbers count px py pz n values₀ p₀ values p = count - p
 
 abbrev layout : tie.At-loop Inv-loop μ-loop → Flat
 layout c =
     let a = c .before .args in
-    flat (now (a .codes)) (now (a .firsts)) (now (a .seconds)) (now (a .xs)) (now (a .ys)) (now (a .zs)) (now (a .ws))
+    flatOf (now (a .words)) (now (a .numbers))
 
 loop-holds : tie.Need-loop-holds Inv-loop μ-loop
 unfolding rowsTo

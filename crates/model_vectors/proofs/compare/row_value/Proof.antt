@@ -32,8 +32,8 @@ array-read-result c = search needs
 returns : tie.Need-returns
 returns c =
     ap (λ (row : List Float). getD row 3 _) (c .evaluate-row-into .ensures .1)
-    ∙ in-row (c .before .before .before .before .before .before .before .before .before .before .before .before .before .before .before .before .before .before .before .before .before .before .before .before .before .args .model) _ (c .before .before .before .before .before .before .before .before .before .before .before .before .before .before .before .before .before .lay-out .ensures .0) _ _ _ _ _ _ _ _
-    (c .before .before .before .before .before .before .before .before .before .before .before .before .before .before .before .before .around .ensures) (c .before .before .before .before .before .before .before .before .before .before .before .before .before .before .before .around2 .ensures) (c .before .before .before .before .before .before .before .before .before .before .before .before .before .before .around3 .ensures)
+    ∙ in-row (c .before .before .before .before .before .before .before .before .before .before .before .before .before .before .before .args .model) _ (c .before .before .before .before .before .before .before .before .before .before .before .before .lay-out .ensures .0) _ _ _ _ _ _ _ _
+    (c .before .before .before .before .before .before .before .before .before .before .before .around .ensures) (c .before .before .before .before .before .before .before .before .before .before .around2 .ensures) (c .before .before .before .before .before .before .before .before .before .around3 .ensures)
 
 pub row-value-spec : {M : Type 1} → statement M
 row-value-spec =
