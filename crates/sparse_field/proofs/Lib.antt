@@ -2,3 +2,4 @@ pub mod AroundLaws
 pub mod Searching
 pub mod Writing
 pub mod Running
+pub mod RowValues

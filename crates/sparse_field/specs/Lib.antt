@@ -5,5 +5,7 @@ pub mod Around
 pub mod CornerRun
 pub mod Gathered
 pub mod Written
+pub mod FlatValue
+pub mod RowLent
 pub mod Records
 pub mod Calls

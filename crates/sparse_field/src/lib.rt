@@ -5,6 +5,7 @@ use grid::Lengths;
 use model::ImplicitModel;
 
 mod corners; // corners.rt: the needed corners, evaluated in rows
+mod points; // points.rt: the points of a leaf, evaluated in rows
 mod zeroing; // zeroing.rt: slices set to zero
 
 // What a job is made from.

@@ -30,8 +30,8 @@ cast-place c = omega (arith, c .shared-slice-known .given (c .before .before .lo
 mul-corners : tie.Need-mul-corners Inv-loop μ-loop
 mul-corners c = search needs
 
-shared-slice-read-corners : tie.Need-shared-slice-read-corners Inv-loop μ-loop
-shared-slice-read-corners c = search needs
+element-copy-out-corners : tie.Need-element-copy-out-corners Inv-loop μ-loop
+element-copy-out-corners c = search needs
 
 mul-corners-2 : tie.Need-mul-corners-2 Inv-loop μ-loop
 mul-corners-2 c = omega (arith, c .before .shared-slice-known .given (c .before .before .before .loop .q))
@@ -74,7 +74,7 @@ scatter-spec =
     shared-slice-read-place
     cast-place
     mul-corners
-    shared-slice-read-corners
+    element-copy-out-corners
     mul-corners-2
     slice-write-corners
     add-q

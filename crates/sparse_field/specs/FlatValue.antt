@@ -1,0 +1,9 @@
+-- The value of a model whose parts are laid out in two arrays.
+use Prim.Native.Nat.{ℕ}
+use mathlib.Core.List.{List}
+use lib.Ieee.{Float}
+use Rattle.model.specs.Flat.{flatOf, partsOf}
+use Rattle.model.specs.Model.{modelValue}
+
+unfoldable pub flatValue : (words : List ℕ) (reals : List Float) (parts : ℕ) → (x y z : Float) → Float
+flatValue words reals parts x y z = modelValue (partsOf (flatOf words reals) parts) parts x y z

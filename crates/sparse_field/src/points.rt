@@ -1,0 +1,110 @@
+// The points of a leaf, evaluated in rows into the leaf's own stretch of the store.
+ghost use mathlib.Core.Path.{_≡_};
+ghost use Prim.Native.Nat.{min, _+_, _-_, _<_, _≤_};
+ghost use lib.ListN.{length, getD};
+ghost use Rattle.lists.specs.Filled.{filled};
+ghost use Rattle.model.specs.Part.{past};
+ghost use Rattle.grid.specs.Blocks.{cube};
+ghost use Rattle.grid.specs.Leaves.{leafPoint};
+ghost use Rattle.sparse_field.specs.FlatValue.{flatValue};
+ghost use Rattle.sparse_field.specs.Plan.{at};
+ghost use Rattle.sparse_field.specs.RowLent.{RowLent};
+use geometry::BoundingBox;
+
+// How many of a leaf's points a budget makes, where so many are left.
+fn points_made(budget: u64, left: usize) -> usize
+    ensures { λ r. ⌜ r ≡ min budget left ⌝ }
+{
+    if budget < left as u64 { budget as usize } else { left }
+}
+
+// How many points the next row has, where so many are left.
+fn row_points(left: usize) -> usize
+    ensures { λ r. ⌜ r ≡ min left 64 ⌝ }
+{
+    if left < 64 { left } else { 64 }
+}
+
+// Copies the first `count` of a row of values to the stretch from place p on.
+fn copy_row(values: &[f64; 64], count: usize, p: usize, stretch: &mut [f64])
+    requires { ⌜ (count ≤ 64) × (p + count ≤ length (now stretch)) ⌝ }
+    ensures { λ _. ⌜ now (stretch .exit) ≡ filled p count (λ q. getD (now (values .entry)) (q - p) past) (now (stretch .entry)) ⌝ }
+{
+    let mut t = 0;
+    while t < count {
+        stretch[p + t] = values[t];
+        t += 1;
+    }
+}
+
+// Evaluates `count` points of a leaf, at most 64, from point p on. The rows are lent: nothing is made
+// anew for each.
+fn point_row(
+    words: &[u32; 192],
+    reals: &[f64; 256],
+    parts: usize,
+    b: BoundingBox,
+    l: u32,
+    p: usize,
+    count: usize,
+    xs: &mut [f64; 64],
+    ys: &mut [f64; 64],
+    zs: &mut [f64; 64],
+    values: &mut [f64; 64],
+    scratch: &mut [f64; 4096],
+    stretch: &mut [f64],
+)
+    requires { ⌜ (parts ≤ 64) × (0 < l) × (count ≤ 64) × (p + count ≤ length (now stretch)) × RowLent (now xs) (now ys) (now zs) (now values) ⌝ }
+    ensures { λ _. ⌜ RowLent (now (xs .exit)) (now (ys .exit)) (now (zs .exit)) (now (values .exit)) ⌝ }
+    ensures { λ _. ⌜ now (stretch .exit) ≡ filled p count (λ q. at (flatValue (now (words .entry)) (now (reals .entry)) parts) (leafPoint b l q)) (now (stretch .entry)) ⌝ }
+{
+    grid::leaf_points(b, l, p, count, xs, ys, zs);
+    model::evaluate_row_into(words, reals, parts, xs, ys, zs, count, scratch, values);
+    copy_row(values, count, p, stretch);
+}
+
+// Evaluates a leaf's points from point p on, in rows, while the budget lasts, into its stretch of the
+// store. The answer is the next point, or how many a leaf has.
+pub fn fill_points(
+    words: &[u32; 192],
+    reals: &[f64; 256],
+    parts: usize,
+    b: BoundingBox,
+    l: u32,
+    p: usize,
+    budget: u64,
+    scratch: &mut [f64; 4096],
+    stretch: &mut [f64],
+) -> usize
+    requires { ⌜ (0 < l) × (l ≤ 64) × (p ≤ cube l) × (cube l ≤ length (now stretch)) × (parts ≤ 64) ⌝ }
+    ensures { λ r. ⌜ r ≡ p + min budget (cube l - p) ⌝ }
+    ensures { λ _. ⌜ now (stretch .exit) ≡ filled p (min budget (cube l - p)) (λ q. at (flatValue (now (words .entry)) (now (reals .entry)) parts) (leafPoint b l q)) (now (stretch .entry)) ⌝ }
+{
+    let side = l as usize;
+    let made = points_made(budget, side * side * side - p);
+    let mut xs = [0.0; 64];
+    let mut ys = [0.0; 64];
+    let mut zs = [0.0; 64];
+    let mut values = [0.0; 64];
+    let mut t = 0;
+    while t < made {
+        let count = row_points(made - t);
+        point_row(
+            words,
+            reals,
+            parts,
+            b,
+            l,
+            p + t,
+            count,
+            &mut xs,
+            &mut ys,
+            &mut zs,
+            &mut values,
+            scratch,
+            stretch,
+        );
+        t += count;
+    }
+    p + made
+}
