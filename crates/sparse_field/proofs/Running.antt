@@ -1,14 +1,17 @@
 -- Corners evaluated in rows: what one row adds to those before it.
-use mathlib.Core.Path.{_≡_, refl, sym, ap, _∙_}
-use mathlib.Core.Bool.{Bool, cond}
+use mathlib.Core.Path.{_≡_, refl, sym, ap, _∙_, subst}
+use mathlib.Core.Bool.{Bool, true}
 use mathlib.Core.List.{List}
-use Prim.Native.Nat.{ℕ, zero, suc, _+_, _-_, _≤_}
+use mathlib.Core.Logic.{⊎-elim}
+use Prim.Native.Nat.{ℕ, zero, suc, min, _+_, _-_, _≤_, _<_}
 use native.Mathlib.Omega.{arith}
-use lib.ListN.{set}
+use lib.ListN.{length, getD, take}
 use lib.Ieee.{Float}
 use Rattle.schedule.specs.Totals.{sumFrom, bit}
 use Rattle.sparse_field.specs.CornerRun.{neededFrom, evaluatedFrom}
-use Rattle.sparse_field.proofs.Writing.{evaluated-add}
+use Rattle.sparse_field.specs.Gathered.{Gathered}
+use Rattle.sparse_field.specs.Written.{written}
+use Rattle.sparse_field.proofs.Writing.{evaluated-written, evaluated-add, listed-below}
 
 -- first r terms, then s more
 sumFrom-add : (f : ℕ → ℕ) (r s i : ℕ) → sumFrom f (r + s) i ≡ sumFrom f r i + sumFrom f s (i + r)
@@ -52,3 +55,28 @@ module _ (test : ℕ → Bool) (value : ℕ → Float) where
         spent = omega (arith, r .spent);
         written = more-is ∙ ap (evaluatedFrom test value (stop - next) next) (r .written) ∙ sym values;
       }
+
+-- ---- one row: the corners that a search listed
+
+-- each of them is a corner of the node
+pub gathered-below : (test : ℕ → Bool) {total next most count stop : ℕ} {list : List ℕ} → Gathered test total next most count stop list
+    → (q : ℕ) → q < length (take count list) → getD (take count list) q 0 < total
+gathered-below test {total} {next} {most} {count} {stop} {list} g q h =
+    let from = g .found .from in
+    let within = g .within in
+    let listed = g .found .listed in
+    subst (λ l. getD l q 0 < total) (sym listed)
+    (omega (arith, listed-below test (stop - next) next q (subst (λ l. q < length l) listed h)))
+
+module _ (test : ℕ → Bool) (value : ℕ → Float) {total i b next left stop most count : ℕ} {list : List ℕ} {before after : List Float}
+    (r : Ran test value i b next left before after) (g : Gathered test total next most count stop list) (m : most ≡ min left 64) where
+  -- the run goes on by their values
+  pub row-ran : {more : List Float} → more ≡ written value (take count list) after → Ran test value i b stop (left - count) before more
+  row-ran e =
+      let few = g .few in
+      ran-more test value r (g .found .from) (g .found .counted) (omega arith)
+      (e ∙ ap (λ l. written value l after) (g .found .listed) ∙ sym (evaluated-written value test (stop - next) next after))
+
+  -- and where it has neither passed the last corner nor used the budget up, the row was not empty
+  pub row-less : (stop ≡ total → ⊥) → (left - count ≡ 0 → ⊥) → left - count < left
+  row-less on some = ⊎-elim (λ e. absurd (on e)) (λ w. let full = w .0 in omega arith) (g .stops)

@@ -166,17 +166,7 @@ fn corner_row(
     ensures { λ _. ⌜ now (corners .exit) ≡ written (λ c. at (flatValue (now (words .entry)) (now (reals .entry)) parts) (cornerPoint b n c)) (now (list .entry)) (now (corners .entry)) ⌝ }
 {
     grid::corner_points(b, n, list, xs, ys, zs);
-    model::evaluate_row_into(
-        words,
-        reals,
-        parts,
-        xs,
-        ys,
-        zs,
-        list.len(),
-        scratch,
-        values,
-    );
+    model::evaluate_row_into(words, reals, parts, xs, ys, zs, list.len(), scratch, values);
     scatter(list, values, corners);
 }
 

@@ -15,7 +15,11 @@ use geometry::BoundingBox;
 fn points_made(budget: u64, left: usize) -> usize
     ensures { λ r. ⌜ r ≡ min budget left ⌝ }
 {
-    if budget < left as u64 { budget as usize } else { left }
+    if budget < left as u64 {
+        budget as usize
+    } else {
+        left
+    }
 }
 
 // How many points the next row has, where so many are left.
