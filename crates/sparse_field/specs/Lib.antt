@@ -7,5 +7,6 @@ pub mod Gathered
 pub mod Written
 pub mod FlatValue
 pub mod RowLent
+pub mod Axes
 pub mod Records
 pub mod Calls

@@ -3,9 +3,11 @@ ghost use mathlib.Core.Path.{_≡_};
 ghost use Prim.Native.Nat.{min, _+_, _-_, _<_, _≤_};
 ghost use lib.ListN.{length, getD};
 ghost use Rattle.lists.specs.Filled.{filled};
+ghost use Rattle.geometry.specs.Axis.{along};
 ghost use Rattle.model.specs.Part.{past};
 ghost use Rattle.grid.specs.Blocks.{cube};
 ghost use Rattle.grid.specs.Leaves.{leafPoint};
+ghost use Rattle.sparse_field.specs.Axes.{axesPoint};
 ghost use Rattle.sparse_field.specs.FlatValue.{flatValue};
 ghost use Rattle.sparse_field.specs.Plan.{at};
 ghost use Rattle.sparse_field.specs.RowLent.{RowLent};
@@ -29,6 +31,53 @@ fn row_points(left: usize) -> usize
     if left < 64 { left } else { 64 }
 }
 
+// Where the l points of an axis from `least` to `most` stand.
+fn axis_points(least: f64, most: f64, l: u32, places: &mut [f64; 64])
+    requires { ⌜ l ≤ 64 ⌝ }
+    ensures { λ _. ⌜ now (places .exit) ≡ filled 0 l (along least most (l - 1)) (now (places .entry)) ⌝ }
+{
+    let step = geometry::step_along(least, most, grid::steps_between(l));
+    let count = l as usize;
+    let mut i: usize = 0;
+    while i < count {
+        places[i] = float::computed(least + float::from_count(i as u64) * step);
+        i += 1;
+    }
+}
+
+// Writes `count` points of a leaf, from point p on, to the front of a row, out of where the points of
+// each axis stand.
+fn place_points(
+    l: u32,
+    p: usize,
+    count: usize,
+    ax: &[f64; 64],
+    ay: &[f64; 64],
+    az: &[f64; 64],
+    xs: &mut [f64; 64],
+    ys: &mut [f64; 64],
+    zs: &mut [f64; 64],
+)
+    requires { ⌜ (0 < l) × (l ≤ 64) × (count ≤ 64) × (p + count ≤ cube l) ⌝ }
+    ensures { λ _. ⌜ now (xs .exit) ≡ filled 0 count (λ q. axesPoint l (now (ax .entry)) (now (ay .entry)) (now (az .entry)) (p + q) .x) (now (xs .entry)) ⌝ }
+    ensures { λ _. ⌜ now (ys .exit) ≡ filled 0 count (λ q. axesPoint l (now (ax .entry)) (now (ay .entry)) (now (az .entry)) (p + q) .y) (now (ys .entry)) ⌝ }
+    ensures { λ _. ⌜ now (zs .exit) ≡ filled 0 count (λ q. axesPoint l (now (ax .entry)) (now (ay .entry)) (now (az .entry)) (p + q) .z) (now (zs .entry)) ⌝ }
+{
+    let side = l as usize;
+    let mut at = grid::indices(p, side, side);
+    let mut q: usize = 0;
+    while q < count {
+        let i = at.i;
+        let j = at.j;
+        let k = at.k;
+        xs[q] = ax[i];
+        ys[q] = ay[j];
+        zs[q] = az[k];
+        at = grid::next_indices(at, side, side);
+        q += 1;
+    }
+}
+
 // Copies the first `count` of a row of values to the stretch from place p on.
 fn copy_row(values: &[f64; 64], count: usize, p: usize, stretch: &mut [f64])
     requires { ⌜ (count ≤ 64) × (p + count ≤ length (now stretch)) ⌝ }
@@ -47,10 +96,12 @@ fn point_row(
     words: &[u32; 192],
     reals: &[f64; 256],
     parts: usize,
-    b: BoundingBox,
     l: u32,
     p: usize,
     count: usize,
+    ax: &[f64; 64],
+    ay: &[f64; 64],
+    az: &[f64; 64],
     xs: &mut [f64; 64],
     ys: &mut [f64; 64],
     zs: &mut [f64; 64],
@@ -58,17 +109,17 @@ fn point_row(
     scratch: &mut [f64; 4096],
     stretch: &mut [f64],
 )
-    requires { ⌜ (parts ≤ 64) × (0 < l) × (count ≤ 64) × (p + count ≤ length (now stretch)) × RowLent (now xs) (now ys) (now zs) (now values) ⌝ }
+    requires { ⌜ (parts ≤ 64) × (0 < l) × (l ≤ 64) × (count ≤ 64) × (p + count ≤ cube l) × (cube l ≤ length (now stretch)) × RowLent (now xs) (now ys) (now zs) (now values) ⌝ }
     ensures { λ _. ⌜ RowLent (now (xs .exit)) (now (ys .exit)) (now (zs .exit)) (now (values .exit)) ⌝ }
-    ensures { λ _. ⌜ now (stretch .exit) ≡ filled p count (λ q. at (flatValue (now (words .entry)) (now (reals .entry)) parts) (leafPoint b l q)) (now (stretch .entry)) ⌝ }
+    ensures { λ _. ⌜ now (stretch .exit) ≡ filled p count (λ q. at (flatValue (now (words .entry)) (now (reals .entry)) parts) (axesPoint l (now (ax .entry)) (now (ay .entry)) (now (az .entry)) q)) (now (stretch .entry)) ⌝ }
 {
-    grid::leaf_points(b, l, p, count, xs, ys, zs);
+    place_points(l, p, count, ax, ay, az, xs, ys, zs);
     model::evaluate_row_into(words, reals, parts, xs, ys, zs, count, scratch, values);
     copy_row(values, count, p, stretch);
 }
 
 // Evaluates a leaf's points from point p on, in rows, while the budget lasts, into its stretch of the
-// store. The answer is the next point, or how many a leaf has.
+// store. The answer is the next point, or how many a leaf has. The axes are worked out once.
 pub fn fill_points(
     words: &[u32; 192],
     reals: &[f64; 256],
@@ -86,6 +137,14 @@ pub fn fill_points(
 {
     let side = l as usize;
     let made = points_made(budget, side * side * side - p);
+    let min = b.min;
+    let max = b.max;
+    let mut ax = [0.0; 64];
+    let mut ay = [0.0; 64];
+    let mut az = [0.0; 64];
+    axis_points(min.x, max.x, l, &mut ax);
+    axis_points(min.y, max.y, l, &mut ay);
+    axis_points(min.z, max.z, l, &mut az);
     let mut xs = [0.0; 64];
     let mut ys = [0.0; 64];
     let mut zs = [0.0; 64];
@@ -97,10 +156,12 @@ pub fn fill_points(
             words,
             reals,
             parts,
-            b,
             l,
             p + t,
             count,
+            &ax,
+            &ay,
+            &az,
             &mut xs,
             &mut ys,
             &mut zs,
