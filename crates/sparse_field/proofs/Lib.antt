@@ -3,3 +3,4 @@ pub mod Searching
 pub mod Writing
 pub mod Running
 pub mod RowValues
+pub mod AxesLaws

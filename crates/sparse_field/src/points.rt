@@ -118,8 +118,54 @@ fn point_row(
     copy_row(values, count, p, stretch);
 }
 
-// Evaluates a leaf's points from point p on, in rows, while the budget lasts, into its stretch of the
-// store. The answer is the next point, or how many a leaf has. The axes are worked out once.
+// Evaluates `made` points of a leaf, from point p on, in rows.
+fn fill_rows(
+    words: &[u32; 192],
+    reals: &[f64; 256],
+    parts: usize,
+    l: u32,
+    p: usize,
+    made: usize,
+    ax: &[f64; 64],
+    ay: &[f64; 64],
+    az: &[f64; 64],
+    scratch: &mut [f64; 4096],
+    stretch: &mut [f64],
+)
+    requires { ⌜ (parts ≤ 64) × (0 < l) × (l ≤ 64) × (p + made ≤ cube l) × (cube l ≤ length (now stretch)) ⌝ }
+    ensures { λ _. ⌜ now (stretch .exit) ≡ filled p made (λ q. at (flatValue (now (words .entry)) (now (reals .entry)) parts) (axesPoint l (now (ax .entry)) (now (ay .entry)) (now (az .entry)) q)) (now (stretch .entry)) ⌝ }
+{
+    let mut xs = [0.0; 64];
+    let mut ys = [0.0; 64];
+    let mut zs = [0.0; 64];
+    let mut values = [0.0; 64];
+    let mut t = 0;
+    while t < made {
+        let count = row_points(made - t);
+        point_row(
+            words,
+            reals,
+            parts,
+            l,
+            p + t,
+            count,
+            ax,
+            ay,
+            az,
+            &mut xs,
+            &mut ys,
+            &mut zs,
+            &mut values,
+            scratch,
+            stretch,
+        );
+        t += count;
+    }
+}
+
+// Evaluates a leaf's points from point p on, while the budget lasts, into its stretch of the store. The
+// answer is the next point, or how many a leaf has. Where the points of each axis stand is worked out
+// once.
 pub fn fill_points(
     words: &[u32; 192],
     reals: &[f64; 256],
@@ -137,39 +183,12 @@ pub fn fill_points(
 {
     let side = l as usize;
     let made = points_made(budget, side * side * side - p);
-    let min = b.min;
-    let max = b.max;
     let mut ax = [0.0; 64];
     let mut ay = [0.0; 64];
     let mut az = [0.0; 64];
-    axis_points(min.x, max.x, l, &mut ax);
-    axis_points(min.y, max.y, l, &mut ay);
-    axis_points(min.z, max.z, l, &mut az);
-    let mut xs = [0.0; 64];
-    let mut ys = [0.0; 64];
-    let mut zs = [0.0; 64];
-    let mut values = [0.0; 64];
-    let mut t = 0;
-    while t < made {
-        let count = row_points(made - t);
-        point_row(
-            words,
-            reals,
-            parts,
-            l,
-            p + t,
-            count,
-            &ax,
-            &ay,
-            &az,
-            &mut xs,
-            &mut ys,
-            &mut zs,
-            &mut values,
-            scratch,
-            stretch,
-        );
-        t += count;
-    }
+    axis_points(b.min.x, b.max.x, l, &mut ax);
+    axis_points(b.min.y, b.max.y, l, &mut ay);
+    axis_points(b.min.z, b.max.z, l, &mut az);
+    fill_rows(words, reals, parts, l, p, made, &ax, &ay, &az, scratch, stretch);
     p + made
 }
