@@ -189,6 +189,18 @@ pub fn fill_points(
     axis_points(b.min.x, b.max.x, l, &mut ax);
     axis_points(b.min.y, b.max.y, l, &mut ay);
     axis_points(b.min.z, b.max.z, l, &mut az);
-    fill_rows(words, reals, parts, l, p, made, &ax, &ay, &az, scratch, stretch);
+    fill_rows(
+        words,
+        reals,
+        parts,
+        l,
+        p,
+        made,
+        &ax,
+        &ay,
+        &az,
+        scratch,
+        stretch,
+    );
     p + made
 }
