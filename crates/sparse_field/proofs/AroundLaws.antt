@@ -1,11 +1,10 @@
 -- A corner is needed exactly where one of the children around it is active.
 use mathlib.Core.Path.{_≡_, refl, sym, ap, _∙_, subst}
-use mathlib.Core.Bool.{Bool, true, false, true≢false, cond, _&&_, _||_, or-true}
-use mathlib.Core.List.{List}
-use Prim.Native.Nat.{ℕ, zero, suc, _+_, _*_, _-_, _≤_, _<_}
+use mathlib.Core.Bool.{Bool, true, false, true≢false, _&&_, _||_, or-true}
+use Prim.Native.Nat.{ℕ, _+_, _*_, _-_, _≤_, _<_}
 use native.Mathlib.Nat.{mul-assoc, mul-le-mul, mul-le-mul-right}
 use native.Mathlib.Omega.{arith}
-use borrow.Author.Tests.{lt-ltb, le-ltb, ltb-true, ltb-false}
+use borrow.Author.Tests.{lt-ltb, le-ltb, ltb-true}
 use lib.Dec.{ltb}
 use lib.ListN.{getD}
 use Rattle.geometry.specs.declared.Vec3i.{Vec3i}
@@ -18,8 +17,8 @@ use Rattle.grid.specs.Blocks.{cube}
 use Rattle.grid.specs.Boxes.{childIndices}
 use Rattle.grid.specs.Corners.{octet, needed}
 use Rattle.grid.proofs.Eight.{each}
-use Rattle.grid.proofs.Needing.{Child, needed-child, octet-needed}
-use Rattle.grid.proofs.Octets.{Within, within, octet-length}
+use Rattle.grid.proofs.Needing.{needed-child, octet-needed}
+use Rattle.grid.proofs.Octets.{within, octet-length}
 use Rattle.sparse_field.specs.Around.{either, rowHas, slabHas, around}
 
 -- ---- the two children along an axis
@@ -189,7 +188,7 @@ module _ (n : ℕ) (act : ℕ → Bool) (above : 0 < n) where
     where
       agree : (a b : Bool) → (a ≡ true → b ≡ true) → (b ≡ true → a ≡ true) → a ≡ b
       agree true b f g = sym (f refl)
-      agree false true f g = sym (sym (g refl))
+      agree false true f g = g refl
       agree false false f g = refl
 
 -- ---- rows and slabs lie within the children

@@ -11,6 +11,7 @@ ghost use Rattle.sparse_field.specs.Axes.{axesPoint};
 ghost use Rattle.sparse_field.specs.FlatValue.{flatValue};
 ghost use Rattle.sparse_field.specs.Plan.{at};
 ghost use Rattle.sparse_field.specs.RowLent.{RowLent};
+use crate::corners::row_length;
 use geometry::BoundingBox;
 
 // How many of a leaf's points a budget makes, where so many are left.
@@ -22,13 +23,6 @@ fn points_made(budget: u64, left: usize) -> usize
     } else {
         left
     }
-}
-
-// How many points the next row has, where so many are left.
-fn row_points(left: usize) -> usize
-    ensures { λ r. ⌜ r ≡ min left 64 ⌝ }
-{
-    if left < 64 { left } else { 64 }
 }
 
 // Where the l points of an axis from `least` to `most` stand.
@@ -141,7 +135,7 @@ fn fill_rows(
     let mut values = [0.0; 64];
     let mut t = 0;
     while t < made {
-        let count = row_points(made - t);
+        let count = row_length((made - t) as u64);
         point_row(
             words,
             reals,

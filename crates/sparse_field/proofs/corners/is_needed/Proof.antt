@@ -2,7 +2,6 @@
 use mathlib.Core.Path.{sym, ap, _∙_, subst}
 use native.Mathlib.Omega.{arith}
 use Prim.Native.Nat.{_+_, _≤_}
-use Rattle.geometry.specs.Index.{indicesOf}
 use Rattle.grid.specs.CornerList.{nonzero}
 use Rattle.grid.proofs.Octets.{within}
 use Rattle.sparse_field.specs.Around.{around}

@@ -10,8 +10,6 @@ use Rattle.sparse_field.proofs.AroundLaws.{either-before, either-here, 
 use borrow.Author.Needs.{needs}
 use Rattle.sparse_field.proofs.corners.row_has.Statement.{statement}
 use Rattle.sparse_field.proofs.corners.row_has.Tie as tie
-use Rattle.sparse_field.proofs.corners.row_has.Reads as reads
-use Rattle.sparse_field.proofs.corners.row_has.Lts as lts
 
 sub-if2 : tie.Need-sub-if2
 sub-if2 c = search needs

@@ -1,10 +1,9 @@
 -- `run_corners` meets its contract: at each turn the corners before the next one are done, and the budget is what they leave.
-use mathlib.Core.Path.{_≡_, refl, sym, ap, _∙_}
+use mathlib.Core.Path.{_≡_, refl, sym, _∙_}
 use mathlib.Core.Logic.{⊎-elim, inl, inr}
-use Prim.Native.Nat.{ℕ, min, _+_, _*_, _-_, _<_, _≤_}
-use native.Mathlib.Nat.{min-le-left, min-le-right}
+use Prim.Native.Nat.{ℕ, _+_, _-_, _≤_}
 use native.Mathlib.Omega.{arith}
-use lib.ListN.{length, getD, take, length-replicate}
+use lib.ListN.{length, length-replicate}
 use lib.Seq.{length-take-le}
 use Rattle.float.specs.Zero.{plusZero}
 use Rattle.grid.specs.Blocks.{cube}

@@ -25,10 +25,10 @@ abbrev μ-loop : tie.MeasureT-loop
 μ-loop words reals parts l p made ax ay az scratch₀ stretch₀ xs₀ ys₀ zs₀ values₀ t₀ scratch stretch xs ys zs values t = made - t
 
 -- the next row is not empty, and ends within the points made
-row : (c : tie.After-row-points Inv-loop μ-loop)
-    → (0 < c .row-points .result) × (c .before .before .loop .t + c .row-points .result ≤ c .before .before .before .before .args .made) × (c .row-points .result ≤ 64)
+row : (c : tie.After-row-length Inv-loop μ-loop)
+    → (0 < c .row-length .result) × (c .before .before .loop .t + c .row-length .result ≤ c .before .before .before .before .args .made) × (c .row-length .result ≤ 64)
 row c =
-    let e = c .row-points .ensures in
+    let e = c .row-length .ensures in
     let taken = c .before .loop-test .taken in
     (omega (arith, e, taken), omega (arith, e, taken), omega (arith, e))
 
@@ -37,11 +37,11 @@ loop-holds c =
     let long = length-replicate 64 plusZero in
     (omega arith, record { x-long = long; y-long = long; z-long = long; values-long = long }, refl, sym (filled-none _ _ _))
 
-sub-row-points : tie.Need-sub-row-points Inv-loop μ-loop
-sub-row-points c = search needs
+sub-row-length : tie.Need-sub-row-length Inv-loop μ-loop
+sub-row-length c = search needs
 
-row-points-requires : tie.Need-row-points-requires Inv-loop μ-loop
-row-points-requires c κs = search needs
+row-length-requires : tie.Need-row-length-requires Inv-loop μ-loop
+row-length-requires c κs = search needs
 
 add-point-row : tie.Need-add-point-row Inv-loop μ-loop
 add-point-row c = search needs
@@ -68,7 +68,7 @@ loop-again c =
     let l = r .before .before in
     let a = l .before .before .args in
     let next =
-    filled-more (a .p) (l .loop .t) (r .row-points .result) (λ q. at (flatValue (a .words .now) (a .reals .now) (a .parts)) (axesPoint (a .l) (a .ax .now) (a .ay .now) (a .az .now) q)) (a .stretch .now)
+    filled-more (a .p) (l .loop .t) (r .row-length .result) (λ q. at (flatValue (a .words .now) (a .reals .now) (a .parts)) (axesPoint (a .l) (a .ax .now) (a .ay .now) (a .az .now) q)) (a .stretch .now)
     (l .loop .inv .3) (made .point-row .ensures .1) refl in
     (row r .1, made .point-row .ensures .0, ap length next ∙ filled-length _ _ _ _, next)
 
@@ -85,8 +85,8 @@ fill-rows-spec =
     Inv-loop
     μ-loop
     loop-holds
-    sub-row-points
-    row-points-requires
+    sub-row-length
+    row-length-requires
     add-point-row
     point-row-requires
     add-t
