@@ -1,14 +1,14 @@
 -- Corners evaluated in rows: what one row adds to those before it.
 use mathlib.Core.Path.{_≡_, refl, sym, ap, _∙_, subst}
-use mathlib.Core.Bool.{Bool}
+use mathlib.Core.Bool.{Bool, true}
 use mathlib.Core.List.{List}
-use mathlib.Core.Logic.{⊎-elim}
+use mathlib.Core.Logic.{_⊎_, ⊎-elim}
 use Prim.Native.Nat.{ℕ, zero, suc, min, _+_, _-_, _≤_, _<_}
 use native.Mathlib.Omega.{arith}
 use lib.ListN.{length, getD, take}
 use lib.Ieee.{Float}
 use Rattle.schedule.specs.Totals.{sumFrom, bit}
-use Rattle.sparse_field.specs.CornerRun.{neededFrom, evaluatedFrom}
+use Rattle.sparse_field.specs.CornerRun.{neededFrom, evaluatedFrom, CornerRun}
 use Rattle.sparse_field.specs.Gathered.{Gathered}
 use Rattle.sparse_field.specs.Written.{written}
 use Rattle.sparse_field.proofs.Writing.{evaluated-written, evaluated-add, listed-below}
@@ -76,6 +76,13 @@ module _ (test : ℕ → Bool) (value : ℕ → Float) {total i b next left stop
       let few = g .few in
       ran-more test value r (g .found .from) (g .found .counted) (omega arith)
       (e ∙ ap (λ l. written value l after) (g .found .listed) ∙ sym (evaluated-written value test (stop - next) next after))
+
+  -- it may end there, for one of two reasons
+  pub row-ended : {more : List Float} → more ≡ written value (take count list) after
+      → (stop ≡ total) ⊎ ((left - count ≡ 0) × (test stop ≡ true)) → CornerRun test value total i b stop (left - count) before more
+  row-ended e why =
+      let ran = row-ran e in
+      record { from = ran .from; within = g .within; spent = ran .spent; written = ran .written; stops = why }
 
   -- and where it has neither passed the last corner nor used the budget up, the row was not empty
   pub row-less : (stop ≡ total → ⊥) → (left - count ≡ 0 → ⊥) → left - count < left

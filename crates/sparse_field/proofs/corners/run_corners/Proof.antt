@@ -12,7 +12,7 @@ use Rattle.grid.specs.CornerList.{nonzero}
 use Rattle.sparse_field.specs.Plan.{at}
 use Rattle.sparse_field.specs.FlatValue.{flatValue}
 use Rattle.sparse_field.specs.RowLent.{RowLent}
-use Rattle.sparse_field.proofs.Running.{Ran, ran-none, gathered-below, row-ran, row-less}
+use Rattle.sparse_field.proofs.Running.{Ran, ran-none, gathered-below, row-ran, row-ended, row-less}
 use borrow.Author.Needs.{needs}
 use Rattle.sparse_field.proofs.corners.run_corners.Statement.{statement}
 use Rattle.sparse_field.proofs.corners.run_corners.Tie as tie
@@ -87,14 +87,8 @@ returns c =
     let r = c .before .before .before in
     let g = r .before .before .before .before .before .before .before .before .before in
     let l = g .before .before .before in
-    let ran = row-ran _ _ (l .loop .inv .4) (g .gather .ensures) (g .before .before .row-length .ensures) (r .corner-row .ensures .1) in
-    record {
-      from = ran .from;
-      within = g .gather .ensures .within;
-      spent = ran .spent;
-      written = ran .written;
-      stops = inl (c .if1 .taken ∙ l .before .corner-total .ensures);
-    }
+    row-ended _ _ (l .loop .inv .4) (g .gather .ensures) (g .before .before .row-length .ensures) (r .corner-row .ensures .1)
+    (inl (c .if1 .taken ∙ l .before .corner-total .ensures))
 
 same-length-2 : tie.Need-same-length-2 Inv-loop μ-loop
 same-length-2 c =
@@ -107,14 +101,8 @@ returns-2 c =
     let r = c .before .before .before .before in
     let g = r .before .before .before .before .before .before .before .before .before in
     let l = g .before .before .before in
-    let ran = row-ran _ _ (l .loop .inv .4) (g .gather .ensures) (g .before .before .row-length .ensures) (r .corner-row .ensures .1) in
-    record {
-      from = ran .from;
-      within = g .gather .ensures .within;
-      spent = ran .spent;
-      written = ran .written;
-      stops = ⊎-elim inl (λ w. inr (c .if2 .taken, w .1)) (g .gather .ensures .stops);
-    }
+    row-ended _ _ (l .loop .inv .4) (g .gather .ensures) (g .before .before .row-length .ensures) (r .corner-row .ensures .1)
+    (⊎-elim inl (λ w. inr (c .if2 .taken, w .1)) (g .gather .ensures .stops))
 
 loop-less : tie.Need-loop-less Inv-loop μ-loop
 loop-less c =
