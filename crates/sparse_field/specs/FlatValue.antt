@@ -1,4 +1,4 @@
--- The value of a model whose parts are laid out in two arrays.
+-- The value at a point of the model that two flat arrays stand for.
 use Prim.Native.Nat.{ℕ}
 use mathlib.Core.List.{List}
 use lib.Ieee.{Float}

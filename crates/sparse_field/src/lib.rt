@@ -4,8 +4,8 @@ use grid::Grid;
 use grid::Lengths;
 use model::ImplicitModel;
 
-mod corners; // corners.rt: the needed corners, evaluated in rows
-mod points; // points.rt: the points of a leaf, evaluated in rows
+mod corners; // corners.rt: a node's needed corners, evaluated in rows
+mod points; // points.rt: a leaf's points, evaluated in rows
 mod zeroing; // zeroing.rt: slices set to zero
 
 // What a job is made from.
