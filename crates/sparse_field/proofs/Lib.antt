@@ -4,3 +4,9 @@ pub mod RunLaws
 pub mod Turns
 pub mod ChildLaws
 pub mod NodeLaws
+pub mod AroundLaws
+pub mod Searching
+pub mod Writing
+pub mod Running
+pub mod RowValues
+pub mod AxesLaws

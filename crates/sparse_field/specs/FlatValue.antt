@@ -2,8 +2,8 @@
 use Prim.Native.Nat.{ℕ}
 use mathlib.Core.List.{List}
 use lib.Ieee.{Float}
-use Rattle.model.specs.Model.{modelValue}
 use Rattle.model.specs.Flat.{flatOf, partsOf}
+use Rattle.model.specs.Model.{modelValue}
 
-unfoldable pub flatValue : List ℕ → List Float → ℕ → (x y z : Float) → Float
+unfoldable pub flatValue : (words : List ℕ) (reals : List Float) (parts : ℕ) → (x y z : Float) → Float
 flatValue words reals parts x y z = modelValue (partsOf (flatOf words reals) parts) parts x y z
