@@ -4,3 +4,4 @@ pub mod Runs
 pub mod CornerRun
 pub mod Records
 pub mod Calls
+pub mod Flags

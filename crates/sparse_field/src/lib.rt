@@ -4,6 +4,7 @@ use grid::Grid;
 use grid::Lengths;
 use model::ImplicitModel;
 
+mod kinds; // kinds.rt: the kinds of all children, set and compared
 mod zeroing; // zeroing.rt: slices set to zero
 
 // What a job is made from.
