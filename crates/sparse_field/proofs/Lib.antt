@@ -1,2 +1,4 @@
+pub mod AroundLaws
 pub mod FlagLaws
 pub mod NodeKinds
+pub mod Judgement

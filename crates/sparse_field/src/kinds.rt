@@ -19,9 +19,9 @@ use crate::Input;
 use crate::zeroing::zero_bytes;
 use grid::Grid;
 
-// The cube of a block's size.
+// The cube of a block's size, or of one more.
 pub fn cube_of(n: u32) -> usize
-    requires { ⌜ n ≤ 64 ⌝ }
+    requires { ⌜ n ≤ 65 ⌝ }
     ensures { λ r. ⌜ r ≡ cube n ⌝ }
 {
     let side = n as usize;

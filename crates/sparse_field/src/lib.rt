@@ -4,6 +4,8 @@ use grid::Grid;
 use grid::Lengths;
 use model::ImplicitModel;
 
+mod corners; // corners.rt: the needed corners, evaluated in rows
+mod judging; // judging.rt: which records are impossible
 mod kinds; // kinds.rt: the kinds of all children, set and compared
 mod zeroing; // zeroing.rt: slices set to zero
 
