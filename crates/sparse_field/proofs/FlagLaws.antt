@@ -6,9 +6,9 @@ use Prim.Native.Nat.{ℕ, zero, suc, _+_, _*_, _/_, _%_, _≤_, _<_}
 use native.Mathlib.Nat.{zero-add, add-zero, add-suc, suc-add, mul-le-mul-right, mul-add-div-right, div-eq-of-lt, mul-add-mod-self-right, mod-eq-of-lt}
 use native.Mathlib.Numerals.{add-one}
 use native.Mathlib.Omega.{arith}
-use lib.ListN.{length, getD, take, drop, set, replicate, length-append, length-drop, length-replicate, take-append-drop, drop-of-length-le}
+use lib.ListN.{length, getD, take, drop, set, replicate, length-append, length-drop, take-append-drop, drop-of-length-le}
 use lib.Dec.{eqb}
-use lib.Seq.{take-at, drop-at, drop-drop, take-add, take-suc, take-all, length-take-le, set-at, drop-cons}
+use lib.Seq.{take-at, drop-at, drop-drop, take-add, take-all, length-take-le, set-at, drop-cons}
 use borrow.Author.Tests.{eq-eqb, ne-eqb}
 use borrow.Rule.Slice.PartMut.{putMid}
 use Rattle.schedule.specs.Totals.{bit}

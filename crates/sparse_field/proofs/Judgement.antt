@@ -2,7 +2,7 @@
 use mathlib.Core.Path.{_≡_, refl, sym, ap, _∙_}
 use mathlib.Core.Bool.{Bool, true, false, cond, not, _&&_, _||_, Bool·beq}
 use mathlib.Core.List.{List, [], _∷_}
-use Prim.Native.Nat.{ℕ, zero, suc, _+_, _*_, _/_, _%_, _^_, _≤_, _<_}
+use Prim.Native.Nat.{ℕ, zero, suc, _+_, _*_, _/_, _%_, _≤_, _<_}
 use native.Mathlib.Nat.{zero-add, add-zero, add-suc, suc-add, zero-mul, mul-assoc, mul-le-mul, mul-le-mul-left, mul-le-mul-right, mul-add, mul-add-div-right, div-eq-of-lt, mul-add-mod-self-right, mod-eq-of-lt, div-add-mod'}
 use native.Mathlib.Numerals.{add-one}
 use native.Mathlib.Omega.{arith}
@@ -24,7 +24,7 @@ use Rattle.grid.specs.Nodes.{nodesOf}
 use Rattle.grid.specs.Boxes.{active}
 use Rattle.grid.specs.Counting as counting
 use Rattle.grid.specs.Causes.{refusedByOne, refusedByTwo, refusedByThree, refusedByFive, refusedBySix, childrenOf, openCauses, refusalOf, storeNeeded}
-use Rattle.grid.proofs.BlockLaws.{Block, cube-le}
+use Rattle.grid.proofs.BlockLaws.{cube-le}
 use Rattle.grid.proofs.CauseLaws.{inner-block, leaf-block, few-children}
 use Rattle.schedule.specs.Schedule.{Plan, Cursor, at, corner, point}
 use Rattle.schedule.specs.Totals.{sumFrom, sumBelow, bit, countOf, countBefore, countAll, activeBefore, activeAll, activeUpTo, evaluationsBound}

@@ -1,15 +1,15 @@
 -- Kinds of a node and of all nodes: by the tables of three axes, and in the parts of a slice whose kinds are nonzero at just the active children.
-use mathlib.Core.Path.{_≡_, refl, sym, ap, subst, _∙_}
+use mathlib.Core.Path.{_≡_, refl, sym, ap, _∙_}
 use mathlib.Core.Bool.{Bool, true, false, not, _&&_, _||_}
 use mathlib.Core.List.{List, [], _∷_, _++_, append-nil}
-use Prim.Native.Nat.{ℕ, zero, suc, _+_, _*_, _-_, _/_, _%_, _≤_, _<_}
-use native.Mathlib.Nat.{zero-add, mul-pos, mul-comm, mul-assoc, mul-le-mul-right, div-lt-iff-lt-mul}
+use Prim.Native.Nat.{ℕ, zero, suc, _+_, _*_, _-_, _≤_, _<_}
+use native.Mathlib.Nat.{zero-add, mul-pos, mul-assoc, mul-le-mul-right, div-lt-iff-lt-mul}
 use native.Mathlib.Omega.{arith}
-use lib.Dec.{ltb, eqb}
+use lib.Dec.{eqb}
 use lib.ListN.{length, getD, take, drop, replicate, length-append, length-drop, take-append-drop, drop-of-length-le}
 use lib.Seq.{getD-take, getD-drop, take-at, drop-at, take-all, length-take-le}
 use lib.Ieee.{Float}
-use borrow.Author.Tests.{lt-ltb, le-ltb, eq-eqb, ne-eqb}
+use borrow.Author.Tests.{lt-ltb, le-ltb}
 use borrow.Rule.Slice.PartMut.{putMid}
 use Rattle.geometry.specs.Index.{indicesOf}
 use Rattle.geometry.specs.declared.Vec3i.{Vec3i}
@@ -17,7 +17,7 @@ use Rattle.grid.specs.declared.Grid.{Grid}
 use Rattle.grid.specs.Ranges.{anyBelow}
 use Rattle.grid.specs.Blocks.{cube}
 use Rattle.grid.specs.Nodes.{sizeOf, nodeCounts, nodesOf}
-use Rattle.grid.specs.Boxes.{active, nodeIndices, childIndices}
+use Rattle.grid.specs.Boxes.{active, childIndices}
 use Rattle.grid.specs.Activity.{axisActive}
 use Rattle.grid.specs.Corners as corners
 use Rattle.grid.specs.CornerList as kinds

@@ -1,37 +1,17 @@
 -- `active_up_to` meets its contract: the nonzero kinds before a place are the active children.
-use mathlib.Core.Path.{_≡_, refl, sym, ap, _∙_}
-use mathlib.Core.Logic.{⊎-elim}
-use mathlib.Core.Bool.{Bool, true, false, not, _&&_, _||_}
-use mathlib.Core.List.{List}
-use Prim.Native.Nat.{ℕ, _+_, _*_, _-_, _≤_, _<_}
+use mathlib.Core.Path.{sym, ap, _∙_}
 use native.Mathlib.Omega.{arith}
-use lib.Dec.{ltb, eqb}
-use lib.ListN.{length, getD, take, drop, length-take, length-drop}
 use lib.Seq.{length-take-le}
-use borrow.Author.Tests.{eq-eqb, ne-eqb, lt-ltb, le-ltb, not-true, not-false}
-use Rattle.grid.specs.Blocks.{cube}
-use Rattle.grid.specs.Nodes.{nodesOf}
-use Rattle.grid.specs.Corners as corners
-use Rattle.grid.specs.CornerList as kinds
-use Rattle.grid.proofs.BlockLaws.{cube-le}
-use Rattle.grid.proofs.CauseLaws.{inner-block, leaf-block, few-nodes, nodes-few}
-use Rattle.schedule.specs.Totals.{sumBelow, bit, activeUpTo, evaluationsBound}
-use Rattle.schedule.specs.Opened.{nonzero}
-use Rattle.schedule.specs.Possible.{sameLengths, validCursor, insideChild}
+use Rattle.grid.proofs.CauseLaws.{inner-block}
+use Rattle.schedule.specs.Totals.{activeUpTo}
+use Rattle.schedule.specs.Possible.{validCursor}
 use Rattle.sparse_field.specs.declared.Cursor.{Cursor}
-use Rattle.sparse_field.specs.Plan.{planWith, planOf}
-use Rattle.sparse_field.specs.Records.{numberOf, cursorIn}
-use Rattle.sparse_field.proofs.FlagLaws.{row-below}
-use Rattle.sparse_field.proofs.NodeKinds.{part-needed}
-use Rattle.sparse_field.proofs.Judgement.{count-more, count-skip, sampled-by, not-sampled, bound-fits, counts-nodes, counts-active, counts-sampled, corner-node, corner-place, corner-needed, corner-up-to, point-up-to, point-node, point-child, point-active, point-place, point-valid, leaves-many, leaves-none, leaves-right, joined-first, joined-second, joined-third, joined-rest, active-all, count-up-to}
+use Rattle.sparse_field.specs.Plan.{planOf}
+use Rattle.sparse_field.specs.Records.{cursorIn}
+use Rattle.sparse_field.proofs.Judgement.{corner-up-to, point-up-to, active-all}
 use borrow.Author.Needs.{needs}
 use Rattle.sparse_field.proofs.judging.active_up_to.Statement.{statement}
 use Rattle.sparse_field.proofs.judging.active_up_to.Tie as tie
-use Rattle.sparse_field.proofs.judging.active_up_to.Reads as reads
-use Rattle.sparse_field.proofs.judging.active_up_to.Lts as lts
-use Rattle.grid.proofs.active_children.Reads as active-children-reads
-use Rattle.sparse_field.proofs.judging.count_nonzero.Reads as count-nonzero-reads
-use Rattle.sparse_field.proofs.kinds.cube_of.Reads as cube-of-reads
 
 cube-of-requires : tie.Need-cube-of-requires
 cube-of-requires c κs = let s = c .before .before in omega (arith, inner-block (s .args .input .grid) (s .pre .0 .two) .most)

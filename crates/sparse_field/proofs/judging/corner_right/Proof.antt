@@ -1,36 +1,20 @@
 -- `corner_right` meets its contract: the node's part of the kinds tells the needed corners.
-use mathlib.Core.Path.{_≡_, refl, sym, ap, _∙_}
-use mathlib.Core.Logic.{⊎-elim}
-use mathlib.Core.Bool.{Bool, true, false, not, _&&_, _||_}
-use mathlib.Core.List.{List}
+use mathlib.Core.Path.{_≡_, ap, _∙_}
 use Prim.Native.Nat.{ℕ, _+_, _*_, _-_, _≤_, _<_}
 use native.Mathlib.Omega.{arith}
-use lib.Dec.{ltb, eqb}
-use lib.ListN.{length, getD, take, drop, length-take, length-drop}
-use lib.Seq.{length-take-le}
-use borrow.Author.Tests.{eq-eqb, ne-eqb, lt-ltb, le-ltb, not-true, not-false}
+use lib.ListN.{length, take, drop, length-take, length-drop}
 use Rattle.grid.specs.Blocks.{cube}
 use Rattle.grid.specs.Nodes.{nodesOf}
 use Rattle.grid.specs.Corners as corners
 use Rattle.grid.specs.CornerList as kinds
-use Rattle.grid.proofs.BlockLaws.{cube-le}
-use Rattle.grid.proofs.CauseLaws.{inner-block, leaf-block, few-nodes, nodes-few}
-use Rattle.schedule.specs.Totals.{sumBelow, bit, activeUpTo, evaluationsBound}
+use Rattle.grid.proofs.CauseLaws.{inner-block, few-nodes, nodes-few}
 use Rattle.schedule.specs.Opened.{nonzero}
-use Rattle.schedule.specs.Possible.{sameLengths, validCursor, insideChild}
-use Rattle.sparse_field.specs.Plan.{planWith, planOf}
-use Rattle.sparse_field.specs.Records.{numberOf, cursorIn}
 use Rattle.sparse_field.proofs.FlagLaws.{row-below}
 use Rattle.sparse_field.proofs.NodeKinds.{part-needed}
-use Rattle.sparse_field.proofs.Judgement.{count-more, count-skip, sampled-by, not-sampled, bound-fits, counts-nodes, counts-active, counts-sampled, corner-node, corner-place, corner-needed, corner-valid, point-node, point-child, point-active, point-place, point-valid, leaves-many, leaves-none, leaves-right, joined-first, joined-second, joined-third, joined-rest, active-all, count-up-to}
+use Rattle.sparse_field.proofs.Judgement.{corner-node, corner-place, corner-needed}
 use borrow.Author.Needs.{needs}
 use Rattle.sparse_field.proofs.judging.corner_right.Statement.{statement}
 use Rattle.sparse_field.proofs.judging.corner_right.Tie as tie
-use Rattle.sparse_field.proofs.judging.corner_right.Reads as reads
-use Rattle.sparse_field.proofs.judging.corner_right.Lts as lts
-use Rattle.grid.proofs.node_total.Reads as node-total-reads
-use Rattle.sparse_field.proofs.corners.is_needed.Reads as is-needed-reads
-use Rattle.sparse_field.proofs.kinds.cube_of.Reads as cube-of-reads
 
 node-total-requires : tie.Need-node-total-requires
 node-total-requires c κs =
@@ -43,10 +27,8 @@ returns : tie.Need-returns
 returns c =
     let s = c .before .before .before .before in
     let i = s .args .input in
-    let g = i .grid in
     let k = s .args .i in
     let v = s .args .v in
-    let l = s .args .kinds .now in
     corner-node i v k (omega (arith, c .before .node-total .ensures))
 
 add-cube-of : tie.Need-add-cube-of
@@ -67,10 +49,8 @@ returns-2 : tie.Need-returns-2
 returns-2 c =
     let s = c .before .before .before .before .before .before in
     let i = s .args .input in
-    let g = i .grid in
     let k = s .args .i in
     let v = s .args .v in
-    let l = s .args .kinds .now in
     corner-place i v k (omega (arith, c .before .before .before .node-total .ensures)) (omega (arith, c .before .cube-of .ensures))
 
 cube-of-requires-2 : tie.Need-cube-of-requires-2
@@ -85,7 +65,6 @@ mul-from c =
     let s = c .before .before .before .before .before .before .before in
     let i = s .args .input in
     let g = i .grid in
-    let k = s .args .i in
     let v = s .args .v in
     let l = s .args .kinds .now in
     let r = c .cube-of2 .result in
@@ -94,7 +73,6 @@ mul-from c =
     let below : v * r + r ≤ nodesOf g * r = row-below r v (nodesOf g) inside in
     let whole : nodesOf g * r ≡ nodesOf g * cube (g .inner) = ap (λ (x : ℕ). nodesOf g * x) cubed in
     let long : nodesOf g * cube (g .inner) ≤ length l = s .pre .long in
-    let size : v * r + r - v * r ≡ r = omega arith in
     omega arith
 
 add-to : tie.Need-add-to
@@ -102,7 +80,6 @@ add-to c =
     let s = c .before .before .before .before .before .before .before in
     let i = s .args .input in
     let g = i .grid in
-    let k = s .args .i in
     let v = s .args .v in
     let l = s .args .kinds .now in
     let r = c .cube-of2 .result in
@@ -111,7 +88,6 @@ add-to c =
     let below : v * r + r ≤ nodesOf g * r = row-below r v (nodesOf g) inside in
     let whole : nodesOf g * r ≡ nodesOf g * cube (g .inner) = ap (λ (x : ℕ). nodesOf g * x) cubed in
     let long : nodesOf g * cube (g .inner) ≤ length l = s .pre .long in
-    let size : v * r + r - v * r ≡ r = omega arith in
     omega arith
 
 sub-is-needed : tie.Need-sub-is-needed
@@ -125,7 +101,6 @@ part-is-needed-end c =
     let s = c .before .before .before .before .before .before .before in
     let i = s .args .input in
     let g = i .grid in
-    let k = s .args .i in
     let v = s .args .v in
     let l = s .args .kinds .now in
     let r = c .cube-of2 .result in
@@ -142,7 +117,6 @@ is-needed-requires c κs =
     let s = c .before .before .before .before .before .before .before .before in
     let i = s .args .input in
     let g = i .grid in
-    let k = s .args .i in
     let v = s .args .v in
     let l = s .args .kinds .now in
     let r = c .before .cube-of2 .result in

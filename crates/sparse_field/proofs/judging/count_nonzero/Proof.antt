@@ -1,33 +1,15 @@
 -- `count_nonzero` meets its contract: the kinds passed so far are counted.
-use mathlib.Core.Path.{_≡_, refl, sym, ap, _∙_}
+use mathlib.Core.Path.{_≡_, refl, ap, _∙_}
 use mathlib.Core.Logic.{⊎-elim}
-use mathlib.Core.Bool.{Bool, true, false, not, _&&_, _||_}
-use mathlib.Core.List.{List}
-use Prim.Native.Nat.{ℕ, _+_, _*_, _-_, _≤_, _<_}
+use Prim.Native.Nat.{_-_, _≤_}
 use native.Mathlib.Omega.{arith}
-use lib.Dec.{ltb, eqb}
-use lib.ListN.{length, getD, take, drop, length-take, length-drop}
-use lib.Seq.{length-take-le}
-use borrow.Author.Tests.{eq-eqb, ne-eqb, lt-ltb, le-ltb, not-true, not-false}
-use Rattle.grid.specs.Blocks.{cube}
-use Rattle.grid.specs.Nodes.{nodesOf}
-use Rattle.grid.specs.Corners as corners
-use Rattle.grid.specs.CornerList as kinds
-use Rattle.grid.proofs.BlockLaws.{cube-le}
-use Rattle.grid.proofs.CauseLaws.{inner-block, leaf-block, few-nodes, nodes-few}
-use Rattle.schedule.specs.Totals.{sumFrom, sumBelow, bit, activeUpTo, evaluationsBound}
+use lib.ListN.{length, getD}
+use Rattle.schedule.specs.Totals.{sumFrom, sumBelow, bit}
 use Rattle.schedule.specs.Opened.{nonzero}
-use Rattle.schedule.specs.Possible.{sameLengths, validCursor, insideChild}
-use Rattle.sparse_field.specs.Plan.{planWith, planOf}
-use Rattle.sparse_field.specs.Records.{numberOf, cursorIn}
-use Rattle.sparse_field.proofs.FlagLaws.{row-below}
-use Rattle.sparse_field.proofs.NodeKinds.{part-needed}
-use Rattle.sparse_field.proofs.Judgement.{count-more, count-skip, sampled-by, not-sampled, bound-fits, counts-nodes, counts-active, counts-sampled, corner-node, corner-place, corner-needed, corner-valid, point-node, point-child, point-active, point-place, point-valid, leaves-many, leaves-none, leaves-right, joined-first, joined-second, joined-third, joined-rest, active-all, count-up-to}
+use Rattle.sparse_field.proofs.Judgement.{count-more, count-skip}
 use borrow.Author.Needs.{needs}
 use Rattle.sparse_field.proofs.judging.count_nonzero.Statement.{statement}
 use Rattle.sparse_field.proofs.judging.count_nonzero.Tie as tie
-use Rattle.sparse_field.proofs.judging.count_nonzero.Reads as reads
-use Rattle.sparse_field.proofs.judging.count_nonzero.Lts as lts
 
 abbrev Inv-loop : tie.InvT-loop
 Inv-loop kinds count₀ i₀ count i = (i ≤ length kinds) × (count ≤ i) × (count ≡ sumBelow (λ p. bit (nonzero (getD kinds p 0))) i)

@@ -1,35 +1,15 @@
 -- `evaluations_bound` meets its contract: the bound fits.
-use mathlib.Core.Path.{_≡_, refl, sym, ap, _∙_}
-use mathlib.Core.Logic.{⊎-elim}
-use mathlib.Core.Bool.{Bool, true, false, not, _&&_, _||_}
-use mathlib.Core.List.{List}
-use Prim.Native.Nat.{ℕ, _+_, _*_, _-_, _≤_, _<_}
+use mathlib.Core.Path.{_≡_}
+use Prim.Native.Nat.{_+_, _*_}
 use native.Mathlib.Omega.{arith}
-use lib.Dec.{ltb, eqb}
-use lib.ListN.{length, getD, take, drop, length-take, length-drop}
-use lib.Seq.{length-take-le}
-use borrow.Author.Tests.{eq-eqb, ne-eqb, lt-ltb, le-ltb, not-true, not-false}
 use Rattle.grid.specs.Blocks.{cube}
 use Rattle.grid.specs.Nodes.{nodesOf}
-use Rattle.grid.specs.Corners as corners
-use Rattle.grid.specs.CornerList as kinds
-use Rattle.grid.proofs.BlockLaws.{cube-le}
 use Rattle.grid.proofs.CauseLaws.{inner-block, leaf-block, few-nodes, nodes-few}
-use Rattle.schedule.specs.Totals.{sumBelow, bit, activeUpTo, evaluationsBound}
-use Rattle.schedule.specs.Opened.{nonzero}
-use Rattle.schedule.specs.Possible.{sameLengths, validCursor, insideChild}
-use Rattle.sparse_field.specs.Plan.{planWith, planOf}
-use Rattle.sparse_field.specs.Records.{numberOf, cursorIn}
-use Rattle.sparse_field.proofs.FlagLaws.{row-below}
-use Rattle.sparse_field.proofs.NodeKinds.{part-needed}
-use Rattle.sparse_field.proofs.Judgement.{count-more, count-skip, sampled-by, not-sampled, bound-fits, counts-nodes, counts-active, counts-sampled, corner-node, corner-place, corner-needed, corner-valid, point-node, point-child, point-active, point-place, point-valid, leaves-many, leaves-none, leaves-right, joined-first, joined-second, joined-third, joined-rest, active-all, count-up-to}
-use borrow.Author.Needs.{needs}
+use Rattle.schedule.specs.Totals.{evaluationsBound}
+use Rattle.sparse_field.specs.Plan.{planWith}
+use Rattle.sparse_field.proofs.Judgement.{bound-fits}
 use Rattle.sparse_field.proofs.judging.evaluations_bound.Statement.{statement}
 use Rattle.sparse_field.proofs.judging.evaluations_bound.Tie as tie
-use Rattle.sparse_field.proofs.judging.evaluations_bound.Reads as reads
-use Rattle.sparse_field.proofs.judging.evaluations_bound.Lts as lts
-use Rattle.grid.proofs.node_total.Reads as node-total-reads
-use Rattle.sparse_field.proofs.kinds.cube_of.Reads as cube-of-reads
 
 node-total-requires : tie.Need-node-total-requires
 node-total-requires c κs =
@@ -72,8 +52,6 @@ mul-result c =
     let i = s .args .input in
     let g = i .grid in
     let fits = bound-fits g (s .pre .0) (s .pre .1) in
-    let e0 = c .before .before .before .node-total .ensures in
-    let e1 = c .before .before .cube-of .ensures in
     let e2 = c .before .cube-of2 .ensures in
     let e3 = c .cube-of3 .ensures in
     let product : c .before .cube-of2 .result * c .cube-of3 .result ≡ cube (g .inner) * cube (g .leaf) = λ t. e2 t * e3 t in
@@ -85,8 +63,6 @@ add-result c =
     let i = s .args .input in
     let g = i .grid in
     let fits = bound-fits g (s .pre .0) (s .pre .1) in
-    let e0 = c .before .before .before .node-total .ensures in
-    let e1 = c .before .before .cube-of .ensures in
     let e2 = c .before .cube-of2 .ensures in
     let e3 = c .cube-of3 .ensures in
     let product : c .before .cube-of2 .result * c .cube-of3 .result ≡ cube (g .inner) * cube (g .leaf) = λ t. e2 t * e3 t in
@@ -108,10 +84,6 @@ mul-result-2 c =
 returns : tie.Need-returns
 unfolding evaluationsBound planWith
 returns c =
-    let s = c .before .before .before .before .before in
-    let i = s .args .input in
-    let g = i .grid in
-    let fits = bound-fits g (s .pre .0) (s .pre .1) in
     let e0 = c .before .before .before .node-total .ensures in
     let e1 = c .before .before .cube-of .ensures in
     let e2 = c .before .cube-of2 .ensures in

@@ -1,16 +1,10 @@
 -- `is_impossible` meets its contract: the tests in turn, of which a later one may go by what the earlier ones have ruled out.
-use mathlib.Core.Path.{_≡_, sym, ap, _∙_}
+use mathlib.Core.Path.{sym, ap, _∙_}
 use mathlib.Core.Bool.{not}
 use Rattle.sparse_field.proofs.Judgement.{impossible-cause, impossible-lengths, impossible-kinds, impossible-progress, possible-input, possible-kinds}
 use borrow.Author.Needs.{needs}
 use Rattle.sparse_field.proofs.judging.is_impossible.Statement.{statement}
 use Rattle.sparse_field.proofs.judging.is_impossible.Tie as tie
-use Rattle.sparse_field.proofs.judging.is_impossible.Reads as reads
-use Rattle.sparse_field.proofs.judging.is_impossible.Lts as lts
-use Rattle.sparse_field.proofs.judging.meets_cause.Reads as meets-cause-reads
-use Rattle.sparse_field.proofs.judging.same_lengths.Reads as same-lengths-reads
-use Rattle.sparse_field.proofs.judging.wrong_progress.Reads as wrong-progress-reads
-use Rattle.sparse_field.proofs.kinds.kinds_right.Reads as kinds-right-reads
 
 meets-cause-requires : tie.Need-meets-cause-requires
 meets-cause-requires c κs = search needs

@@ -1,35 +1,16 @@
 -- `wrong_leaves` meets its contract: by its two tests.
-use mathlib.Core.Path.{_≡_, refl, sym, ap, _∙_}
-use mathlib.Core.Logic.{⊎-elim}
-use mathlib.Core.Bool.{Bool, true, false, not, _&&_, _||_}
-use mathlib.Core.List.{List}
-use Prim.Native.Nat.{ℕ, _+_, _*_, _-_, _≤_, _<_}
+use mathlib.Core.Path.{sym, _∙_}
 use native.Mathlib.Omega.{arith}
 use lib.Dec.{ltb, eqb}
-use lib.ListN.{length, getD, take, drop, length-take, length-drop}
-use lib.Seq.{length-take-le}
-use borrow.Author.Tests.{eq-eqb, ne-eqb, lt-ltb, le-ltb, not-true, not-false}
-use Rattle.grid.specs.Blocks.{cube}
-use Rattle.grid.specs.Nodes.{nodesOf}
-use Rattle.grid.specs.Corners as corners
-use Rattle.grid.specs.CornerList as kinds
-use Rattle.grid.proofs.BlockLaws.{cube-le}
-use Rattle.grid.proofs.CauseLaws.{inner-block, leaf-block, few-nodes, nodes-few}
-use Rattle.schedule.specs.Totals.{sumBelow, bit, activeUpTo, evaluationsBound}
-use Rattle.schedule.specs.Opened.{nonzero}
-use Rattle.schedule.specs.Possible.{sameLengths, validCursor, insideChild}
-use Rattle.sparse_field.specs.Plan.{planWith, planOf}
-use Rattle.sparse_field.specs.Records.{numberOf, cursorIn}
-use Rattle.sparse_field.proofs.FlagLaws.{row-below}
-use Rattle.sparse_field.proofs.NodeKinds.{part-needed}
-use Rattle.sparse_field.proofs.Judgement.{count-more, count-skip, sampled-by, not-sampled, bound-fits, counts-nodes, counts-active, counts-sampled, corner-node, corner-place, corner-needed, corner-valid, point-node, point-child, point-active, point-place, point-valid, leaves-many, leaves-none, leaves-right, joined-first, joined-second, joined-third, joined-rest, active-all, count-up-to}
+use borrow.Author.Tests.{lt-ltb, le-ltb}
+use Rattle.schedule.specs.Totals.{activeUpTo}
+use Rattle.schedule.specs.Possible.{insideChild}
+use Rattle.sparse_field.specs.Plan.{planOf}
+use Rattle.sparse_field.specs.Records.{cursorIn}
+use Rattle.sparse_field.proofs.Judgement.{leaves-many, leaves-none, leaves-right}
 use borrow.Author.Needs.{needs}
 use Rattle.sparse_field.proofs.judging.wrong_leaves.Statement.{statement}
 use Rattle.sparse_field.proofs.judging.wrong_leaves.Tie as tie
-use Rattle.sparse_field.proofs.judging.wrong_leaves.Reads as reads
-use Rattle.sparse_field.proofs.judging.wrong_leaves.Lts as lts
-use Rattle.sparse_field.proofs.judging.active_up_to.Reads as active-up-to-reads
-use Rattle.sparse_field.proofs.judging.inside_child.Reads as inside-child-reads
 
 active-up-to-requires : tie.Need-active-up-to-requires
 active-up-to-requires c κs = c .before .pre

@@ -1,19 +1,15 @@
 -- `axis_table` meets its contract: the children tested so far are in the table.
-use mathlib.Core.Path.{_≡_, refl, _∙_}
-use mathlib.Core.Bool.{Bool, false}
-use mathlib.Core.List.{List}
+use mathlib.Core.Path.{_≡_, _∙_}
+use mathlib.Core.Bool.{false}
 use Prim.Native.Nat.{ℕ, _-_, _≤_, _<_}
 use native.Mathlib.Omega.{arith}
-use lib.ListN.{length, getD, set, length-set}
+use lib.ListN.{length, getD, length-set}
 use lib.Seq.{getD-set-same, getD-set-other}
 use borrow.Author.Count.{below-none, below-more}
 use Rattle.grid.specs.Activity.{axisActive}
 use borrow.Author.Needs.{needs}
 use Rattle.sparse_field.proofs.kinds.axis_table.Statement.{statement}
 use Rattle.sparse_field.proofs.kinds.axis_table.Tie as tie
-use Rattle.sparse_field.proofs.kinds.axis_table.Reads as reads
-use Rattle.sparse_field.proofs.kinds.axis_table.Lts as lts
-use Rattle.grid.proofs.axis_active.Reads as axis-active-reads
 
 abbrev Inv-loop : tie.InvT-loop
 Inv-loop least most s n i side table₀ c₀ table c = (c ≤ n) × (length table ≡ 64) × ((q : ℕ) → q < c → getD table q false ≡ axisActive least most s n i q)
@@ -45,7 +41,6 @@ loop-less c = search needs
 loop-again : tie.Need-loop-again Inv-loop μ-loop
 loop-again c =
     let b = c .before .before in
-    let a = b .before .args in
     let l = b .loop in
     let below : l .c < length (l .table) = omega arith in (
       omega arith,

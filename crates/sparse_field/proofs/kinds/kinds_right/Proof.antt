@@ -1,23 +1,16 @@
 -- `kinds_right` meets its contract: the kinds of all nodes, and those past them.
-use mathlib.Core.Path.{_≡_, refl, sym, ap, _∙_}
-use Prim.Native.Nat.{ℕ, _+_, _*_, _-_, _≤_, _<_}
+use mathlib.Core.Path.{_≡_, sym, ap, _∙_}
+use Prim.Native.Nat.{ℕ, _*_, _≤_}
 use native.Mathlib.Omega.{arith}
-use lib.ListN.{length, take, drop, length-take, length-drop}
 use lib.Seq.{length-take-le}
 use borrow.Author.Tests.{not-true, not-false}
 use Rattle.grid.specs.Blocks.{cube}
 use Rattle.grid.specs.Nodes.{nodesOf}
-use Rattle.grid.proofs.CauseLaws.{inner-block, few-nodes, nodes-few, few-children}
+use Rattle.grid.proofs.CauseLaws.{inner-block, few-nodes, nodes-few}
 use Rattle.sparse_field.proofs.NodeKinds.{all-differ, all-agree}
 use borrow.Author.Needs.{needs}
 use Rattle.sparse_field.proofs.kinds.kinds_right.Statement.{statement}
 use Rattle.sparse_field.proofs.kinds.kinds_right.Tie as tie
-use Rattle.sparse_field.proofs.kinds.kinds_right.Reads as reads
-use Rattle.sparse_field.proofs.kinds.kinds_right.Lts as lts
-use Rattle.grid.proofs.node_total.Reads as node-total-reads
-use Rattle.sparse_field.proofs.kinds.all_zero.Reads as all-zero-reads
-use Rattle.sparse_field.proofs.kinds.cube_of.Reads as cube-of-reads
-use Rattle.sparse_field.proofs.kinds.nodes_right.Reads as nodes-right-reads
 
 node-total-requires : tie.Need-node-total-requires
 node-total-requires c κs =

@@ -1,7 +1,7 @@
 -- `row_right` meets its contract: the kinds passed so far are right.
-use mathlib.Core.Path.{_≡_, refl, sym, ap, _∙_}
-use mathlib.Core.Bool.{Bool, true, false, _&&_}
-use Prim.Native.Nat.{ℕ, _-_, _≤_, _<_}
+use mathlib.Core.Path.{_≡_, sym, ap, _∙_}
+use mathlib.Core.Bool.{Bool, true, _&&_}
+use Prim.Native.Nat.{_-_, _≤_}
 use native.Mathlib.Omega.{arith}
 use lib.ListN.{length, getD, take}
 use borrow.Author.Tests.{not-true, not-false}
@@ -10,9 +10,6 @@ use Rattle.sparse_field.proofs.FlagLaws.{agrees-none, agrees-one, diffe
 use borrow.Author.Needs.{needs}
 use Rattle.sparse_field.proofs.kinds.row_right.Statement.{statement}
 use Rattle.sparse_field.proofs.kinds.row_right.Tie as tie
-use Rattle.sparse_field.proofs.kinds.row_right.Reads as reads
-use Rattle.sparse_field.proofs.kinds.row_right.Lts as lts
-use Rattle.sparse_field.proofs.kinds.all_zero.Reads as all-zero-reads
 
 abbrev Inv-loop : tie.InvT-loop
 Inv-loop xs met row i₀ i = (i ≤ length row) × (agreesFrom (tableTest xs) 0 (take i row) ≡ true)

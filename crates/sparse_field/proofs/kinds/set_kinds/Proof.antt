@@ -1,23 +1,15 @@
 -- `set_kinds` meets its contract: the kinds of all nodes, and zeros past them.
 use mathlib.Core.Path.{_≡_, refl, sym, ap, _∙_}
-use Prim.Native.Nat.{ℕ, _+_, _*_, _-_, _≤_, _<_}
+use Prim.Native.Nat.{ℕ, _*_, _≤_}
 use native.Mathlib.Omega.{arith}
-use lib.ListN.{length, take, drop, length-take, length-drop}
 use lib.Seq.{length-take-le}
-use borrow.Author.Tests.{not-true, not-false}
 use Rattle.grid.specs.Blocks.{cube}
 use Rattle.grid.specs.Nodes.{nodesOf}
-use Rattle.grid.proofs.CauseLaws.{inner-block, few-nodes, nodes-few, few-children}
+use Rattle.grid.proofs.CauseLaws.{inner-block, few-nodes, nodes-few}
 use Rattle.sparse_field.proofs.NodeKinds.{all-set}
 use borrow.Author.Needs.{needs}
 use Rattle.sparse_field.proofs.kinds.set_kinds.Statement.{statement}
 use Rattle.sparse_field.proofs.kinds.set_kinds.Tie as tie
-use Rattle.sparse_field.proofs.kinds.set_kinds.Reads as reads
-use Rattle.sparse_field.proofs.kinds.set_kinds.Lts as lts
-use Rattle.grid.proofs.node_total.Reads as node-total-reads
-use Rattle.sparse_field.proofs.kinds.cube_of.Reads as cube-of-reads
-use Rattle.sparse_field.proofs.kinds.set_nodes.Reads as set-nodes-reads
-use Rattle.sparse_field.proofs.zeroing.zero_bytes.Reads as zero-bytes-reads
 
 node-total-requires : tie.Need-node-total-requires
 node-total-requires c κs =

@@ -1,24 +1,17 @@
 -- `set_nodes` meets its contract: the nodes passed so far are set.
-use mathlib.Core.Path.{_≡_, refl, sym, ap, _∙_}
-use mathlib.Core.Bool.{Bool, true, false, _&&_}
-use mathlib.Core.List.{List}
-use Prim.Native.Nat.{ℕ, _+_, _*_, _-_, _≤_, _<_}
-use native.Mathlib.Nat.{zero-mul, mul-assoc, mul-le-mul-right}
+use mathlib.Core.Path.{_≡_, sym, ap, _∙_}
+use mathlib.Core.Bool.{Bool}
+use Prim.Native.Nat.{ℕ, _+_, _*_, _-_, _≤_}
+use native.Mathlib.Nat.{zero-mul, mul-le-mul-right}
 use native.Mathlib.Omega.{arith}
-use lib.ListN.{length, take, drop, length-take, length-drop}
-use borrow.Author.Tests.{not-true, not-false}
+use lib.ListN.{length}
 use Rattle.grid.specs.Blocks.{cube}
 use Rattle.grid.specs.Boxes.{active}
-use Rattle.grid.proofs.BlockLaws.{square-le}
-use Rattle.sparse_field.specs.Flags.{flagsFrom, agreesFrom, inRows, tableTest, slabTest, nodeTest}
-use Rattle.sparse_field.proofs.FlagLaws.{flagged, flagged-none, flagged-length, flagged-all, flags-none, row-below, row-length, rows-more, agrees-none, agrees-all, rows-agree, rows-differ}
+use Rattle.sparse_field.specs.Flags.{flagsFrom, inRows}
+use Rattle.sparse_field.proofs.FlagLaws.{flagged, flagged-none, flagged-length, flagged-all, row-below, row-length, rows-more}
 use borrow.Author.Needs.{needs}
 use Rattle.sparse_field.proofs.kinds.set_nodes.Statement.{statement}
 use Rattle.sparse_field.proofs.kinds.set_nodes.Tie as tie
-use Rattle.sparse_field.proofs.kinds.set_nodes.Reads as reads
-use Rattle.sparse_field.proofs.kinds.set_nodes.Lts as lts
-use Rattle.sparse_field.proofs.kinds.cube_of.Reads as cube-of-reads
-use Rattle.sparse_field.proofs.kinds.set_node.Reads as set-node-reads
 
 abbrev Inv-loop : tie.InvT-loop
 Inv-loop g nodes kinds₀ children v₀ kinds v = (v ≤ nodes) × (kinds ≡ flagged (inRows children (active g)) (v * children) kinds₀)
@@ -40,9 +33,7 @@ mul-from c =
     let a = b .before .before .before .args in
     let l = b .loop in
     let n = b .before .cube-of .result in
-    let f : ℕ → ℕ → Bool = active (a .g) in
     let below : l .v * n + n ≤ a .nodes * n = row-below n (l .v) (a .nodes) (omega arith) in
-    let size : l .v * n + n - l .v * n ≡ n = omega arith in
     let cubed : n ≡ cube (a .g .inner) = b .before .cube-of .ensures in
     let whole : a .nodes * n ≡ a .nodes * cube (a .g .inner) = ap (λ (x : ℕ). a .nodes * x) cubed in
     omega arith
@@ -53,9 +44,7 @@ add-to c =
     let a = b .before .before .before .args in
     let l = b .loop in
     let n = b .before .cube-of .result in
-    let f : ℕ → ℕ → Bool = active (a .g) in
     let below : l .v * n + n ≤ a .nodes * n = row-below n (l .v) (a .nodes) (omega arith) in
-    let size : l .v * n + n - l .v * n ≡ n = omega arith in
     let cubed : n ≡ cube (a .g .inner) = b .before .cube-of .ensures in
     let whole : a .nodes * n ≡ a .nodes * cube (a .g .inner) = ap (λ (x : ℕ). a .nodes * x) cubed in
     omega arith

@@ -1,6 +1,6 @@
 -- `set_row` meets its contract: the kinds passed so far are set.
 use mathlib.Core.Path.{_≡_, refl, sym, ap, _∙_}
-use mathlib.Core.Bool.{Bool, true, false, _&&_}
+use mathlib.Core.Bool.{Bool, _&&_}
 use mathlib.Core.List.{List}
 use Prim.Native.Nat.{ℕ, _-_, _≤_, _<_}
 use native.Mathlib.Omega.{arith}
@@ -11,10 +11,6 @@ use Rattle.sparse_field.proofs.FlagLaws.{flagged, flagged-none, flagged
 use borrow.Author.Needs.{needs}
 use Rattle.sparse_field.proofs.kinds.set_row.Statement.{statement}
 use Rattle.sparse_field.proofs.kinds.set_row.Tie as tie
-use Rattle.sparse_field.proofs.kinds.set_row.Reads as reads
-use Rattle.sparse_field.proofs.kinds.set_row.Lts as lts
-use Rattle.sparse_field.proofs.kinds.flag.Reads as flag-reads
-use Rattle.sparse_field.proofs.zeroing.zero_bytes.Reads as zero-bytes-reads
 
 abbrev Inv-loop : tie.InvT-loop
 Inv-loop xs met row₀ i₀ row i = (i ≤ length row₀) × (row ≡ flagged (tableTest xs) i row₀)

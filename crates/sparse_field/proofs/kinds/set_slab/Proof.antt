@@ -1,24 +1,16 @@
 -- `set_slab` meets its contract: the rows passed so far are set.
-use mathlib.Core.Path.{_≡_, refl, sym, ap, _∙_}
-use mathlib.Core.Bool.{Bool, true, false, _&&_}
-use mathlib.Core.List.{List}
-use Prim.Native.Nat.{ℕ, _+_, _*_, _-_, _≤_, _<_}
-use native.Mathlib.Nat.{zero-mul, mul-assoc, mul-le-mul-right}
+use mathlib.Core.Path.{_≡_, sym, ap, _∙_}
+use mathlib.Core.Bool.{Bool, false, _&&_}
+use Prim.Native.Nat.{ℕ, _+_, _*_, _-_, _≤_}
+use native.Mathlib.Nat.{zero-mul, mul-le-mul-right}
 use native.Mathlib.Omega.{arith}
-use lib.ListN.{length, take, drop, length-take, length-drop}
+use lib.ListN.{length}
 use borrow.Author.Tests.{not-true, not-false}
-use Rattle.grid.specs.Blocks.{cube}
-use Rattle.grid.specs.Boxes.{active}
-use Rattle.grid.proofs.BlockLaws.{square-le}
-use Rattle.sparse_field.specs.Flags.{flagsFrom, agreesFrom, inRows, tableTest, slabTest, nodeTest}
-use Rattle.sparse_field.proofs.FlagLaws.{flagged, flagged-none, flagged-length, flagged-all, flags-none, row-below, row-length, rows-more, agrees-none, agrees-all, rows-agree, rows-differ}
+use Rattle.sparse_field.specs.Flags.{flagsFrom, inRows, tableTest, slabTest}
+use Rattle.sparse_field.proofs.FlagLaws.{flagged, flagged-none, flagged-length, flagged-all, flags-none, row-below, row-length, rows-more}
 use borrow.Author.Needs.{needs}
 use Rattle.sparse_field.proofs.kinds.set_slab.Statement.{statement}
 use Rattle.sparse_field.proofs.kinds.set_slab.Tie as tie
-use Rattle.sparse_field.proofs.kinds.set_slab.Reads as reads
-use Rattle.sparse_field.proofs.kinds.set_slab.Lts as lts
-use Rattle.sparse_field.proofs.kinds.set_row.Reads as set-row-reads
-use Rattle.sparse_field.proofs.zeroing.zero_bytes.Reads as zero-bytes-reads
 
 abbrev Inv-loop : tie.InvT-loop
 Inv-loop n xs ys met slab₀ j₀ slab j = (j ≤ n) × (slab ≡ flagged (slabTest n xs ys) (j * n) slab₀)
@@ -52,9 +44,7 @@ mul-from c =
     let a = b .before .before .before .args in
     let l = b .loop in
     let n = a .n in
-    let f : ℕ → ℕ → Bool = λ j i. tableTest (a .ys .now) j && tableTest (a .xs .now) i in
     let below : l .j * n + n ≤ a .n * n = row-below n (l .j) (a .n) (omega arith) in
-    let size : l .j * n + n - l .j * n ≡ n = omega arith in
     omega arith
 
 add-to : tie.Need-add-to Inv-loop μ-loop
@@ -63,9 +53,7 @@ add-to c =
     let a = b .before .before .before .args in
     let l = b .loop in
     let n = a .n in
-    let f : ℕ → ℕ → Bool = λ j i. tableTest (a .ys .now) j && tableTest (a .xs .now) i in
     let below : l .j * n + n ≤ a .n * n = row-below n (l .j) (a .n) (omega arith) in
-    let size : l .j * n + n - l .j * n ≡ n = omega arith in
     omega arith
 
 element-copy-out-set-row : tie.Need-element-copy-out-set-row Inv-loop μ-loop

@@ -1,23 +1,17 @@
 -- `set_slabs` meets its contract: the slabs passed so far are set.
 use mathlib.Core.Path.{_≡_, refl, sym, ap, _∙_}
-use mathlib.Core.Bool.{Bool, true, false, _&&_}
-use mathlib.Core.List.{List}
-use Prim.Native.Nat.{ℕ, _+_, _*_, _-_, _≤_, _<_}
+use mathlib.Core.Bool.{Bool, _&&_}
+use Prim.Native.Nat.{ℕ, _+_, _*_, _-_, _≤_}
 use native.Mathlib.Nat.{zero-mul, mul-assoc, mul-le-mul-right}
 use native.Mathlib.Omega.{arith}
-use lib.ListN.{length, take, drop, length-take, length-drop}
-use borrow.Author.Tests.{not-true, not-false}
+use lib.ListN.{length}
 use Rattle.grid.specs.Blocks.{cube}
-use Rattle.grid.specs.Boxes.{active}
 use Rattle.grid.proofs.BlockLaws.{square-le}
-use Rattle.sparse_field.specs.Flags.{flagsFrom, agreesFrom, inRows, tableTest, slabTest, nodeTest}
-use Rattle.sparse_field.proofs.FlagLaws.{flagged, flagged-none, flagged-length, flagged-all, flags-none, row-below, row-length, rows-more, agrees-none, agrees-all, rows-agree, rows-differ}
+use Rattle.sparse_field.specs.Flags.{inRows, tableTest, slabTest, nodeTest}
+use Rattle.sparse_field.proofs.FlagLaws.{flagged, flagged-none, flagged-length, flagged-all, row-below, row-length, rows-more}
 use borrow.Author.Needs.{needs}
 use Rattle.sparse_field.proofs.kinds.set_slabs.Statement.{statement}
 use Rattle.sparse_field.proofs.kinds.set_slabs.Tie as tie
-use Rattle.sparse_field.proofs.kinds.set_slabs.Reads as reads
-use Rattle.sparse_field.proofs.kinds.set_slabs.Lts as lts
-use Rattle.sparse_field.proofs.kinds.set_slab.Reads as set-slab-reads
 
 abbrev Inv-loop : tie.InvT-loop
 Inv-loop n xs ys zs part₀ area k₀ part k = (k ≤ n) × (part ≡ flagged (nodeTest n xs ys zs) (k * (n * n)) part₀)
@@ -39,9 +33,7 @@ mul-from c =
     let a = b .before .before .args in
     let l = b .loop in
     let n = a .n * a .n in
-    let f : ℕ → ℕ → Bool = λ k p. tableTest (a .zs .now) k && slabTest (a .n) (a .xs .now) (a .ys .now) p in
     let below : l .k * n + n ≤ a .n * n = row-below n (l .k) (a .n) (omega arith) in
-    let size : l .k * n + n - l .k * n ≡ n = omega arith in
     let whole : a .n * n ≡ a .n * a .n * a .n = sym (mul-assoc (a .n) (a .n) (a .n)) in
     omega arith
 
@@ -51,9 +43,7 @@ add-to c =
     let a = b .before .before .args in
     let l = b .loop in
     let n = a .n * a .n in
-    let f : ℕ → ℕ → Bool = λ k p. tableTest (a .zs .now) k && slabTest (a .n) (a .xs .now) (a .ys .now) p in
     let below : l .k * n + n ≤ a .n * n = row-below n (l .k) (a .n) (omega arith) in
-    let size : l .k * n + n - l .k * n ≡ n = omega arith in
     let whole : a .n * n ≡ a .n * a .n * a .n = sym (mul-assoc (a .n) (a .n) (a .n)) in
     omega arith
 

@@ -1,22 +1,16 @@
 -- `slab_right` meets its contract: the rows passed so far are right.
-use mathlib.Core.Path.{_≡_, refl, sym, ap, _∙_}
-use mathlib.Core.Bool.{Bool, true, false, _&&_}
-use mathlib.Core.List.{List}
-use Prim.Native.Nat.{ℕ, _+_, _*_, _-_, _≤_, _<_}
-use native.Mathlib.Nat.{zero-mul, mul-assoc, mul-le-mul-right}
+use mathlib.Core.Path.{_≡_, sym, ap, _∙_}
+use mathlib.Core.Bool.{Bool, true, _&&_}
+use Prim.Native.Nat.{ℕ, _+_, _*_, _-_, _≤_}
+use native.Mathlib.Nat.{zero-mul, mul-le-mul-right}
 use native.Mathlib.Omega.{arith}
-use lib.ListN.{length, take, drop, length-take, length-drop}
+use lib.ListN.{take, length-take, length-drop}
 use borrow.Author.Tests.{not-true, not-false}
-use Rattle.grid.proofs.BlockLaws.{square-le}
-use Rattle.sparse_field.specs.Flags.{agreesFrom, inRows, tableTest, slabTest, nodeTest}
+use Rattle.sparse_field.specs.Flags.{agreesFrom, tableTest, slabTest}
 use Rattle.sparse_field.proofs.FlagLaws.{agrees-none, agrees-all, row-below, rows-agree, rows-differ}
 use borrow.Author.Needs.{needs}
 use Rattle.sparse_field.proofs.kinds.slab_right.Statement.{statement}
 use Rattle.sparse_field.proofs.kinds.slab_right.Tie as tie
-use Rattle.sparse_field.proofs.kinds.slab_right.Reads as reads
-use Rattle.sparse_field.proofs.kinds.slab_right.Lts as lts
-use Rattle.sparse_field.proofs.kinds.all_zero.Reads as all-zero-reads
-use Rattle.sparse_field.proofs.kinds.row_right.Reads as row-right-reads
 
 abbrev Inv-loop : tie.InvT-loop
 Inv-loop n xs ys met slab j₀ j = (j ≤ n) × (agreesFrom (slabTest n xs ys) 0 (take (j * n) slab) ≡ true)
@@ -41,18 +35,14 @@ mul-from : tie.Need-mul-from Inv-loop μ-loop
 mul-from c =
     let b = c .before in
     let a = b .before .before .before .args in
-    let f : ℕ → ℕ → Bool = λ j i. tableTest (a .ys .now) j && tableTest (a .xs .now) i in
     let below : b .loop .j * a .n + a .n ≤ a .n * a .n = row-below (a .n) (b .loop .j) (a .n) (omega arith) in
-    let size : b .loop .j * a .n + a .n - b .loop .j * a .n ≡ a .n = omega arith in
     omega arith
 
 add-to : tie.Need-add-to Inv-loop μ-loop
 add-to c =
     let b = c .before in
     let a = b .before .before .before .args in
-    let f : ℕ → ℕ → Bool = λ j i. tableTest (a .ys .now) j && tableTest (a .xs .now) i in
     let below : b .loop .j * a .n + a .n ≤ a .n * a .n = row-below (a .n) (b .loop .j) (a .n) (omega arith) in
-    let size : b .loop .j * a .n + a .n - b .loop .j * a .n ≡ a .n = omega arith in
     omega arith
 
 element-copy-out-row-right : tie.Need-element-copy-out-row-right Inv-loop μ-loop
@@ -68,7 +58,6 @@ part-row-right-end : tie.Need-part-row-right-end Inv-loop μ-loop
 part-row-right-end c =
     let b = c .before .before in
     let a = b .before .before .before .args in
-    let f : ℕ → ℕ → Bool = λ j i. tableTest (a .ys .now) j && tableTest (a .xs .now) i in
     let below : b .loop .j * a .n + a .n ≤ a .n * a .n = row-below (a .n) (b .loop .j) (a .n) (omega arith) in
     let size : b .loop .j * a .n + a .n - b .loop .j * a .n ≡ a .n = omega arith in
     search needs
@@ -77,7 +66,6 @@ row-right-requires : tie.Need-row-right-requires Inv-loop μ-loop
 row-right-requires c κs =
     let b = c .before .before .before in
     let a = b .before .before .before .args in
-    let f : ℕ → ℕ → Bool = λ j i. tableTest (a .ys .now) j && tableTest (a .xs .now) i in
     let below : b .loop .j * a .n + a .n ≤ a .n * a .n = row-below (a .n) (b .loop .j) (a .n) (omega arith) in
     let size : b .loop .j * a .n + a .n - b .loop .j * a .n ≡ a .n = omega arith in
     simp (length-take, length-drop) (omega arith)

@@ -1,21 +1,17 @@
 -- `slabs_right` meets its contract: the slabs passed so far are right.
-use mathlib.Core.Path.{_≡_, refl, sym, ap, _∙_}
-use mathlib.Core.Bool.{Bool, true, false, _&&_}
-use mathlib.Core.List.{List}
-use Prim.Native.Nat.{ℕ, _+_, _*_, _-_, _≤_, _<_}
+use mathlib.Core.Path.{_≡_, sym, _∙_}
+use mathlib.Core.Bool.{Bool, true, _&&_}
+use Prim.Native.Nat.{ℕ, _+_, _*_, _-_, _≤_}
 use native.Mathlib.Nat.{zero-mul, mul-assoc, mul-le-mul-right}
 use native.Mathlib.Omega.{arith}
-use lib.ListN.{length, take, drop, length-take, length-drop}
+use lib.ListN.{take, length-take, length-drop}
 use borrow.Author.Tests.{not-true, not-false}
 use Rattle.grid.proofs.BlockLaws.{square-le}
-use Rattle.sparse_field.specs.Flags.{agreesFrom, inRows, tableTest, slabTest, nodeTest}
+use Rattle.sparse_field.specs.Flags.{agreesFrom, tableTest, slabTest, nodeTest}
 use Rattle.sparse_field.proofs.FlagLaws.{agrees-none, agrees-all, row-below, rows-agree, rows-differ}
 use borrow.Author.Needs.{needs}
 use Rattle.sparse_field.proofs.kinds.slabs_right.Statement.{statement}
 use Rattle.sparse_field.proofs.kinds.slabs_right.Tie as tie
-use Rattle.sparse_field.proofs.kinds.slabs_right.Reads as reads
-use Rattle.sparse_field.proofs.kinds.slabs_right.Lts as lts
-use Rattle.sparse_field.proofs.kinds.slab_right.Reads as slab-right-reads
 
 abbrev Inv-loop : tie.InvT-loop
 Inv-loop n xs ys zs part area k₀ k = (k ≤ n) × (agreesFrom (nodeTest n xs ys zs) 0 (take (k * (n * n)) part) ≡ true)
@@ -36,10 +32,8 @@ mul-from c =
     let b = c .before in
     let a = b .before .before .args in
     let area = a .n * a .n in
-    let f : ℕ → ℕ → Bool = λ k p. tableTest (a .zs .now) k && slabTest (a .n) (a .xs .now) (a .ys .now) p in
     let below : b .loop .k * area + area ≤ a .n * area = row-below area (b .loop .k) (a .n) (omega arith) in
     let whole : a .n * area ≡ a .n * a .n * a .n = sym (mul-assoc (a .n) (a .n) (a .n)) in
-    let size : b .loop .k * area + area - b .loop .k * area ≡ area = omega arith in
     omega arith
 
 add-to : tie.Need-add-to Inv-loop μ-loop
@@ -47,10 +41,8 @@ add-to c =
     let b = c .before in
     let a = b .before .before .args in
     let area = a .n * a .n in
-    let f : ℕ → ℕ → Bool = λ k p. tableTest (a .zs .now) k && slabTest (a .n) (a .xs .now) (a .ys .now) p in
     let below : b .loop .k * area + area ≤ a .n * area = row-below area (b .loop .k) (a .n) (omega arith) in
     let whole : a .n * area ≡ a .n * a .n * a .n = sym (mul-assoc (a .n) (a .n) (a .n)) in
-    let size : b .loop .k * area + area - b .loop .k * area ≡ area = omega arith in
     omega arith
 
 element-copy-out-slab-right : tie.Need-element-copy-out-slab-right Inv-loop μ-loop
@@ -67,7 +59,6 @@ part-slab-right-end c =
     let b = c .before .before in
     let a = b .before .before .args in
     let area = a .n * a .n in
-    let f : ℕ → ℕ → Bool = λ k p. tableTest (a .zs .now) k && slabTest (a .n) (a .xs .now) (a .ys .now) p in
     let below : b .loop .k * area + area ≤ a .n * area = row-below area (b .loop .k) (a .n) (omega arith) in
     let whole : a .n * area ≡ a .n * a .n * a .n = sym (mul-assoc (a .n) (a .n) (a .n)) in
     let size : b .loop .k * area + area - b .loop .k * area ≡ area = omega arith in
@@ -78,7 +69,6 @@ slab-right-requires c κs =
     let b = c .before .before .before in
     let a = b .before .before .args in
     let area = a .n * a .n in
-    let f : ℕ → ℕ → Bool = λ k p. tableTest (a .zs .now) k && slabTest (a .n) (a .xs .now) (a .ys .now) p in
     let below : b .loop .k * area + area ≤ a .n * area = row-below area (b .loop .k) (a .n) (omega arith) in
     let whole : a .n * area ≡ a .n * a .n * a .n = sym (mul-assoc (a .n) (a .n) (a .n)) in
     let size : b .loop .k * area + area - b .loop .k * area ≡ area = omega arith in
