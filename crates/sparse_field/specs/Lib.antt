@@ -6,4 +6,4 @@ pub mod CornerRun
 pub mod Records
 pub mod Calls
 pub mod Flags
-pub mod Progress
+pub mod Judged

@@ -15,7 +15,7 @@ ghost use Rattle.sparse_field.specs.Plan.{planOf};
 ghost use Rattle.sparse_field.specs.Records.{numberOf, lengthsIn, countsIn, cursorIn, jobIn, sparse};
 ghost use Rattle.sparse_field.specs.Calls.{memoryOf};
 ghost use Rattle.sparse_field.specs.Flags.{countNonzero};
-ghost use Rattle.sparse_field.specs.Progress.{RightKinds, wrongLeaves, wrongProgress};
+ghost use Rattle.sparse_field.specs.Judged.{RightKinds, wrongLeaves, wrongProgress};
 use crate::Counts;
 use crate::Cursor;
 use crate::Input;
