@@ -2,9 +2,9 @@
 // active ones. A child is active exactly where it is on each axis, so that three tables for a node
 // are enough: an axis is tested once for a slab and once for a row.
 ghost use mathlib.Core.Path.{_≡_};
-ghost use mathlib.Core.Bool.{Bool, false, _&&_};
+ghost use mathlib.Core.Bool.{false, _&&_};
 ghost use Prim.Native.Nat.{ℕ, _*_, _≤_, _<_};
-ghost use lib.ListN.{length, getD};
+ghost use lib.ListN.{length};
 ghost use Rattle.grid.specs.Blocks.{cube};
 ghost use Rattle.grid.specs.Nodes.{nodesOf};
 ghost use Rattle.grid.specs.Boxes.{active};
