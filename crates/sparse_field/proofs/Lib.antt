@@ -3,7 +3,10 @@ pub mod Stretch
 pub mod RunLaws
 pub mod Turns
 pub mod ChildLaws
+pub mod FlagLaws
+pub mod NodeKinds
 pub mod NodeLaws
+pub mod Judgement
 pub mod AroundLaws
 pub mod Searching
 pub mod Writing

@@ -7,15 +7,12 @@ use mathlib.Core.List.{List, []}
 use native.Mathlib.Nat.{mul-le-mul-left, mul-le-mul-right}
 use native.Mathlib.Omega.{arith}
 use lib.ListN.{set, getD, length, take, drop, length-set, length-drop}
-use lib.Seq.{getD-take, getD-drop, length-take-le}
-use lib.Dec.{eqb}
-use borrow.Author.Tests.{eq-eqb, ne-eqb}
+use lib.Seq.{length-take-le}
 use lib.Ieee.{Float}
 use Rattle.float.specs.Zero.{plusZero}
 use Rattle.geometry.specs.declared.BoundingBox.{BoundingBox}
 use Rattle.grid.specs.declared.Grid.{Grid}
 use Rattle.grid.specs.declared.Band.{Band}
-use Rattle.grid.specs.Ranges.{anyBelow}
 use Rattle.grid.specs.Blocks.{cube}
 use Rattle.grid.specs.Nodes.{nodesOf}
 use Rattle.grid.specs.Boxes.{active, nodeBox, childBox}
@@ -28,10 +25,9 @@ use Rattle.lists.specs.Filled.{filled}
 use Rattle.schedule.specs.Schedule.{Plan, Memory, State, Event, Decision, constant, leaf, corner, point, evaluate, at, eventsFrom, childrenLeft, nodesLeft, zeros}
 use Rattle.schedule.specs.Totals.{activeBefore, activeAll}
 use Rattle.schedule.specs.PlanLaws.{PlanLaws}
-use Rattle.schedule.specs.Opened.{nonzero, ActiveKinds}
+use Rattle.schedule.specs.Opened.{ActiveKinds}
 use Rattle.schedule.proofs.Sums.{before-all, before-most}
 use Rattle.schedule.proofs.Next.{corner-evaluate, corner-last, node-first, node-last}
-use Rattle.schedule.proofs.Activity.{active-at}
 use Rattle.sparse_field.specs.declared.Progress.{Progress}
 use Rattle.sparse_field.specs.declared.Cursor.the-variants.{Corner}
 use Rattle.sparse_field.specs.declared.Stop.the-variants.{Through, At}
@@ -42,6 +38,7 @@ use Rattle.sparse_field.specs.Plan.{planWith, decideOf}
 use Rattle.sparse_field.specs.Runs.{runOf}
 use Rattle.sparse_field.specs.FlatValue.{flatValue}
 use Rattle.sparse_field.specs.Progress.{plan, Sized, Lent, stateIn, Advanced, Ready, readingIn, ZeroCorners, NodeAdvanced, leafProgress}
+use Rattle.sparse_field.proofs.NodeKinds.{part-needed}
 use Rattle.sparse_field.proofs.RunLaws.{run-corners}
 use Rattle.sparse_field.proofs.Turns.{progress, stopped, advanced-then, filledStore, turn-points}
 
@@ -61,44 +58,16 @@ plan-laws g band value above = record {
 
 -- ---- one node's part of the kinds
 
-any-cong : (n : ℕ) (test other : ℕ → Bool) → ((c : ℕ) → c < n → test c ≡ other c) → anyBelow n test ≡ anyBelow n other
-unfolding anyBelow
-any-cong zero test other same = refl
-any-cong (suc n) test other same =
-    let rest : anyBelow n test ≡ anyBelow n other = any-cong n test other (λ c h. same c (omega arith)) in
-    let last : test n ≡ other n = same n (omega arith) in
-    λ t. rest t || last t
-
-nonzero-eqb : (k : ℕ) → not (eqb k 0) ≡ nonzero k
-nonzero-eqb zero = ap not (eq-eqb 0 0 refl)
-nonzero-eqb (suc k) = ap not (ne-eqb (suc k) 0 (λ e. omega arith))
-
 module _ (g : Grid) (band : Band) (value : Float → Float → Float → Float) (l : List ℕ) (right : ActiveKinds (planWith g band value) l)
     (long : nodesOf g * cube (g .inner) ≤ length l) (v : ℕ) (below : v < nodesOf g) {first d : ℕ} (from : first ≡ v * cube (g .inner)) (size : d ≡ cube (g .inner)) where
-  -- a kind of the part is nonzero exactly where the child is active
-  part-active : (c : ℕ) → c < cube (g .inner) → kinds.nonzero (take d (drop first l)) c ≡ active g v c
-  unfolding kinds.nonzero planWith
-  part-active c h =
-      let n : ℕ = cube (g .inner) in
-      let inside : v * n + c < nodesOf g * n = omega (arith, mul-le-mul-right n below) in
-      let read : getD (take d (drop first l)) c 0 ≡ getD l (v * n + c) 0 =
-        getD-take d (drop first l) c 0 (omega arith) ∙ getD-drop first l c 0 ∙ ap (λ k. getD l (k + c) 0) from in
-      ap (λ k. not (eqb k 0)) read ∙ nonzero-eqb (getD l (v * n + c) 0) ∙ right (v * n + c) (omega arith) ∙ active-at (planWith g band value) v c below h
-
-  -- so a corner is needed by the part exactly where it is by the plan
-  pub part-needed : (i : ℕ) → corners.needed (g .inner) (kinds.nonzero (take d (drop first l))) i ≡ planWith g band value .needed v i
-  unfolding planWith corners.needed
-  part-needed i =
-      any-cong (cube (g .inner)) _ _ (λ c h. ap (λ b. b && corners.among i (corners.octet (g .inner) c)) (part-active c h))
-
-  -- and the run over its corners is the plan's
+  -- the run over the corners that one node's part needs is the plan's
   pub plan-corners : {box : BoundingBox} {i b next left : ℕ} {before after : List Float} → box ≡ nodeBox g v
       → CornerRun (corners.needed (g .inner) (kinds.nonzero (take d (drop first l)))) (λ i. plans.at value (corners.cornerPoint box (g .inner) i))
         (cube (g .inner + 1)) i b next left before after
       → CornerRun (planWith g band value .needed v) (planWith g band value .cornerValue v) (planWith g band value .corners) i b next left before after
   unfolding planWith
   plan-corners {box} {i} {b} {next} {left} {before} {after} boxed run =
-      subst (λ test. CornerRun test (planWith g band value .cornerValue v) (cube (g .inner + 1)) i b next left before after) (fun-ext part-needed)
+      subst (λ test. CornerRun test (planWith g band value .cornerValue v) (cube (g .inner + 1)) i b next left before after) (fun-ext (part-needed g band value l right long v below from size))
       (subst (λ x. CornerRun (corners.needed (g .inner) (kinds.nonzero (take d (drop first l)))) (λ i. plans.at value (corners.cornerPoint x (g .inner) i))
         (cube (g .inner + 1)) i b next left before after) boxed run)
 

@@ -44,8 +44,7 @@ module _ {words : List ℕ} {reals : List Float} {parts len : ℕ} {point : ℕ 
       let y = front len (λ q. point q .y) ys (made .y-made) short (lent .y-long) q below in
       let z = front len (λ q. point q .z) zs (made .z-made) short (lent .z-long) q below in
       ap (λ l. getD l q past) (made .values-made)
-      ∙ List·getD-append (tabulate (min len 64) value) (drop (min len 64) values) past q (omega (arith, length-tabulate (min len 64) value))
-      ∙ getD-tabulate (min len 64) value q past (omega arith)
+      ∙ getD-filled 0 (min len 64) value values q past (omega arith) (omega arith) (omega (arith, lent .values-long))
       ∙ (λ t. modelValue (partsOf (flatOf words reals) (min-eq-left few t)) (min-eq-left few t) (x t) (y t) (z t))
 
   pub row-kept : RowLent px py pz results
@@ -58,7 +57,5 @@ module _ {words : List ℕ} {reals : List Float} {parts len : ℕ} {point : ℕ 
         y-long = kept len (λ q. point q .y) ys (made .y-made) (lent .y-long);
         z-long = kept len (λ q. point q .z) zs (made .z-made) (lent .z-long);
         values-long =
-            ap length (made .values-made)
-            ∙ length-append (tabulate (min len 64) value) (drop (min len 64) values)
-            ∙ omega (arith, length-tabulate (min len 64) value, length-drop (min len 64) values, lent .values-long);
+            ap length (made .values-made) ∙ filled-length 0 (min len 64) value values ∙ lent .values-long;
       }

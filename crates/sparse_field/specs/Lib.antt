@@ -12,3 +12,5 @@ pub mod Records
 pub mod Progress
 pub mod Startable
 pub mod Calls
+pub mod Flags
+pub mod Judged
