@@ -1,15 +1,15 @@
 -- A child's turn, from what the code reads: its kind, its octet, and the points of its leaf.
 use Prim.Native.Nat.{ℕ, zero, suc, _+_, _*_, _-_, _≤_, _<_, min}
 use mathlib.Core.Path.{_≡_, refl, sym, ap, subst, _∙_}
-use mathlib.Core.Bool.{Bool, true, false, not, cond}
+use mathlib.Core.Bool.{Bool, true, false, cond}
 use mathlib.Core.List.{List}
 use native.Mathlib.Nat.{mul-le-mul-right}
 use native.Mathlib.Numerals.{add-one}
 use native.Mathlib.Omega.{arith}
 use lib.ListN.{set, getD, length}
-use lib.Dec.{eqb, ltb}
+use lib.Dec.{ltb}
 use lib.Ieee.{Float}
-use borrow.Author.Tests.{eqb-true, eqb-false, lt-ltb, le-ltb}
+use borrow.Author.Tests.{lt-ltb, le-ltb}
 use Rattle.lists.specs.Filled.{filled}
 use Rattle.geometry.specs.declared.BoundingBox.{BoundingBox}
 use Rattle.grid.specs.declared.Grid.{Grid}
@@ -80,35 +80,34 @@ leaves-few g band words reals parts v c leaves m sized below ready =
     let P : Plan = plan g band words reals parts in
     omega (arith, ready .atMost, active-few g band words reals parts sized, before-most P (P .active) v c (ready .node) (omega arith))
 
--- an element is zero where the test says so
-nonzero-of : (k : ℕ) (b : Bool) → eqb k 0 ≡ b → nonzero k ≡ not b
-nonzero-of k true e = rw (eqb-true k 0 e)
-nonzero-of k false e = above k (eqb-false k 0 e)
-  where
-    above : (k : ℕ) → ¬ (k ≡ 0) → nonzero k ≡ true
-    above zero n = absurd (n refl)
-    above (suc k) n = refl
+-- a number that is not 0
+nonzero-above : (k : ℕ) → (k ≡ 0 → ⊥) → nonzero k ≡ true
+nonzero-above zero above = absurd (above refl)
+nonzero-above (suc k) above = refl
 
 module _ (g : Grid) (band : Band) (words : List ℕ) (reals : List Float) (parts v c b leaves : ℕ) (m : Memory) (box : BoundingBox) (boxed : box ≡ nodeBox g v)
     (below : c < cube (g .inner)) (ready : Ready (plan g band words reals parts) v c leaves m) (r : ℕ) (cubed : r ≡ cube (g .inner)) where
   abbrev P : Plan
   P = plan g band words reals parts
 
-  -- the child's place among the kinds
-  activity : (x : Bool) → eqb (getD (m .kinds) (v * r + c) 0) 0 ≡ x → P .active v c ≡ not x
-  unfolding planWith
-  activity x test =
-      sym (turn-active P v c b leaves m ready below)
-      ∙ nonzero-of _ x (sym (ap (λ n. eqb (getD (m .kinds) (v * n + c) 0) 0) cubed) ∙ test)
+  -- the kind that is read
+  kind-read : getD (m .kinds) (v * r + c) 0 ≡ getD (m .kinds) (v * cube (g .inner) + c) 0
+  kind-read = ap (λ n. getD (m .kinds) (v * n + c) 0) cubed
 
   -- a child that is not active
-  pub skipped : eqb (getD (m .kinds) (v * r + c) 0) 0 ≡ true → ChildrenAdvanced P v c (suc c) b leaves m m (progress leaves b Through)
+  pub skipped : getD (m .kinds) (v * r + c) 0 ≡ 0 → ChildrenAdvanced P v c (suc c) b leaves m m (progress leaves b Through)
   unfolding planWith
-  skipped test = turn-skip P v c b leaves m ready below (activity true test)
+  skipped none =
+      turn-skip P v c b leaves m ready below (sym (turn-active P v c b leaves m ready below) ∙ ap nonzero (sym kind-read ∙ none))
 
   module _ {octet : List Float} {child : BoundingBox} {h : Float} (read : octet ≡ octetValues (m .corners) (g .inner) c)
       (lies : child ≡ childBox box (g .inner) c) (half : h ≡ pruning.halfDiagonal child)
-      (active : eqb (getD (m .kinds) (v * r + c) 0) 0 ≡ false) where
+      (above : getD (m .kinds) (v * r + c) 0 ≡ 0 → ⊥) where
+    -- the child is active
+    is-active : P .active v c ≡ true
+    unfolding planWith
+    is-active = sym (turn-active P v c b leaves m ready below) ∙ nonzero-above (getD (m .kinds) (v * cube (g .inner) + c) 0) (λ e. above (kind-read ∙ e))
+
     -- the decision, by the pruning rule
     decided : (x : Bool) → pruning.pruned (band .min) (band .max) (pruning.lowest octet) (pruning.highest octet) h ≡ x
         → P .decide v c (readingIn m) ≡ cond x (constant 1 (pruning.average octet)) leaf
@@ -129,7 +128,7 @@ module _ (g : Grid) (band : Band) (words : List ℕ) (reals : List Float) (parts
           (memoryOf (set (m .kinds) (v * r + c) 1) (set (m .numbers) (v * r + c) x) (m .places) (m .store) (m .corners)) (progress leaves b Through)
     unfolding planWith
     constant-turn {x} test mean =
-        let turn = turn-constant P v c b leaves m ready below (activity false active) 1 (pruning.average octet) (omega arith) (decided true test) in
+        let turn = turn-constant P v c b leaves m ready below is-active 1 (pruning.average octet) (omega arith) (decided true test) in
         subst (λ n. ChildrenAdvanced P v c (suc c) b leaves m
           (memoryOf (set (m .kinds) (v * n + c) 1) (set (m .numbers) (v * n + c) x) (m .places) (m .store) (m .corners)) (progress leaves b Through)) (sym cubed)
         (subst (λ y. ChildrenAdvanced P v c (suc c) b leaves m
@@ -139,7 +138,7 @@ module _ (g : Grid) (band : Band) (words : List ℕ) (reals : List Float) (parts
     pub leaf-inside : (leaves + 1) * cube (g .leaf) ≤ length (m .store)
     unfolding planWith
     leaf-inside =
-        let more = before-below P (P .active) v c (ready .node) below (activity false active) in
+        let more = before-below P (P .active) v c (ready .node) below is-active in
         omega (arith, ready .lent .store, ready .atMost, mul-le-mul-right (cube (g .leaf)) more, mul-le-mul-right (cube (g .leaf)) (ready .atMost))
 
     -- a child that becomes a leaf
@@ -160,7 +159,7 @@ module _ (g : Grid) (band : Band) (words : List ℕ) (reals : List Float) (parts
           ∙ ap (λ x. filled ((suc leaves - 1) * cube (g .leaf) + 0) (min b (cube (g .leaf) - 0))
             (λ q. at (flatValue words reals parts) (leafPoint x (g .leaf) (q - (suc leaves - 1) * cube (g .leaf)))) (m .store)) lies′ in
         let goes′ : turn ≡ leafProgress (suc leaves) b v c 0 (cube (g .leaf)) = goes ∙ ap (λ n. leafProgress n b v c 0 (cube (g .leaf))) one in
-        let whole = turn-leaf P v c b leaves m ready below (activity false active) (decided false test) in
+        let whole = turn-leaf P v c b leaves m ready below is-active (decided false test) in
         subst (λ n. ChildrenAdvanced P v c (suc c) b leaves m
           (memoryOf (set (m .kinds) (v * n + c) 2) (m .numbers) (set (m .places) (v * n + c) leaves) store (m .corners)) turn) (sym cubed)
         (subst (λ l. ChildrenAdvanced P v c (suc c) b leaves m

@@ -6,6 +6,7 @@ pub mod ChildLaws
 pub mod FlagLaws
 pub mod NodeKinds
 pub mod NodeLaws
+pub mod JobLaws
 pub mod Judgement
 pub mod AroundLaws
 pub mod Searching

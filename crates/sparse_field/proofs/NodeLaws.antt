@@ -3,7 +3,7 @@ use Prim.Native.Nat.{ℕ, zero, suc, _+_, _*_, _-_, _≤_, _<_, min}
 use mathlib.Core.Path.{_≡_, refl, sym, ap, ap₂, subst, fun-ext, _∙_}
 use mathlib.Core.Bool.{Bool, true, false, not, cond, _&&_, _||_}
 use mathlib.Core.Logic.{_⊎_, ⊎-elim}
-use mathlib.Core.List.{List, []}
+use mathlib.Core.List.{List, [], map}
 use native.Mathlib.Nat.{mul-le-mul-left, mul-le-mul-right}
 use native.Mathlib.Omega.{arith}
 use lib.ListN.{set, getD, length, take, drop, length-set, length-drop}
@@ -17,6 +17,7 @@ use Rattle.grid.specs.Blocks.{cube}
 use Rattle.grid.specs.Nodes.{nodesOf}
 use Rattle.grid.specs.Boxes.{active, nodeBox, childBox}
 use Rattle.grid.specs.Leaves.{leafPoint}
+use Rattle.grid.specs.Pruning as pruning
 use Rattle.grid.specs.Corners as corners
 use Rattle.grid.specs.CornerList as kinds
 use Rattle.grid.proofs.Needing.{needed-below}
@@ -29,32 +30,40 @@ use Rattle.schedule.specs.Opened.{ActiveKinds}
 use Rattle.schedule.proofs.Sums.{before-all, before-most}
 use Rattle.schedule.proofs.Next.{corner-evaluate, corner-last, node-first, node-last}
 use Rattle.sparse_field.specs.declared.Progress.{Progress}
-use Rattle.sparse_field.specs.declared.Cursor.the-variants.{Corner}
+use Rattle.sparse_field.specs.declared.Cursor.{Cursor}
+use Rattle.sparse_field.specs.declared.Cursor.the-variants.{End, Corner}
+use Rattle.sparse_field.specs.Records.{cursorIn}
 use Rattle.sparse_field.specs.declared.Stop.the-variants.{Through, At}
 use Rattle.sparse_field.specs.Calls.{memoryOf}
 use Rattle.sparse_field.specs.CornerRun.{CornerRun, neededFrom, evaluatedFrom}
 use Rattle.sparse_field.specs.Plan as plans
-use Rattle.sparse_field.specs.Plan.{planWith, decideOf}
+use Rattle.sparse_field.specs.Plan.{planWith, decideOf, boxOf}
 use Rattle.sparse_field.specs.Runs.{runOf}
 use Rattle.sparse_field.specs.FlatValue.{flatValue}
 use Rattle.sparse_field.specs.Progress.{plan, Sized, Lent, stateIn, Advanced, Ready, readingIn, ZeroCorners, NodeAdvanced, leafProgress}
 use Rattle.sparse_field.proofs.NodeKinds.{part-needed}
 use Rattle.sparse_field.proofs.RunLaws.{run-corners}
-use Rattle.sparse_field.proofs.Turns.{progress, stopped, advanced-then, filledStore, turn-points}
+use Rattle.sparse_field.proofs.Turns.{progress, stopped, advanced-start, advanced-then, filledStore, turn-points}
 
 -- ---- the plan's laws
 
+-- a constant's kind is 1
+decide-kind : (band : Band) (b : BoundingBox) (octet : List Float) (k : ℕ) (x : Float) → decideOf band b octet ≡ constant k x → 0 < k
+unfolding decideOf
+decide-kind band b octet k x decided =
+    kind (pruning.average octet) (pruning.pruned (band .min) (band .max) (pruning.lowest octet) (pruning.highest octet) (pruning.halfDiagonal b)) decided
+  where
+    kind : (y : Float) (b : Bool) → cond b (constant 1 y) leaf ≡ constant k x → 0 < k
+    kind y true e = let one : k ≡ 1 = cc in omega arith
+    kind y false e = let z : _≡_ {A = ℕ} 0 1 = cc in absurd (omega arith)
+
 -- a needed corner is one of the node's, and a constant's kind is 1
 pub plan-laws : (g : Grid) (band : Band) (value : Float → Float → Float → Float) → 0 < g .inner → PlanLaws (planWith g band value)
-unfolding planWith decideOf
+unfolding planWith
 plan-laws g band value above = record {
   inside = λ v i below needed. needed-below (g .inner) (active g v) i above needed;
-  constantKind = λ v c read k x decided. kind _ _ k x decided;
+  constantKind = λ v c read k x decided. decide-kind band (boxOf g v c) (map read (corners.octet (g .inner) c)) k x decided;
 }
-  where
-    kind : (y : Float) (b : Bool) (k : ℕ) (x : Float) → cond b (constant 1 y) leaf ≡ constant k x → 0 < k
-    kind y true k x e = let one : k ≡ 1 = cc in omega arith
-    kind y false k x e = let z : _≡_ {A = ℕ} 0 1 = cc in absurd (omega arith)
 
 -- ---- one node's part of the kinds
 
@@ -162,6 +171,12 @@ pub nodes-upto : (P : Plan) (v₁ v₂ b leaves : ℕ) {m₀ m : Memory} {from :
     → Advanced P b leaves m₀ m from (nodesLeft P v₁) r (activeBefore P v₁ 0) → Advanced P b leaves m₀ m from (nodesLeft P v₂) r (activeBefore P v₂ 0)
 nodes-upto P v₁ v₂ b leaves {m₀} {m} {from} {r} same = subst (λ v. Advanced P b leaves m₀ m from (nodesLeft P v) r (activeBefore P v 0)) same
 
+-- a node, and then all nodes after it
+pub node-then : (P : Plan) (v n b leaves : ℕ) {m m₁ m₂ : Memory} {from : List Event} {r₁ r₂ : Progress} {most : ℕ} → NodeAdvanced P v b leaves m m₁ from r₁
+    → r₁ .stop ≡ Through → n ≡ suc v → Advanced P (r₁ .left) (r₁ .leaves) m₁ m₂ (nodesLeft P n) [] r₂ most → Advanced P b leaves m m₂ from [] r₂ most
+node-then P v n b leaves {m} {m₁} {m₂} {from} {r₁} {r₂} {most} node through next rest =
+    advanced-then P (node .advanced) through (subst (λ k. Advanced P (r₁ .left) (r₁ .leaves) m₁ m₂ (nodesLeft P k) [] r₂ most) next rest)
+
 -- ---- the same, from what the code reads
 
 -- there are few nodes
@@ -228,7 +243,7 @@ module _ (g : Grid) (band : Band) (words : List ℕ) (reals : List Float) (parts
         (λ q. plans.at (flatValue words reals parts) (leafPoint child (g .leaf) (q - (leaves - 1) * cube (g .leaf)))) (m .store)
       → Advanced Q b leaves m (memoryOf (m .kinds) (m .numbers) (m .places) store (m .corners)) (eventsFrom Q (at (point v c p)) (readingIn m))
         (childrenLeft Q v (suc c) (readingIn m)) turn (activeBefore Q v (suc c))
-  unfolding planWith plans.boxOf
+  unfolding planWith boxOf
   node-points {box} {child} {store} {turn} within boxed lies goes stored =
       let lies′ : child ≡ childBox (nodeBox g v) (g .inner) c = lies ∙ ap (λ x. childBox x (g .inner) c) boxed in
       let stored′ : store ≡ filledStore Q v c p b leaves (m .store) =
@@ -239,3 +254,16 @@ module _ (g : Grid) (band : Band) (words : List ℕ) (reals : List Float) (parts
       (subst (λ t. Advanced Q b leaves m (memoryOf (m .kinds) (m .numbers) (m .places) (filledStore Q v c p b leaves (m .store)) (m .corners))
         (eventsFrom Q (at (point v c p)) (readingIn m)) (childrenLeft Q v (suc c) (readingIn m)) t (activeBefore Q v (suc c))) (sym goes)
       (turn-points Q v c p b leaves m (ready .lent) (ready .atMost) within))
+
+-- ---- from a cursor on
+
+-- what is left at a cursor that is known
+pub at-cursor : (P : Plan) (a x : Cursor) (b leaves : ℕ) (m : Memory) {m₁ : Memory} {r : Progress} {most : ℕ} → a ≡ x
+    → Advanced P b leaves m m₁ (eventsFrom P (cursorIn x) (readingIn m)) [] r most → Advanced P b leaves m m₁ (eventsFrom P (cursorIn a) (readingIn m)) [] r most
+at-cursor P a x b leaves m {m₁} {r} {most} known = subst (λ y. Advanced P b leaves m m₁ (eventsFrom P (cursorIn y) (readingIn m)) [] r most) (sym known)
+
+-- at the end nothing is left
+pub at-end : (P : Plan) (b leaves : ℕ) (m : Memory) → Lent P m → leaves ≤ activeAll P
+    → Advanced P b leaves m m (eventsFrom P (cursorIn End) (readingIn m)) [] (progress leaves b Through) (activeAll P)
+unfolding eventsFrom
+at-end P b leaves m lent most = advanced-start P b leaves m [] (activeAll P) lent most

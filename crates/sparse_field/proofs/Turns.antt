@@ -36,6 +36,19 @@ use Rattle.sparse_field.proofs.RunLaws.{run-work, run-stop, run-corners
 abbrev pub progress : ℕ → ℕ → Stop → Progress
 progress leaves left stop = record { leaves = leaves; left = left; stop = stop }
 
+-- a fact holds where a function has come through, if it holds at all
+pub if-through : {A : Type 0} (x : Stop) → A → IfThrough x A
+if-through Through a = a
+if-through (At c) a = tt
+
+-- where a function has stopped, nothing is claimed of its end
+pub if-stopped : (A : Type 0) {x : Stop} (a : Cursor) → x ≡ At a → IfThrough x A
+if-stopped A a stop = subst (λ x. IfThrough x A) (sym stop) tt
+
+-- where it has come through, what is claimed holds
+pub came-through : (A : Type 0) {x : Stop} → IfThrough x A → x ≡ Through → A
+came-through A claim through = subst (λ x. IfThrough x A) through claim
+
 module _ (P : Plan) where
   -- one function after another that has come through
   pub advanced-then : {b leaves : ℕ} {m m₁ m₂ : Memory} {from mid to : List Event} {r₁ r₂ : Progress} {most₁ most₂ : ℕ}
@@ -72,14 +85,6 @@ module _ (P : Plan) where
   pub children-upto : (v c c₁ c₂ b leaves : ℕ) {m m₁ : Memory} {r : Progress} → c₁ ≡ c₂
       → ChildrenAdvanced P v c c₁ b leaves m m₁ r → ChildrenAdvanced P v c c₂ b leaves m m₁ r
   children-upto v c c₁ c₂ b leaves {m} {m₁} {r} same = subst (λ n. ChildrenAdvanced P v c n b leaves m m₁ r) same
-
-  -- where a function has stopped, nothing is claimed of its end
-  pub if-stopped : (A : Type 0) {x : Stop} (a : Cursor) → x ≡ At a → IfThrough x A
-  if-stopped A a stop = subst (λ x. IfThrough x A) (sym stop) tt
-
-  -- where it has come through, what is claimed holds
-  pub came-through : (A : Type 0) {x : Stop} → IfThrough x A → x ≡ Through → A
-  came-through A claim through = subst (λ x. IfThrough x A) through claim
 
   -- a child's place is one of the kinds
   place-inside : (v c n : ℕ) → v < P .nodes → c < P .children → P .nodes * P .children ≤ n → v * P .children + c < n
@@ -165,11 +170,6 @@ module _ (P : Plan) where
   leafProgress-leaves : (n b v c p points : ℕ) → leafProgress n b v c p points .leaves ≡ n
   unfolding leafProgress
   leafProgress-leaves n b v c p points = refl
-
-  -- a fact holds where a function has come through, if it holds at all
-  pub if-through : {A : Type 0} (x : Stop) → A → IfThrough x A
-  if-through Through a = a
-  if-through (At c) a = tt
 
   -- memory whose store holds points of a leaf is lent as before
   pub leaf-lent : (v c p b n : ℕ) (m : Memory) → Lent P m → Lent P (leafState v c p b n m .memory)

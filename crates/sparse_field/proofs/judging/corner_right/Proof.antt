@@ -5,10 +5,9 @@ use native.Mathlib.Omega.{arith}
 use lib.ListN.{length, take, drop, length-take, length-drop}
 use Rattle.grid.specs.Blocks.{cube}
 use Rattle.grid.specs.Nodes.{nodesOf}
-use Rattle.grid.specs.Corners as corners
-use Rattle.grid.specs.CornerList as kinds
 use Rattle.grid.proofs.CauseLaws.{inner-block, few-nodes, nodes-few}
 use Rattle.schedule.specs.Opened.{nonzero}
+use Rattle.sparse_field.specs.Plan.{valueOf}
 use Rattle.sparse_field.proofs.FlagLaws.{row-below}
 use Rattle.sparse_field.proofs.NodeKinds.{part-needed}
 use Rattle.sparse_field.proofs.Judgement.{corner-node, corner-place, corner-needed}
@@ -144,11 +143,9 @@ returns-3 c =
     let whole : nodesOf g * r ≡ nodesOf g * cube (g .inner) = ap (λ (x : ℕ). nodesOf g * x) cubed in
     let long : nodesOf g * cube (g .inner) ≤ length l = s .pre .long in
     let size : v * r + r - v * r ≡ r = omega arith in
-    let d = v * r + r - v * r in
     corner-needed i v k inside (omega (arith, c .before .before .before .before .cube-of .ensures))
     (c .is-needed .ensures
-    ∙ (λ t. corners.needed (g .inner) (kinds.nonzero (take d (drop (v * cubed t) l))) k)
-    ∙ part-needed i l (s .pre .right) long v inside (size ∙ cubed) k)
+    ∙ part-needed g (i .band) (valueOf (i .model)) l (s .pre .right) long v inside (ap (λ n. v * n) cubed) (size ∙ cubed) k)
 
 pub corner-right-spec : {M : Type 1} → statement M
 corner-right-spec =

@@ -74,7 +74,7 @@ rest-of-node-requires c κs =
     let a = s .args in
     let points = node-points (a .g) (a .band) (a .words .now) (a .reals .now) (a .parts) (a .v) (a .c) (a .p) (a .budget) (a .leaves) (memory s) (s .pre .1) (s .pre .0 .1)
       (s .pre .0 .2) (c .before .before .before .before .before .before .before .before .before .before .before .before .before .before .node-box .ensures) (c .before .before .before .before .before .before .before .before .before .before .before .before .before .child-box .ensures) (c .before .before .before .before .before .before .before .before .before .before .leaf-from .ensures .0) (c .before .before .before .before .before .before .before .before .before .before .leaf-from .ensures .1) in
-    let most = came-through _ _ (points .atMost) (c .before .before .before .before .before .before .enum-told2 .given .1) in
+    let most = came-through _ (points .atMost) (c .before .before .before .before .before .before .enum-told2 .given .1) in
     ((s .pre .0 .0, c .before .before .before .before .before .before .before .before .before .before .before .before .before .before .node-box .ensures, omega (arith, s .pre .0 .1), s .pre .0 .4), record { lent = points .lent; node = s .pre .1 .node;
       atMost = subst (λ n. c .before .before .before .before .before .before .before .before .before .before .leaf-from .result .leaves ≤ activeBefore (plan (a .g) (a .band) (a .words .now) (a .reals .now) (a .parts)) (a .v) n) (sym (add-one (a .c))) most })
 
