@@ -3,8 +3,12 @@
 use std::hint::black_box;
 use std::time::{Duration, Instant};
 
-/// How many runs of each side are measured.
+/// How many runs of each side are measured at most.
 const RUNS: usize = 601;
+
+/// How many there are at least, and how long a row takes where they are long.
+const FEWEST: usize = 9;
+const ROW_TIME: Duration = Duration::from_secs(2);
 
 /// About how long one run takes. Short, so that on a busy machine most runs are
 /// not interrupted: with longer ones the median is of interrupted runs.
@@ -61,9 +65,18 @@ impl<'a> Runs<'a> {
 
     /// The median, in nanoseconds for one result.
     fn median(&mut self) -> f64 {
-        self.times.sort_by(f64::total_cmp);
-        self.times[self.times.len() / 2]
+        median(&mut self.times)
     }
+}
+
+fn median(times: &mut [f64]) -> f64 {
+    times.sort_by(f64::total_cmp);
+    times[times.len() / 2]
+}
+
+/// Whether so many runs of a row that began then are enough.
+fn enough(runs: usize, begun: Instant) -> bool {
+    runs >= RUNS || (runs >= FEWEST && begun.elapsed() > ROW_TIME)
 }
 
 /// Prints the table's head.
@@ -77,19 +90,57 @@ pub fn head() {
 pub fn row(name: &str, results: usize, ours: Side, theirs: Option<Side>) {
     let mut ours = Runs::new(ours, results);
     let mut theirs = theirs.map(|side| Runs::new(side, results));
-    for _ in 0..RUNS {
+    let begun = Instant::now();
+    while !enough(ours.times.len(), begun) {
         ours.run();
         if let Some(theirs) = &mut theirs {
             theirs.run();
         }
     }
     let our_time = ours.median();
-    let Some(mut theirs) = theirs else {
+    let theirs = theirs.map(|mut theirs| (theirs.median(), theirs.results));
+    print(name, our_time, &ours.results, theirs);
+}
+
+/// One side of a comparison of whole fields.
+pub trait Job {
+    /// Puts the input back. Not measured.
+    fn prepare(&mut self);
+    fn run(&mut self);
+    fn results(&self) -> &[f64];
+}
+
+/// Measures one row of jobs that are long enough to be timed one by one.
+pub fn jobs(name: &str, ours: &mut dyn Job, mut theirs: Option<&mut dyn Job>) {
+    let mut times = [Vec::new(), Vec::new()];
+    let begun = Instant::now();
+    while !enough(times[0].len(), begun) {
+        times[0].push(timed(ours));
+        if let Some(theirs) = &mut theirs {
+            times[1].push(timed(*theirs));
+        }
+    }
+    let our_time = median(&mut times[0]);
+    let theirs = theirs.map(|job| (median(&mut times[1]), job.results().to_vec()));
+    print(name, our_time, ours.results(), theirs);
+}
+
+/// The time of one job, in nanoseconds for one result.
+fn timed(job: &mut dyn Job) -> f64 {
+    job.prepare();
+    let start = Instant::now();
+    job.run();
+    let time = start.elapsed().as_nanos() as f64;
+    time / black_box(job.results()).len() as f64
+}
+
+/// Prints a row: our time, and theirs with their results.
+fn print(name: &str, our_time: f64, our_results: &[f64], theirs: Option<(f64, Vec<f64>)>) {
+    let Some((their_time, their_results)) = theirs else {
         println!("| {name} | {our_time:.1} | not built | |");
         return;
     };
-    let their_time = theirs.median();
-    let note = if same(&ours.results, &theirs.results) {
+    let note = if same(our_results, &their_results) {
         ""
     } else {
         " (the results differ)"

@@ -3,9 +3,10 @@
 //! Each file is included into a module at its original place. What the shared
 //! folder does not have is a stub with the signatures that the files use, in
 //! `types/`.
-//! `parts.rs` is ours: the shapes and operations of a model as components of
+//! `parts.rs` and `benched.rs` are ours: the shapes and operations of a model as components of
 //! the original, and the way to its evaluation.
 
+pub mod benched;
 pub mod parts;
 
 /// Asked for by the original's model; nothing here reads it.
