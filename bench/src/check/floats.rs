@@ -8,7 +8,7 @@ const ROUNDS: usize = 200_000;
 
 /// min(a, b) and max(a, b): a if b is NaN, else b if a is NaN or beyond a, else
 /// a. Both copy.
-pub fn chosen(a: f64, b: f64, beyond: bool) -> f64 {
+fn chosen(a: f64, b: f64, beyond: bool) -> f64 {
     if b.is_nan() || !(a.is_nan() || beyond) {
         a
     } else {
@@ -39,19 +39,8 @@ fn boxes(random: &mut Random, tally: &mut Tally) {
     let ends = [(); 2].map(|_| [(); 3].map(|_| number(random)));
     let [p, q] = ends;
     let d = [0, 1, 2].map(|axis| p[axis] - q[axis]);
-    let squared = (d[0] * d[0] + d[1] * d[1]) + d[2] * d[2];
-    let distance = hardware_sqrt(squared);
-    tally.compare(
-        "squared distance",
-        host::distance_squared(ends),
-        computed(squared),
-    );
+    let distance = hardware_sqrt((d[0] * d[0] + d[1] * d[1]) + d[2] * d[2]);
     tally.compare("distance", host::distance(ends), computed(distance));
-    tally.compare(
-        "half diagonal",
-        host::half_diagonal(ends),
-        computed(distance / 2.0),
-    );
     let dimensions = host::dimensions(ends);
     for axis in 0..3 {
         tally.compare("dimension", dimensions[axis], computed(q[axis] - p[axis]));

@@ -1,7 +1,7 @@
-//! Points that are computed from boxes and indices: walks, corners, leaves and
-//! children; and what is computed from octets.
+//! Points that are computed from boxes and indices: walks, corners and leaves;
+//! and the mean of an octet.
 
-use super::{computed, floats::chosen, number, Random, Tally};
+use super::{computed, number, Random, Tally};
 use crate::host::points::{self as host, Ends};
 
 const ROUNDS: usize = 100_000;
@@ -43,7 +43,7 @@ pub fn values() -> usize {
         walks(&mut random, &mut tally);
         corners(&mut random, &mut tally);
         grid(&mut random, &mut tally);
-        octets(&mut random, &mut tally);
+        octet(&mut random, &mut tally);
     }
     tally.report()
 }
@@ -99,45 +99,22 @@ fn grid(random: &mut Random, tally: &mut Tally) {
     let ends = [(); 2].map(|_| [(); 3].map(|_| number(random)));
     let block = 1 << (1 + random.next() % 3);
     let n = block as usize;
-    let child = random.next() as usize % (n * n * n);
+    let place = random.next() as usize % (n * n * n);
     let corner = random.next() as usize % ((n + 1) * (n + 1) * (n + 1));
-    let children = host::child_box(ends, block, child);
     let corners = host::corner_point(ends, block, corner);
-    let leaves = host::leaf_point(ends, block, child);
+    let leaves = host::leaf_point(ends, block, place);
     for axis in 0..3 {
-        let i = indices(child, n)[axis];
-        let least = along(ends, axis, n, i);
-        let most = least + step(ends, axis, n);
-        tally.compare("child's box", children[axis], computed(least));
-        tally.compare("child's box's end", children[axis + 3], computed(most));
+        let i = indices(place, n)[axis];
         let c = step(ends, 0, n);
         let expected = ends[0][axis] + c * indices(corner, n + 1)[axis] as f64;
         tally.compare("node's corner", corners[axis], computed(expected));
         let expected = along(ends, axis, n - 1, i);
         tally.compare("leaf's point", leaves[axis], computed(expected));
     }
-    let cell = number(random);
-    let expected = cell * (n * (n - 1)) as f64;
-    tally.compare(
-        "node's size",
-        host::node_size(cell, block, block),
-        computed(expected),
-    );
 }
 
-fn octets(random: &mut Random, tally: &mut Tally) {
-    let mut octet = [(); 8].map(|_| number(random));
-    if random.next() % 64 == 0 {
-        octet = octet.map(|_| f64::from_bits(0x7ff8_0000_0000_0000 | random.next() >> 13));
-    }
+fn octet(random: &mut Random, tally: &mut Tally) {
+    let octet = [(); 8].map(|_| number(random));
     let sum = octet.iter().fold(0.0, |sum, value| sum + value);
-    let lowest = octet[1..]
-        .iter()
-        .fold(octet[0], |a, &b| chosen(a, b, b < a));
-    let highest = octet[1..]
-        .iter()
-        .fold(octet[0], |a, &b| chosen(a, b, b > a));
     tally.compare("average", host::average(&octet), computed(sum / 8.0));
-    tally.compare("lowest", host::lowest(&octet), lowest.to_bits());
-    tally.compare("highest", host::highest(&octet), highest.to_bits());
 }

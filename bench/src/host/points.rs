@@ -7,12 +7,7 @@ extern "C" {
     fn bench_min(a: f64, b: f64) -> f64;
     fn bench_max(a: f64, b: f64) -> f64;
     fn bench_distance(x0: f64, y0: f64, z0: f64, x1: f64, y1: f64, z1: f64) -> f64;
-    fn bench_distance_squared(x0: f64, y0: f64, z0: f64, x1: f64, y1: f64, z1: f64) -> f64;
-    fn bench_half_diagonal(x0: f64, y0: f64, z0: f64, x1: f64, y1: f64, z1: f64) -> f64;
-    fn bench_node_size(cell: f64, inner: u32, leaf: u32) -> f64;
     fn bench_average(octet: &[f64; 8]) -> f64;
-    fn bench_lowest(octet: &[f64; 8]) -> f64;
-    fn bench_highest(octet: &[f64; 8]) -> f64;
     fn bench_dimensions(x0: f64, y0: f64, z0: f64, x1: f64, y1: f64, z1: f64, out: &mut [f64; 3]);
     fn bench_cell_corner(
         x: f64,
@@ -58,17 +53,6 @@ extern "C" {
         k: usize,
         out: &mut [f64; 6],
     ) -> bool;
-    fn bench_child_box(
-        x0: f64,
-        y0: f64,
-        z0: f64,
-        x1: f64,
-        y1: f64,
-        z1: f64,
-        n: u32,
-        c: usize,
-        out: &mut [f64; 6],
-    );
     fn bench_corner_point(
         x0: f64,
         y0: f64,
@@ -120,28 +104,8 @@ pub fn distance([[x0, y0, z0], [x1, y1, z1]]: Ends) -> f64 {
     unsafe { bench_distance(x0, y0, z0, x1, y1, z1) }
 }
 
-pub fn distance_squared([[x0, y0, z0], [x1, y1, z1]]: Ends) -> f64 {
-    unsafe { bench_distance_squared(x0, y0, z0, x1, y1, z1) }
-}
-
-pub fn half_diagonal([[x0, y0, z0], [x1, y1, z1]]: Ends) -> f64 {
-    unsafe { bench_half_diagonal(x0, y0, z0, x1, y1, z1) }
-}
-
-pub fn node_size(cell: f64, inner: u32, leaf: u32) -> f64 {
-    unsafe { bench_node_size(cell, inner, leaf) }
-}
-
 pub fn average(octet: &[f64; 8]) -> f64 {
     unsafe { bench_average(octet) }
-}
-
-pub fn lowest(octet: &[f64; 8]) -> f64 {
-    unsafe { bench_lowest(octet) }
-}
-
-pub fn highest(octet: &[f64; 8]) -> f64 {
-    unsafe { bench_highest(octet) }
 }
 
 pub fn dimensions([[x0, y0, z0], [x1, y1, z1]]: Ends) -> [f64; 3] {
@@ -191,14 +155,7 @@ pub fn cell_step([p, q]: Ends, n: [usize; 3], at: [usize; 3]) -> Option<[f64; 6]
     found.then_some(out)
 }
 
-/// The ends of child c of a node that has n children along an axis, n not 0.
-pub fn child_box([[x0, y0, z0], [x1, y1, z1]]: Ends, n: u32, c: usize) -> [f64; 6] {
-    let mut out = [0.0; 6];
-    unsafe { bench_child_box(x0, y0, z0, x1, y1, z1, n, c, &mut out) };
-    out
-}
-
-/// A corner of such a node.
+/// A corner of a node that has n children along an axis.
 pub fn corner_point([[x0, y0, z0], [x1, y1, z1]]: Ends, n: u32, corner: usize) -> [f64; 3] {
     let mut out = [0.0; 3];
     unsafe { bench_corner_point(x0, y0, z0, x1, y1, z1, n, corner, &mut out) };

@@ -5,7 +5,7 @@ ghost use Rattle.float.specs.Select.{minOf, maxOf};
 ghost use Rattle.float.specs.Whole.{floorOf, ceilOf};
 ghost use Rattle.geometry.specs.Values.{vec3};
 ghost use Rattle.geometry.specs.Box.{dimensionsOf};
-ghost use Rattle.geometry.specs.Distance.{distanceSquaredOf, distanceOf};
+ghost use Rattle.geometry.specs.Distance.{distanceOf};
 ghost use Rattle.bench_host.specs.Answers.{coordinates, ends};
 ghost use Rattle.bench_host.specs.Given.{boxGiven};
 use geometry::BoundingBox;
@@ -90,26 +90,6 @@ pub extern "C" fn bench_distance(x0: f64, y0: f64, z0: f64, x1: f64, y1: f64, z1
         z: z0,
     };
     p.distance_to_coord(x1, y1, z1)
-}
-
-// Its square.
-#[no_mangle]
-pub extern "C" fn bench_distance_squared(
-    x0: f64,
-    y0: f64,
-    z0: f64,
-    x1: f64,
-    y1: f64,
-    z1: f64,
-) -> f64
-    ensures { λ r. ⌜ r ≡ distanceSquaredOf (vec3 x0 y0 z0) x1 y1 z1 ⌝ }
-{
-    let p = Vec3 {
-        x: x0,
-        y: y0,
-        z: z0,
-    };
-    p.distance_to_coord_squared(x1, y1, z1)
 }
 
 // The size of a box along each axis.
