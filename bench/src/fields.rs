@@ -1,7 +1,7 @@
 //! The rows about dense fields: ours against the original's `DenseField`.
 
 use crate::host::{self, Layout};
-use crate::measure::{jobs, Job};
+use crate::measure::{jobs, Clock, Job};
 use crate::models::{self, Part};
 
 const ORIGIN: [f64; 3] = [-0.5, -0.25, 0.125];
@@ -17,7 +17,8 @@ const SMOOTHED: [[usize; 3]; 2] = [[32; 3], [100; 3]];
 pub fn rows() {
     for (name, parts) in models::measured() {
         for n in SAMPLED {
-            sampling(&format!("sampling {name}, {}", size(n)), &parts, n);
+            let name = format!("sampling {name}, {}", size(n));
+            sampling(&name, Clock::Thread, &parts, n);
         }
     }
     for n in SMOOTHED {
@@ -36,7 +37,7 @@ pub fn rows() {
 pub fn rows_on_all_threads() {
     for (name, parts) in models::measured() {
         let name = format!("sampling {name}, 100×100×100, theirs on all threads");
-        sampling(&name, &parts, [100; 3]);
+        sampling(&name, Clock::Wall, &parts, [100; 3]);
     }
     let name = "smoothing 100×100×100, factor 0.5, rounds 5, theirs on all threads";
     call(name, [100; 3], Call::SmoothOnAll(0.5, 5));
@@ -94,6 +95,13 @@ enum Call {
     Threshold(f64),
 }
 
+fn clock_of(call: Call) -> Clock {
+    match call {
+        Call::SmoothOnAll(..) => Clock::Wall,
+        _ => Clock::Thread,
+    }
+}
+
 /// The table's row for one call.
 fn call(name: &str, n: [usize; 3], call: Call) {
     let input = values(n);
@@ -111,13 +119,13 @@ fn call(name: &str, n: [usize; 3], call: Call) {
 }
 
 /// The table's row for the sampling of one model.
-fn sampling(name: &str, parts: &[Part], n: [usize; 3]) {
+fn sampling(name: &str, clock: Clock, parts: &[Part], n: [usize; 3]) {
     let input = values(n);
     let layout = Layout::new(parts);
     let mut ours = ours(&input, |values: &mut [f64]| {
         host::fields::sample(&layout, ORIGIN, CELL, n, values);
     });
-    compare_sampling(name, &mut ours, &input, n, parts);
+    compare_sampling(name, clock, &mut ours, &input, n, parts);
 }
 
 #[cfg(feature = "original")]
@@ -125,7 +133,7 @@ use original_side::{compare, compare_sampling};
 
 #[cfg(feature = "original")]
 mod original_side {
-    use super::{jobs, models, Call, Job, Part, CELL, ORIGIN};
+    use super::{clock_of, jobs, models, Call, Clock, Job, Part, CELL, ORIGIN};
     use original::benched::{field, sample, DenseField};
     use original::parts::Model;
 
@@ -151,6 +159,7 @@ mod original_side {
     }
 
     pub fn compare(name: &str, ours: &mut dyn Job, input: &[f64], n: [usize; 3], call: Call) {
+        let clock = clock_of(call);
         let mut theirs = Theirs {
             input,
             field: field(ORIGIN, CELL, n, input.to_vec()),
@@ -161,11 +170,12 @@ mod original_side {
                 Call::Threshold(limit) => field.threshold(limit),
             },
         };
-        jobs(name, ours, Some(&mut theirs));
+        jobs(name, clock, ours, Some(&mut theirs));
     }
 
     pub fn compare_sampling(
         name: &str,
+        clock: Clock,
         ours: &mut dyn Job,
         input: &[f64],
         n: [usize; 3],
@@ -179,16 +189,23 @@ mod original_side {
             field: field(ORIGIN, CELL, n, input.to_vec()),
             call: |field: &mut DenseField<f64>| sample(field, &graph),
         };
-        jobs(name, ours, Some(&mut theirs));
+        jobs(name, clock, ours, Some(&mut theirs));
     }
 }
 
 #[cfg(not(feature = "original"))]
-fn compare(name: &str, ours: &mut dyn Job, _: &[f64], _: [usize; 3], _: Call) {
-    jobs(name, ours, None);
+fn compare(name: &str, ours: &mut dyn Job, _: &[f64], _: [usize; 3], call: Call) {
+    jobs(name, clock_of(call), ours, None);
 }
 
 #[cfg(not(feature = "original"))]
-fn compare_sampling(name: &str, ours: &mut dyn Job, _: &[f64], _: [usize; 3], _: &[Part]) {
-    jobs(name, ours, None);
+fn compare_sampling(
+    name: &str,
+    clock: Clock,
+    ours: &mut dyn Job,
+    _: &[f64],
+    _: [usize; 3],
+    _: &[Part],
+) {
+    jobs(name, clock, ours, None);
 }

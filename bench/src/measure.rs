@@ -110,14 +110,22 @@ pub trait Job {
     fn results(&self) -> &[f64];
 }
 
+/// What a job's time is: that of its own thread, which other processes do not
+/// add to, or the time by the wall, for jobs of several threads.
+#[derive(Clone, Copy)]
+pub enum Clock {
+    Thread,
+    Wall,
+}
+
 /// Measures one row of jobs that are long enough to be timed one by one.
-pub fn jobs(name: &str, ours: &mut dyn Job, mut theirs: Option<&mut dyn Job>) {
+pub fn jobs(name: &str, clock: Clock, ours: &mut dyn Job, mut theirs: Option<&mut dyn Job>) {
     let mut times = [Vec::new(), Vec::new()];
     let begun = Instant::now();
     while !enough(times[0].len(), begun) {
-        times[0].push(timed(ours));
+        times[0].push(timed(clock, ours));
         if let Some(theirs) = &mut theirs {
-            times[1].push(timed(*theirs));
+            times[1].push(timed(clock, *theirs));
         }
     }
     let our_time = median(&mut times[0]);
@@ -126,18 +134,41 @@ pub fn jobs(name: &str, ours: &mut dyn Job, mut theirs: Option<&mut dyn Job>) {
 }
 
 /// The time of one job, in nanoseconds for one result.
-fn timed(job: &mut dyn Job) -> f64 {
+fn timed(clock: Clock, job: &mut dyn Job) -> f64 {
     job.prepare();
-    let start = Instant::now();
+    let (wall, thread) = (Instant::now(), thread_time());
     job.run();
-    let time = start.elapsed().as_nanos() as f64;
-    time / black_box(job.results()).len() as f64
+    let time = match clock {
+        Clock::Thread => thread_time() - thread,
+        Clock::Wall => wall.elapsed(),
+    };
+    time.as_nanos() as f64 / black_box(job.results()).len() as f64
+}
+
+/// The time that this thread has run.
+fn thread_time() -> Duration {
+    #[repr(C)]
+    struct Time {
+        seconds: i64,
+        nanoseconds: i64,
+    }
+    extern "C" {
+        fn clock_gettime(clock: i32, time: &mut Time) -> i32;
+    }
+    const THREAD: i32 = 3;
+    let mut time = Time {
+        seconds: 0,
+        nanoseconds: 0,
+    };
+    unsafe { clock_gettime(THREAD, &mut time) };
+    Duration::new(time.seconds as u64, time.nanoseconds as u32)
 }
 
 /// Prints a row: our time, and theirs with their results.
 fn print(name: &str, our_time: f64, our_results: &[f64], theirs: Option<(f64, Vec<f64>)>) {
+    let ours = shown(our_time);
     let Some((their_time, their_results)) = theirs else {
-        println!("| {name} | {our_time:.1} | not built | |");
+        println!("| {name} | {ours} | not built | |");
         return;
     };
     let note = if same(our_results, &their_results) {
@@ -146,7 +177,14 @@ fn print(name: &str, our_time: f64, our_results: &[f64], theirs: Option<(f64, Ve
         " (the results differ)"
     };
     let ratio = our_time / their_time;
-    println!("| {name} | {our_time:.1} | {their_time:.1} | {ratio:.2}{note} |");
+    let theirs = shown(their_time);
+    println!("| {name} | {ours} | {theirs} | {ratio:.2}{note} |");
+}
+
+/// A time, with two digits at least.
+fn shown(time: f64) -> String {
+    let digits = if time < 0.95 { 2 } else { 1 };
+    format!("{time:.digits$}")
 }
 
 /// Equal bits, or both NaN, at every place.

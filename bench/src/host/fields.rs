@@ -4,6 +4,7 @@
 use super::{Layout, ROW};
 
 extern "C" {
+    #[cfg(feature = "original")]
     fn bench_point_count(
         x0: f64,
         y0: f64,
@@ -74,6 +75,7 @@ extern "C" {
 }
 
 /// The points along each axis of a field in a box.
+#[cfg(feature = "original")]
 pub fn point_count([x0, y0, z0]: [f64; 3], [x1, y1, z1]: [f64; 3], cell: f64) -> [usize; 3] {
     let mut counts = [0; 3];
     unsafe { bench_point_count(x0, y0, z0, x1, y1, z1, cell, &mut counts) };
