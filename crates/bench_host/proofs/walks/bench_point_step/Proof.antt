@@ -2,10 +2,33 @@
 use borrow.Author.Needs.{needs}
 use Rattle.geometry.specs.Values.{vec3i}
 use Rattle.dense_field.specs.Walks.{pointStep}
-use mathlib.Core.Path.{refl, sym, ap, _∙_}
-use Rattle.bench_host.specs.Answers.{hasPoint, pointLeft}
+use mathlib.Core.Path.{_≡_, refl, sym, ap, _∙_}
+use mathlib.Core.Bool.{true, false}
+use mathlib.Core.List.{List}
+use Prim.Native.Nat.{ℕ}
+use denote.Ref.{now}
+use lib.Ieee.{Float}
+use Rattle.geometry.specs.declared.Vec3.{Vec3}
+use Rattle.geometry.specs.declared.Vec3i.{Vec3i}
+use Rattle.dense_field.specs.declared.PointStep.{PointStep}
+use Rattle.dense_field.specs.declared.PointStep.the-variants.{Point, Done, Refused}
+use Rattle.bench_host.specs.Answers.{coordinates, hasPoint, pointLeft}
 use Rattle.bench_host.proofs.walks.bench_point_step.Statement.{statement}
 use Rattle.bench_host.proofs.walks.bench_point_step.Tie as tie
+
+-- what each case of a step leaves
+found : {s : PointStep} {p : Vec3} {next : Vec3i} (old : List Float) {last : List Float} → s ≡ Point p next → last ≡ coordinates p
+    → (true ≡ hasPoint s) × (last ≡ pointLeft old s)
+unfolding hasPoint pointLeft
+found old e written = (rw e refl, rw e written)
+
+done : {s : PointStep} {at : Vec3i} (old : List Float) → s ≡ Done at → (false ≡ hasPoint s) × (old ≡ pointLeft old s)
+unfolding hasPoint pointLeft
+done old e = (rw e refl, rw e refl)
+
+refused : {s : PointStep} {number : ℕ} (old : List Float) → s ≡ Refused number → (false ≡ hasPoint s) × (old ≡ pointLeft old s)
+unfolding hasPoint pointLeft
+refused old e = (rw e refl, rw e refl)
 
 box-of-requires : tie.Need-box-of-requires
 box-of-requires c κs = search needs
@@ -26,25 +49,22 @@ enum-told-2 : tie.Need-enum-told-2
 enum-told-2 c = search needs
 
 returns : tie.Need-returns
-unfolding hasPoint pointLeft
 returns c =
     let a = c .before .before .before .before .before .before .before .args in
     let known = sym (c .before .before .before .before .before .point-step .ensures ∙ ap (λ b. pointStep b (vec3i (a .nx) (a .ny) (a .nz)) (vec3i (a .i) (a .j) (a .k))) (c .before .before .before .before .before .before .box-of .ensures)) ∙ c .before .before .before .step .given .1 in
-    (rw known refl, rw known (c .put-point .ensures))
+    found (now (a .out)) known (c .put-point .ensures)
 
 returns-2 : tie.Need-returns-2
-unfolding hasPoint pointLeft
 returns-2 c =
     let a = c .before .before .before .before .args in
     let known = sym (c .before .before .point-step .ensures ∙ ap (λ b. pointStep b (vec3i (a .nx) (a .ny) (a .nz)) (vec3i (a .i) (a .j) (a .k))) (c .before .before .before .box-of .ensures)) ∙ c .enum-told .given .1 in
-    (rw known refl, rw known refl)
+    done (now (a .out)) known
 
 returns-3 : tie.Need-returns-3
-unfolding hasPoint pointLeft
 returns-3 c =
     let a = c .before .before .before .before .args in
     let known = sym (c .before .before .point-step .ensures ∙ ap (λ b. pointStep b (vec3i (a .nx) (a .ny) (a .nz)) (vec3i (a .i) (a .j) (a .k))) (c .before .before .before .box-of .ensures)) ∙ c .enum-told2 .given .1 in
-    (rw known refl, rw known refl)
+    refused (now (a .out)) known
 
 pub bench-point-step-spec : {M : Type 1} → statement M
 bench-point-step-spec =
