@@ -3,9 +3,11 @@
 //! Each file is included into a module at its original place. What the shared
 //! folder does not have is a stub with the signatures that the files use, in
 //! `types/`.
-//! `parts.rs` is ours: the shapes and operations of a model as components of
-//! the original, and the way to its evaluation.
+//! `parts.rs` and `benched.rs` are ours: the shapes and operations of a model
+//! as components of the original, and the way to its evaluation and to what
+//! the benchmark calls.
 
+pub mod benched;
 pub mod parts;
 
 /// Asked for by the original's model; nothing here reads it.
