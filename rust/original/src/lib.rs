@@ -4,8 +4,10 @@
 //! folder does not have is a stub with the signatures that the files use, in
 //! `types/`.
 //! `parts.rs` is ours: the shapes and operations of a model as components of
-//! the original, and the way to its evaluation.
+//! the original, and the way to its evaluation. So are `dense.rs` and
+//! `cursors.rs`: the way to the dense field and to its walks from any cursor.
 
+pub mod dense;
 pub mod parts;
 
 /// Asked for by the original's model; nothing here reads it.
@@ -75,6 +77,7 @@ pub mod types {
         pub mod data {
             pub mod field_iterator {
                 shared!("types--computation--data--field_iterator");
+                pub mod cursors;
             }
             mod dense_field {
                 shared!("types--computation--data--dense_field");

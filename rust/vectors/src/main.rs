@@ -3,6 +3,7 @@
 //! usage: vectors float|model
 
 mod bits;
+mod dense;
 mod floats;
 mod models;
 mod random;
@@ -15,6 +16,8 @@ fn main() -> ExitCode {
     let text = match wanted.as_deref() {
         Some("float") => floats::list(),
         Some("model") => models::list(),
+        Some("dense") => dense::list().cases,
+        Some("dense-answers") => dense::list().answers,
         _ => {
             eprintln!("usage: vectors float|model");
             return ExitCode::from(2);
