@@ -1,0 +1,131 @@
+// What the numbers of a case stand for, and the numbers of an answer.
+ghost use Prim.Native.Nat.{_+_, _≤_};
+ghost use lib.ListN.{length};
+ghost use mathlib.Core.Path.{_≡_};
+use dense_field::Outcome;
+use geometry::BoundingBox;
+use geometry::Vec3;
+use geometry::Vec3i;
+
+fn place(n: u64) -> usize {
+    n as usize
+}
+
+fn number(n: usize) -> u64 {
+    n as u64
+}
+
+// A cause's number.
+pub fn cause(n: u32) -> u64 {
+    n as u64
+}
+
+// A count or an index.
+pub fn count_at(fields: &[u64; 160], at: usize) -> usize
+    requires { ⌜ at + 1 ≤ 160 ⌝ }
+{
+    place(fields[at])
+}
+
+pub fn counts_at(fields: &[u64; 160], at: usize) -> Vec3i
+    requires { ⌜ at + 3 ≤ 160 ⌝ }
+{
+    Vec3i::new(
+        count_at(fields, at),
+        count_at(fields, at + 1),
+        count_at(fields, at + 2),
+    )
+}
+
+// A number of 32 bits, and the largest of them for one above.
+pub fn short_at(fields: &[u64; 160], at: usize) -> u32
+    requires { ⌜ at + 1 ≤ 160 ⌝ }
+{
+    short(fields[at])
+}
+
+fn short(n: u64) -> u32 {
+    if n < 4294967296 { n as u32 } else { 4294967295 }
+}
+
+pub fn float_at(fields: &[u64; 160], at: usize) -> f64
+    requires { ⌜ at + 1 ≤ 160 ⌝ }
+{
+    float::from_bits(fields[at])
+}
+
+pub fn point_at(fields: &[u64; 160], at: usize) -> Vec3
+    requires { ⌜ at + 3 ≤ 160 ⌝ }
+{
+    Vec3::new(
+        float_at(fields, at),
+        float_at(fields, at + 1),
+        float_at(fields, at + 2),
+    )
+}
+
+pub fn box_at(fields: &[u64; 160], at: usize) -> BoundingBox
+    requires { ⌜ at + 6 ≤ 160 ⌝ }
+{
+    BoundingBox::new(point_at(fields, at), point_at(fields, at + 3))
+}
+
+// The floats from a place on, so many of them.
+pub fn values_at(fields: &[u64; 160], at: usize, count: usize, values: &mut [f64; 160])
+    requires { ⌜ at + count ≤ 160 ⌝ }
+{
+    let mut i: usize = 0;
+    while i < count {
+        values[i] = float::from_bits(fields[at + i]);
+        i += 1;
+    }
+}
+
+pub fn put_count(answers: &mut [u64; 160], at: usize, n: usize)
+    requires { ⌜ at + 1 ≤ 160 ⌝ }
+{
+    answers[at] = number(n);
+}
+
+pub fn put_counts(answers: &mut [u64; 160], at: usize, n: Vec3i)
+    requires { ⌜ at + 3 ≤ 160 ⌝ }
+{
+    answers[at] = number(n.i);
+    answers[at + 1] = number(n.j);
+    answers[at + 2] = number(n.k);
+}
+
+pub fn put_point(answers: &mut [u64; 160], at: usize, p: Vec3)
+    requires { ⌜ at + 3 ≤ 160 ⌝ }
+{
+    answers[at] = float::to_bits(p.x);
+    answers[at + 1] = float::to_bits(p.y);
+    answers[at + 2] = float::to_bits(p.z);
+}
+
+// Puts so many values, from one place of a slice on, at another of the answers.
+pub fn put_values(answers: &mut [u64; 160], at: usize, values: &[f64], from: usize, count: usize)
+    requires { ⌜ (at + count ≤ 160) × (from + count ≤ length (now values)) ⌝ }
+{
+    let mut i: usize = 0;
+    while i < count {
+        answers[at + i] = float::to_bits(values[from + i]);
+        i += 1;
+    }
+}
+
+// The number that an outcome stands for.
+pub fn outcome(done: Outcome) -> u64 {
+    match done {
+        Outcome::Done => 0,
+        Outcome::Refused(n) => cause(n),
+    }
+}
+
+// The answer to a line that is off its form: one number that no call gives.
+pub fn off(answers: &mut [u64; 160]) -> usize
+    ensures { λ r. ⌜ r ≡ 1 ⌝ }
+{
+    answers[0] = 0xffff_ffff_ffff_ffff;
+    1
+}
