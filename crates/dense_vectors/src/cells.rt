@@ -1,5 +1,7 @@
 // One cell: its corners, and the values at them.
-ghost use Prim.Native.Nat.{_<_, _≤_};
+ghost use mathlib.Core.Path.{_≡_};
+ghost use Prim.Native.Nat.{_+_, _<_, _≤_};
+ghost use lib.ListN.{length};
 use crate::numbers;
 use geometry::Vec3;
 
@@ -31,22 +33,33 @@ pub fn corners(fields: &[u64; 160], count: usize, answers: &mut [u64; 160]) -> u
     25
 }
 
+// Fills the lent values from the case and looks a cell's octet up.
+fn octet_lent(fields: &[u64; 160], values: &mut [f64], answers: &mut [u64; 160])
+    requires { ⌜ 6 + length (now values) ≤ 160 ⌝ }
+{
+    let n = numbers::counts_at(fields, 0);
+    let c = numbers::counts_at(fields, 3);
+    numbers::values_at(fields, 6, values);
+    let found = dense_field::cell_values(n, values, c);
+    answers[0] = numbers::cause(found.refused);
+    let eight = found.values;
+    numbers::put_eight(answers, 1, eight);
+}
+
 // `octet`: the dimensions, the cell's indices, the values.
-pub fn octet(fields: &[u64; 160], count: usize, answers: &mut [u64; 160]) -> usize
-    requires { ⌜ count ≤ 160 ⌝ }
+pub fn octet(
+    fields: &[u64; 160],
+    count: usize,
+    values: &mut [f64],
+    answers: &mut [u64; 160],
+) -> usize
+    requires { ⌜ (count ≤ 160) × (length (now values) ≡ 1024) ⌝ }
     ensures { λ r. ⌜ (0 < r) × (r ≤ 160) ⌝ }
 {
     if count < 6 {
         return numbers::off(answers);
     }
     let len = count - 6;
-    let n = numbers::counts_at(fields, 0);
-    let c = numbers::counts_at(fields, 3);
-    let mut values = [0.0; 160];
-    numbers::values_at(fields, 6, len, &mut values);
-    let found = dense_field::cell_values(n, &values[..len], c);
-    answers[0] = numbers::cause(found.refused);
-    let eight = found.values;
-    numbers::put_values(answers, 1, &eight, 0, 8);
+    octet_lent(fields, &mut values[..len], answers);
     9
 }

@@ -1,6 +1,8 @@
 // Makes the calls on a dense field that standard input holds, one to a line, and writes the answers.
 // The check compares them with the stored ones.
+ghost use mathlib.Core.Path.{_≡_};
 ghost use Prim.Native.Nat.{_<_, _≤_};
+ghost use lib.ListN.{length};
 
 mod cells;
 mod counts;
@@ -39,15 +41,21 @@ fn answer_index(line: &[u8], fields: &[u64; 160], count: usize, answers: &mut [u
 }
 
 // The answer of a call on a cell, or of a walk's step.
-fn answer_cell(line: &[u8], fields: &[u64; 160], count: usize, answers: &mut [u64; 160]) -> usize
-    requires { ⌜ count ≤ 160 ⌝ }
+fn answer_cell(
+    line: &[u8],
+    fields: &[u64; 160],
+    count: usize,
+    values: &mut [f64],
+    answers: &mut [u64; 160],
+) -> usize
+    requires { ⌜ (count ≤ 160) × (length (now values) ≡ 1024) ⌝ }
     ensures { λ r. ⌜ (0 < r) × (r ≤ 160) ⌝ }
 {
     if vectors::has_word(line, 0, b"corners ") {
         return cells::corners(fields, count, answers);
     }
     if vectors::has_word(line, 0, b"octet ") {
-        return cells::octet(fields, count, answers);
+        return cells::octet(fields, count, values, answers);
     }
     if vectors::has_word(line, 0, b"points ") {
         return walks::points(fields, count, answers);
@@ -56,45 +64,62 @@ fn answer_cell(line: &[u8], fields: &[u64; 160], count: usize, answers: &mut [u6
         return walks::cells(fields, count, answers);
     }
     if vectors::has_word(line, 0, b"octets ") {
-        return walks::octets(fields, count, answers);
+        return walks::octets(fields, count, values, answers);
     }
     answer_index(line, fields, count, answers)
 }
 
-// The answer of a call, which the line's word names.
-fn answer(line: &[u8], fields: &[u64; 160], count: usize, answers: &mut [u64; 160]) -> usize
-    requires { ⌜ count ≤ 160 ⌝ }
+// The answer of a call, which the line's word names. The call is lent a part of the values and of
+// the scratch.
+fn answer(
+    line: &[u8],
+    fields: &[u64; 160],
+    count: usize,
+    values: &mut [f64],
+    scratch: &mut [f64],
+    answers: &mut [u64; 160],
+) -> usize
+    requires { ⌜ (count ≤ 160) × (length (now values) ≡ 1024) ⌝ }
     ensures { λ r. ⌜ (0 < r) × (r ≤ 160) ⌝ }
 {
     if vectors::has_word(line, 0, b"count ") {
         return counts::count(fields, count, answers);
     }
     if vectors::has_word(line, 0, b"sample ") {
-        return sampling::sample(fields, count, answers);
+        return sampling::sample(fields, count, values, answers);
     }
     if vectors::has_word(line, 0, b"pad ") {
-        return values::pad(fields, count, answers);
+        return values::pad(fields, count, values, answers);
     }
     if vectors::has_word(line, 0, b"threshold ") {
-        return values::threshold(fields, count, answers);
+        return values::threshold(fields, count, values, answers);
     }
     if vectors::has_word(line, 0, b"smooth ") {
-        return values::smooth(fields, count, answers);
+        return values::smooth(fields, count, values, scratch, answers);
     }
-    answer_cell(line, fields, count, answers)
+    answer_cell(line, fields, count, values, answers)
 }
 
 // Writes the answer of a line's call.
 fn take_line(line: &[u8]) {
     let mut fields = [0u64; 160];
     let mut answers = [0u64; 160];
+    let mut values = [0.0; 1024];
+    let mut scratch = [0.0; 512];
     let count = vectors::read_fields(line, word_end(line), &mut fields);
     if count > 160 {
         let one = numbers::off(&mut answers);
         vectors::write_fields(&answers, one);
         return;
     }
-    let written = answer(line, &fields, count, &mut answers);
+    let written = answer(
+        line,
+        &fields,
+        count,
+        &mut values,
+        &mut scratch,
+        &mut answers,
+    );
     vectors::write_fields(&answers, written);
 }
 
@@ -108,7 +133,7 @@ fn take_lines(text: &[u8]) {
 }
 
 fn main() {
-    let mut text = [0u8; 1048576];
+    let mut text = [0u8; 524288];
     let n = io::read_full(0, &mut text);
     take_lines(&text[..n]);
 }

@@ -70,12 +70,21 @@ pub fn box_at(fields: &[u64; 160], at: usize) -> BoundingBox
     BoundingBox::new(point_at(fields, at), point_at(fields, at + 3))
 }
 
-// The floats from a place on, so many of them.
-pub fn values_at(fields: &[u64; 160], at: usize, count: usize, values: &mut [f64; 160])
-    requires { ⌜ at + count ≤ 160 ⌝ }
+// Sets every value of a slice.
+pub fn set_all(values: &mut [f64], value: f64) {
+    let mut i = 0;
+    while i < values.len() {
+        values[i] = value;
+        i += 1;
+    }
+}
+
+// Sets a slice to the floats from a place on.
+pub fn values_at(fields: &[u64; 160], at: usize, values: &mut [f64])
+    requires { ⌜ at + length (now values) ≤ 160 ⌝ }
 {
-    let mut i: usize = 0;
-    while i < count {
+    let mut i = 0;
+    while i < values.len() {
         values[i] = float::from_bits(fields[at + i]);
         i += 1;
     }
@@ -103,14 +112,34 @@ pub fn put_point(answers: &mut [u64; 160], at: usize, p: Vec3)
     answers[at + 2] = float::to_bits(p.z);
 }
 
+// The bits of the value at a place, and of +0 past the end.
+fn bits_at(values: &[f64], at: usize) -> u64 {
+    if at < values.len() {
+        float::to_bits(values[at])
+    } else {
+        0
+    }
+}
+
 // Puts so many values, from one place of a slice on, at another of the answers.
 pub fn put_values(answers: &mut [u64; 160], at: usize, values: &[f64], from: usize, count: usize)
-    requires { ⌜ (at + count ≤ 160) × (from + count ≤ length (now values)) ⌝ }
+    requires { ⌜ (at + count ≤ 160) × (from ≤ 1024) ⌝ }
 {
     let mut i: usize = 0;
     while i < count {
-        answers[at + i] = float::to_bits(values[from + i]);
+        answers[at + i] = bits_at(values, from + i);
         i += 1;
+    }
+}
+
+// Puts eight values.
+pub fn put_eight(answers: &mut [u64; 160], at: usize, values: [f64; 8])
+    requires { ⌜ at + 8 ≤ 160 ⌝ }
+{
+    let mut t: usize = 0;
+    while t < 8 {
+        answers[at + t] = float::to_bits(values[t]);
+        t += 1;
     }
 }
 

@@ -1,5 +1,7 @@
 // Sampling of a model that a case holds part by part.
+ghost use mathlib.Core.Path.{_≡_};
 ghost use Prim.Native.Nat.{_+_, _*_, _<_, _≤_};
+ghost use lib.ListN.{length};
 use crate::numbers;
 use model::ImplicitModel;
 use model::ModelComponent;
@@ -74,31 +76,51 @@ fn shown(left: usize) -> usize
     if left < SHOWN { left } else { SHOWN }
 }
 
+// Samples the case's model into the lent values and shows those from a place on.
+fn sample_lent(
+    fields: &[u64; 160],
+    given: usize,
+    from: usize,
+    values: &mut [f64],
+    answers: &mut [u64; 160],
+) -> usize
+    requires { ⌜ (10 + 5 * given ≤ 160) × (from ≤ length (now values)) × (length (now values) ≤ 1024) ⌝ }
+    ensures { λ r. ⌜ (0 < r) × (r ≤ 160) ⌝ }
+{
+    let count = shown(values.len() - from);
+    let origin = numbers::point_at(fields, 0);
+    let cell = numbers::float_at(fields, 3);
+    let n = numbers::counts_at(fields, 4);
+    let model = model_at(fields, given, numbers::short_at(fields, 9));
+    numbers::set_all(values, BEFORE);
+    let done = dense_field::sample(model, origin, cell, n, values);
+    answers[0] = numbers::outcome(done);
+    numbers::put_values(answers, 1, values, from, count);
+    1 + count
+}
+
 // `sample`: the origin, a cell's size, the dimensions, how many values are lent, the first that is
 // shown, the model's count of parts, its parts.
-pub fn sample(fields: &[u64; 160], count: usize, answers: &mut [u64; 160]) -> usize
-    requires { ⌜ count ≤ 160 ⌝ }
+pub fn sample(
+    fields: &[u64; 160],
+    count: usize,
+    values: &mut [f64],
+    answers: &mut [u64; 160],
+) -> usize
+    requires { ⌜ (count ≤ 160) × (length (now values) ≡ 1024) ⌝ }
     ensures { λ r. ⌜ (0 < r) × (r ≤ 160) ⌝ }
 {
     if count < 10 {
         return numbers::off(answers);
     }
     let len = numbers::count_at(fields, 7);
-    let from = numbers::count_at(fields, 8);
     if len > 1024 {
         return numbers::off(answers);
     }
+    let from = numbers::count_at(fields, 8);
     if from > len {
         return numbers::off(answers);
     }
-    let origin = numbers::point_at(fields, 0);
-    let cell = numbers::float_at(fields, 3);
-    let n = numbers::counts_at(fields, 4);
-    let model = model_at(fields, (count - 10) / 5, numbers::short_at(fields, 9));
-    let mut values = [BEFORE; 1024];
-    let done = dense_field::sample(model, origin, cell, n, &mut values[..len]);
-    answers[0] = numbers::outcome(done);
-    let left = shown(len - from);
-    numbers::put_values(answers, 1, &values, from, left);
-    1 + left
+    let given = (count - 10) / 5;
+    sample_lent(fields, given, from, &mut values[..len], answers)
 }

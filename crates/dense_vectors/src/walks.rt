@@ -1,6 +1,8 @@
 // One step of a walk. After the refusal stands 1 where there is a point or a cell, and 0 where the
 // walk is done; then the cursor, and what the walk found.
-ghost use Prim.Native.Nat.{_<_, _≤_};
+ghost use mathlib.Core.Path.{_≡_};
+ghost use Prim.Native.Nat.{_+_, _<_, _≤_};
+ghost use lib.ListN.{length};
 use crate::numbers;
 use dense_field::CellStep;
 use dense_field::OctetStep;
@@ -91,23 +93,35 @@ fn put_step(answers: &mut [u64; 160], step: OctetStep) -> usize
     }
 }
 
+// Fills the lent values from the case and makes a step over their octets.
+fn octets_lent(fields: &[u64; 160], values: &mut [f64], answers: &mut [u64; 160]) -> usize
+    requires { ⌜ 6 + length (now values) ≤ 160 ⌝ }
+    ensures { λ r. ⌜ (0 < r) × (r ≤ 160) ⌝ }
+{
+    let n = numbers::counts_at(fields, 0);
+    let cursor = numbers::counts_at(fields, 3);
+    numbers::values_at(fields, 6, values);
+    let found = dense_field::octet_step(n, values, cursor);
+    let step = found.step;
+    let eight = found.values;
+    let at = put_step(answers, step);
+    numbers::put_eight(answers, at, eight);
+    at + 8
+}
+
 // `octets`: the dimensions, the cursor, the values.
-pub fn octets(fields: &[u64; 160], count: usize, answers: &mut [u64; 160]) -> usize
-    requires { ⌜ count ≤ 160 ⌝ }
+pub fn octets(
+    fields: &[u64; 160],
+    count: usize,
+    values: &mut [f64],
+    answers: &mut [u64; 160],
+) -> usize
+    requires { ⌜ (count ≤ 160) × (length (now values) ≡ 1024) ⌝ }
     ensures { λ r. ⌜ (0 < r) × (r ≤ 160) ⌝ }
 {
     if count < 6 {
         return numbers::off(answers);
     }
     let len = count - 6;
-    let n = numbers::counts_at(fields, 0);
-    let cursor = numbers::counts_at(fields, 3);
-    let mut values = [0.0; 160];
-    numbers::values_at(fields, 6, len, &mut values);
-    let found = dense_field::octet_step(n, &values[..len], cursor);
-    let step = found.step;
-    let eight = found.values;
-    let at = put_step(answers, step);
-    numbers::put_values(answers, at, &eight, 0, 8);
-    at + 8
+    octets_lent(fields, &mut values[..len], answers)
 }

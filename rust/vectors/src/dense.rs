@@ -222,6 +222,11 @@ fn refused_dimensions() -> Vec<Triple> {
     ]
 }
 
+/// The product of refused dimensions where it wraps in 64 bits, 4 at most.
+fn wrapped(n: Triple) -> usize {
+    n.into_iter().fold(1, usize::wrapping_mul).min(4)
+}
+
 /// Sizes of a cell that cause 1 refuses.
 const REFUSED_CELLS: [f64; 7] = [
     0.0,

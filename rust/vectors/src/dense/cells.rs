@@ -134,9 +134,10 @@ fn refused(list: &mut List) {
     }
     for n in refused_dimensions() {
         corners(list, ORIGIN, 1.0, n, first);
-        // 9 comes before 10.
-        corners(list, ORIGIN, 1.0, n, [usize::MAX; 3]);
     }
+    // 9 comes before 10.
+    corners(list, ORIGIN, 1.0, [0, 2, 2], [5, 0, 0]);
+    corners(list, ORIGIN, 1.0, [MOST, 2, 2], [usize::MAX; 3]);
 }
 
 /// Corners that overflow, and cells below the spacing of the origin.
@@ -194,6 +195,6 @@ fn octets_refused(list: &mut List) {
         octet(list, n, n, &values[..len]);
     }
     for n in refused_dimensions() {
-        octet(list, n, [0, 0, 0], &values[..4]);
+        octet(list, n, [0, 0, 0], &values[..wrapped(n)]);
     }
 }

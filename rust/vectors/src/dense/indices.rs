@@ -56,7 +56,7 @@ fn indices(list: &mut List, at: usize, n: Triple) {
 
 fn outside(list: &mut List, n: Triple) {
     for axis in 0..3 {
-        for far in [n[axis], n[axis] + 1, 1 << 32, usize::MAX] {
+        for far in [n[axis], 1 << 32, usize::MAX] {
             place(list, with_count([0, 0, 0], axis, far), n);
         }
     }

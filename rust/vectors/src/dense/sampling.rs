@@ -293,12 +293,10 @@ fn refused(list: &mut List) {
         case(list, call(ORIGIN, 1.0, len, 1, &good));
     }
     for n in refused_dimensions() {
-        for len in [0, 4] {
-            let call = Call {
-                n,
-                ..call(ORIGIN, 1.0, len, 1, &good)
-            };
-            case(list, call);
-        }
+        let call = Call {
+            n,
+            ..call(ORIGIN, 1.0, wrapped(n), 1, &good)
+        };
+        case(list, call);
     }
 }

@@ -155,8 +155,7 @@ fn lengths(list: &mut List, call: impl Fn(&mut List, Triple, &[f64])) {
         }
     }
     for n in refused_dimensions() {
-        call(list, n, &[]);
-        call(list, n, &values[..4]);
+        call(list, n, &values[..wrapped(n)]);
     }
 }
 
@@ -200,10 +199,8 @@ fn smooth_sizes(list: &mut List, random: &mut Random) {
         [9, 3, 3],
         [5, 5, 5],
     ] {
-        for rounds in [1, 2] {
-            let values = full_values(random, n);
-            smooth_exact(list, n, full(random), rounds, &values);
-        }
+        let values = full_values(random, n);
+        smooth_exact(list, n, full(random), 2, &values);
     }
 }
 
@@ -218,7 +215,6 @@ fn smooth_factors(list: &mut List, random: &mut Random) {
         0.1,
         1e-300,
         5e-324,
-        1e300,
         f64::INFINITY,
         f64::NEG_INFINITY,
         f64::NAN,
@@ -267,14 +263,12 @@ fn smooth_special(list: &mut List, random: &mut Random) {
     let n = [3, 3, 3];
     // The same number all over, and at the centre alone.
     for value in SPECIAL {
-        for factor in [0.5, 1.0] {
-            smooth_exact(list, n, factor, 1, &star(value, [value; 6]));
-            smooth_exact(list, n, factor, 1, &star(value, [1.0; 6]));
-        }
+        smooth_exact(list, n, 0.5, 1, &star(value, [value; 6]));
+        smooth_exact(list, n, 1.0, 1, &star(value, [1.0; 6]));
     }
     // One of the neighbours is special.
     for at in 0..6 {
-        for value in [f64::NAN, f64::INFINITY, f64::MAX, -0.0] {
+        for value in [f64::NAN, f64::INFINITY, 5e-324] {
             let mut neighbours = [-0.0; 6];
             neighbours[at] = value;
             smooth_exact(list, n, 0.5, 1, &star(-0.0, neighbours));
@@ -284,7 +278,7 @@ fn smooth_special(list: &mut List, random: &mut Random) {
         smooth_exact(list, n, 0.5, 1, &star(0.0, neighbours));
     }
     // The order of the sum shows.
-    for _ in 0..24 {
+    for _ in 0..12 {
         let mut neighbours = [1e16, -1e16, 1.0, 3.0, 1e-3, -1.0];
         for last in (1..6).rev() {
             neighbours.swap(last, random.below(last as u64 + 1) as usize);
@@ -309,7 +303,7 @@ fn smooth_special(list: &mut List, random: &mut Random) {
 fn smooth_refused(list: &mut List) {
     for n in [[1, 1, 1], [2, 2, 2], [3, 3, 3], [2, 3, 4]] {
         let values = numbered(n);
-        for rounds in [0, 1, 2] {
+        for rounds in [0, 2] {
             let call = |scratch| Smoothing {
                 n,
                 factor: 0.5,

@@ -108,7 +108,7 @@ fn special_bounds(list: &mut List, walk: Walk) {
         [[1e16; 3], [1e16 + 2.0; 3]],
         [[0.1, 0.2, 0.3], [0.7, 0.8, 0.9]],
     ] {
-        for at in [[0, 0, 0], [1, 1, 1], [2, 1, 0], [2, 2, 2]] {
+        for at in [[0, 0, 0], [2, 1, 0], [2, 2, 2]] {
             walk(list, bounds, [3, 3, 3], at);
         }
     }
@@ -141,7 +141,7 @@ fn counts(list: &mut List, random: &mut Random, walk: Walk) {
 fn cursors(list: &mut List, walk: Walk) {
     let bounds = [ORIGIN, [1.0; 3]];
     let n = [2, 3, 4];
-    for k in [0, 3, 4, usize::MAX] {
+    for k in [0, 4, usize::MAX] {
         for axis in 0..2 {
             for far in [n[axis], n[axis] + 1, usize::MAX] {
                 walk(list, bounds, n, with_count([0, 0, k], axis, far));
@@ -231,7 +231,7 @@ fn octets_past(list: &mut List) {
         }
     }
     let n = [3, 2, 3];
-    for k in [0, 1, 2, 3, usize::MAX] {
+    for k in [0, 2, usize::MAX] {
         for (i, j) in [
             (0, 0),
             (2, 0),
@@ -257,6 +257,6 @@ fn octets_refused(list: &mut List) {
     }
     octets(list, [1, 3, 3], [0, 0, 0], &values[..8]);
     for n in refused_dimensions() {
-        octets(list, n, [0, 0, 0], &values[..4]);
+        octets(list, n, [0, 0, 0], &values[..wrapped(n)]);
     }
 }
