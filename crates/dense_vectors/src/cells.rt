@@ -1,6 +1,5 @@
 // One cell: its corners, and the values at them.
-ghost use mathlib.Core.Path.{_≡_};
-ghost use Prim.Native.Nat.{_+_, _<_, _≤_};
+ghost use Prim.Native.Nat.{_<_, _≤_};
 ghost use lib.ListN.{length};
 use crate::numbers;
 use geometry::Vec3;
@@ -16,12 +15,9 @@ fn put_points(answers: &mut [u64; 160], points: [Vec3; 8]) {
 }
 
 // `corners`: the origin, a cell's size, the dimensions, the cell's indices.
-pub fn corners(fields: &[u64; 160], count: usize, answers: &mut [u64; 160]) -> usize
+pub fn corners(fields: &[u64; 160], answers: &mut [u64; 160]) -> usize
     ensures { λ r. ⌜ (0 < r) × (r ≤ 160) ⌝ }
 {
-    if count != 10 {
-        return numbers::off(answers);
-    }
     let origin = numbers::point_at(fields, 0);
     let cell = numbers::float_at(fields, 3);
     let n = numbers::counts_at(fields, 4);
@@ -33,9 +29,10 @@ pub fn corners(fields: &[u64; 160], count: usize, answers: &mut [u64; 160]) -> u
     25
 }
 
-// Fills the lent values from the case and looks a cell's octet up.
-fn octet_lent(fields: &[u64; 160], values: &mut [f64], answers: &mut [u64; 160])
-    requires { ⌜ 6 + length (now values) ≤ 160 ⌝ }
+// `octet`: the dimensions, the cell's indices, the values.
+pub fn octet(fields: &[u64; 160], values: &mut [f64], answers: &mut [u64; 160]) -> usize
+    requires { ⌜ length (now values) ≤ 150 ⌝ }
+    ensures { λ r. ⌜ (0 < r) × (r ≤ 160) ⌝ }
 {
     let n = numbers::counts_at(fields, 0);
     let c = numbers::counts_at(fields, 3);
@@ -44,22 +41,5 @@ fn octet_lent(fields: &[u64; 160], values: &mut [f64], answers: &mut [u64; 160])
     answers[0] = numbers::cause(found.refused);
     let eight = found.values;
     numbers::put_eight(answers, 1, eight);
-}
-
-// `octet`: the dimensions, the cell's indices, the values.
-pub fn octet(
-    fields: &[u64; 160],
-    count: usize,
-    values: &mut [f64],
-    answers: &mut [u64; 160],
-) -> usize
-    requires { ⌜ (count ≤ 160) × (length (now values) ≡ 1024) ⌝ }
-    ensures { λ r. ⌜ (0 < r) × (r ≤ 160) ⌝ }
-{
-    if count < 6 {
-        return numbers::off(answers);
-    }
-    let len = count - 6;
-    octet_lent(fields, &mut values[..len], answers);
     9
 }

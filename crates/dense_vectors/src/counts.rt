@@ -4,12 +4,9 @@ use crate::numbers;
 use dense_field::PointCount;
 
 // `count`: bounds and a cell's size; the counts along the axes.
-pub fn count(fields: &[u64; 160], count: usize, answers: &mut [u64; 160]) -> usize
+pub fn count(fields: &[u64; 160], answers: &mut [u64; 160]) -> usize
     ensures { λ r. ⌜ (0 < r) × (r ≤ 160) ⌝ }
 {
-    if count != 7 {
-        return numbers::off(answers);
-    }
     let bounds = numbers::box_at(fields, 0);
     let cell = numbers::float_at(fields, 6);
     match dense_field::point_count(bounds, cell) {

@@ -5,12 +5,9 @@ use geometry::Index1d;
 use geometry::Index3d;
 
 // `place`: three indices and the dimensions; the place in a flat list.
-pub fn place(fields: &[u64; 160], count: usize, answers: &mut [u64; 160]) -> usize
+pub fn place(fields: &[u64; 160], answers: &mut [u64; 160]) -> usize
     ensures { λ r. ⌜ (0 < r) × (r ≤ 160) ⌝ }
 {
-    if count != 6 {
-        return numbers::off(answers);
-    }
     let c = numbers::counts_at(fields, 0);
     let n = numbers::counts_at(fields, 3);
     match geometry::index1d_from_index3d(c.i, c.j, c.k, n.i, n.j, n.k) {
@@ -27,12 +24,9 @@ pub fn place(fields: &[u64; 160], count: usize, answers: &mut [u64; 160]) -> usi
 }
 
 // `indices`: a place and the dimensions; the three indices.
-pub fn indices(fields: &[u64; 160], count: usize, answers: &mut [u64; 160]) -> usize
+pub fn indices(fields: &[u64; 160], answers: &mut [u64; 160]) -> usize
     ensures { λ r. ⌜ (0 < r) × (r ≤ 160) ⌝ }
 {
-    if count != 4 {
-        return numbers::off(answers);
-    }
     let at = numbers::count_at(fields, 0);
     let n = numbers::counts_at(fields, 1);
     match geometry::index3d_from_index1d(at, n.i, n.j, n.k) {

@@ -20,6 +20,13 @@ pub fn cause(n: u32) -> u64 {
     n as u64
 }
 
+// n, or 150 where n is more.
+pub fn small(n: usize) -> usize
+    ensures { λ r. ⌜ r ≤ 150 ⌝ }
+{
+    if n < 150 { n } else { 150 }
+}
+
 // A count or an index.
 pub fn count_at(fields: &[u64; 160], at: usize) -> usize
     requires { ⌜ at + 1 ≤ 160 ⌝ }
@@ -121,13 +128,13 @@ fn bits_at(values: &[f64], at: usize) -> u64 {
     }
 }
 
-// Puts so many values, from one place of a slice on, at another of the answers.
-pub fn put_values(answers: &mut [u64; 160], at: usize, values: &[f64], from: usize, count: usize)
-    requires { ⌜ (at + count ≤ 160) × (from ≤ 1024) ⌝ }
+// Puts so many values.
+pub fn put_values(answers: &mut [u64; 160], at: usize, values: &[f64], count: usize)
+    requires { ⌜ at + count ≤ 160 ⌝ }
 {
     let mut i: usize = 0;
     while i < count {
-        answers[at + i] = bits_at(values, from + i);
+        answers[at + i] = bits_at(values, i);
         i += 1;
     }
 }

@@ -1,6 +1,5 @@
 // Sampling of a model that a case holds part by part.
-ghost use mathlib.Core.Path.{_≡_};
-ghost use Prim.Native.Nat.{_+_, _*_, _<_, _≤_};
+ghost use Prim.Native.Nat.{_+_, _<_, _≤_};
 ghost use lib.ListN.{length};
 use crate::numbers;
 use model::ImplicitModel;
@@ -9,9 +8,6 @@ use model::Part;
 
 // What each value is before a call.
 const BEFORE: f64 = 100.0;
-
-// How many values an answer has at most.
-const SHOWN: usize = 150;
 
 // An operation, by its kind.
 fn operation(kind: u64, a: u32, b: u32) -> Part {
@@ -51,76 +47,43 @@ fn part_at(fields: &[u64; 160], at: usize) -> Part
     operation(kind, a, b)
 }
 
-// The model of so many parts whose first `given` stand from place 10 on. The others are constants
-// of +0.
-fn model_at(fields: &[u64; 160], given: usize, count: u32) -> ImplicitModel
-    requires { ⌜ 10 + 5 * given ≤ 160 ⌝ }
+// How many parts a case of so many gives: 30 at most. The others are constants of +0.
+fn given(count: u32) -> usize
+    ensures { λ r. ⌜ r ≤ 30 ⌝ }
 {
+    if count < 30 { count as usize } else { 30 }
+}
+
+// The model of so many parts, which stand from place 9 on.
+fn model_at(fields: &[u64; 160], count: u32) -> ImplicitModel {
     let none = ModelComponent {
         part: Part::Constant(0.0),
     };
     let mut parts = [none; 64];
+    let end = given(count);
     let mut p: usize = 0;
-    while p < given {
-        let part = part_at(fields, 10 + 5 * p);
+    while p < end {
+        let part = part_at(fields, 9 + 5 * p);
         parts[p] = ModelComponent { part };
         p += 1;
     }
     ImplicitModel { parts, count }
 }
 
-// How many values an answer has where so many are left.
-fn shown(left: usize) -> usize
-    ensures { λ r. ⌜ (r ≤ left) × (r ≤ 150) ⌝ }
-{
-    if left < SHOWN { left } else { SHOWN }
-}
-
-// Samples the case's model into the lent values and shows those from a place on.
-fn sample_lent(
-    fields: &[u64; 160],
-    given: usize,
-    from: usize,
-    values: &mut [f64],
-    answers: &mut [u64; 160],
-) -> usize
-    requires { ⌜ (10 + 5 * given ≤ 160) × (from ≤ length (now values)) × (length (now values) ≤ 1024) ⌝ }
+// `sample`: the origin, a cell's size, the dimensions, how many values are lent, the model's count
+// of parts, its parts.
+pub fn sample(fields: &[u64; 160], values: &mut [f64], answers: &mut [u64; 160]) -> usize
+    requires { ⌜ length (now values) ≤ 150 ⌝ }
     ensures { λ r. ⌜ (0 < r) × (r ≤ 160) ⌝ }
 {
-    let count = shown(values.len() - from);
+    let len = values.len();
     let origin = numbers::point_at(fields, 0);
     let cell = numbers::float_at(fields, 3);
     let n = numbers::counts_at(fields, 4);
-    let model = model_at(fields, given, numbers::short_at(fields, 9));
+    let model = model_at(fields, numbers::short_at(fields, 8));
     numbers::set_all(values, BEFORE);
     let done = dense_field::sample(model, origin, cell, n, values);
     answers[0] = numbers::outcome(done);
-    numbers::put_values(answers, 1, values, from, count);
-    1 + count
-}
-
-// `sample`: the origin, a cell's size, the dimensions, how many values are lent, the first that is
-// shown, the model's count of parts, its parts.
-pub fn sample(
-    fields: &[u64; 160],
-    count: usize,
-    values: &mut [f64],
-    answers: &mut [u64; 160],
-) -> usize
-    requires { ⌜ (count ≤ 160) × (length (now values) ≡ 1024) ⌝ }
-    ensures { λ r. ⌜ (0 < r) × (r ≤ 160) ⌝ }
-{
-    if count < 10 {
-        return numbers::off(answers);
-    }
-    let len = numbers::count_at(fields, 7);
-    if len > 1024 {
-        return numbers::off(answers);
-    }
-    let from = numbers::count_at(fields, 8);
-    if from > len {
-        return numbers::off(answers);
-    }
-    let given = (count - 10) / 5;
-    sample_lent(fields, given, from, &mut values[..len], answers)
+    numbers::put_values(answers, 1, values, len);
+    1 + len
 }

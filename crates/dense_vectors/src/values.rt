@@ -1,16 +1,15 @@
 // Calls that change a field's values. The values end the case, and what they are after ends the
 // answer.
-ghost use mathlib.Core.Path.{_≡_};
-ghost use Prim.Native.Nat.{_+_, _<_, _≤_};
+ghost use Prim.Native.Nat.{_<_, _≤_};
 ghost use lib.ListN.{length};
 use crate::numbers;
 
 // What each value of the scratch is before a call.
 const BEFORE: f64 = 100.0;
 
-// Fills the lent values from the case and pads them.
-fn pad_lent(fields: &[u64; 160], values: &mut [f64], answers: &mut [u64; 160]) -> usize
-    requires { ⌜ 4 + length (now values) ≤ 160 ⌝ }
+// `pad`: the dimensions, the value to set, the values.
+pub fn pad(fields: &[u64; 160], values: &mut [f64], answers: &mut [u64; 160]) -> usize
+    requires { ⌜ length (now values) ≤ 150 ⌝ }
     ensures { λ r. ⌜ (0 < r) × (r ≤ 160) ⌝ }
 {
     let len = values.len();
@@ -19,25 +18,13 @@ fn pad_lent(fields: &[u64; 160], values: &mut [f64], answers: &mut [u64; 160]) -
     numbers::values_at(fields, 4, values);
     let done = dense_field::padding(n, value, values);
     answers[0] = numbers::outcome(done);
-    numbers::put_values(answers, 1, values, 0, len);
+    numbers::put_values(answers, 1, values, len);
     1 + len
 }
 
-// `pad`: the dimensions, the value to set, the values.
-pub fn pad(fields: &[u64; 160], count: usize, values: &mut [f64], answers: &mut [u64; 160]) -> usize
-    requires { ⌜ (count ≤ 160) × (length (now values) ≡ 1024) ⌝ }
-    ensures { λ r. ⌜ (0 < r) × (r ≤ 160) ⌝ }
-{
-    if count < 4 {
-        return numbers::off(answers);
-    }
-    let len = count - 4;
-    pad_lent(fields, &mut values[..len], answers)
-}
-
-// Fills the lent values from the case and cuts them.
-fn threshold_lent(fields: &[u64; 160], values: &mut [f64], answers: &mut [u64; 160]) -> usize
-    requires { ⌜ 4 + length (now values) ≤ 160 ⌝ }
+// `threshold`: the dimensions, the limit, the values.
+pub fn threshold(fields: &[u64; 160], values: &mut [f64], answers: &mut [u64; 160]) -> usize
+    requires { ⌜ length (now values) ≤ 150 ⌝ }
     ensures { λ r. ⌜ (0 < r) × (r ≤ 160) ⌝ }
 {
     let len = values.len();
@@ -46,25 +33,8 @@ fn threshold_lent(fields: &[u64; 160], values: &mut [f64], answers: &mut [u64; 1
     numbers::values_at(fields, 4, values);
     let done = dense_field::threshold(n, limit, values);
     answers[0] = numbers::outcome(done);
-    numbers::put_values(answers, 1, values, 0, len);
+    numbers::put_values(answers, 1, values, len);
     1 + len
-}
-
-// `threshold`: the dimensions, the limit, the values.
-pub fn threshold(
-    fields: &[u64; 160],
-    count: usize,
-    values: &mut [f64],
-    answers: &mut [u64; 160],
-) -> usize
-    requires { ⌜ (count ≤ 160) × (length (now values) ≡ 1024) ⌝ }
-    ensures { λ r. ⌜ (0 < r) × (r ≤ 160) ⌝ }
-{
-    if count < 4 {
-        return numbers::off(answers);
-    }
-    let len = count - 4;
-    threshold_lent(fields, &mut values[..len], answers)
 }
 
 // Whether every value has these bits.
@@ -87,14 +57,14 @@ fn scratch_after(scratch: &[f64]) -> u64 {
     if all_have(scratch, 0) { 0 } else { 2 }
 }
 
-// Fills the lent values from the case and smooths them.
-fn smooth_lent(
+// `smooth`: the dimensions, the factor, the rounds, the scratch's length, the values.
+pub fn smooth(
     fields: &[u64; 160],
     values: &mut [f64],
     scratch: &mut [f64],
     answers: &mut [u64; 160],
 ) -> usize
-    requires { ⌜ 6 + length (now values) ≤ 160 ⌝ }
+    requires { ⌜ length (now values) ≤ 150 ⌝ }
     ensures { λ r. ⌜ (0 < r) × (r ≤ 160) ⌝ }
 {
     let len = values.len();
@@ -106,28 +76,6 @@ fn smooth_lent(
     let done = dense_field::smooth(n, factor, rounds, values, scratch);
     answers[0] = numbers::outcome(done);
     answers[1] = scratch_after(scratch);
-    numbers::put_values(answers, 2, values, 0, len);
+    numbers::put_values(answers, 2, values, len);
     2 + len
-}
-
-// `smooth`: the dimensions, the factor, the rounds, the scratch's length, the values.
-pub fn smooth(
-    fields: &[u64; 160],
-    count: usize,
-    values: &mut [f64],
-    scratch: &mut [f64],
-    answers: &mut [u64; 160],
-) -> usize
-    requires { ⌜ (count ≤ 160) × (length (now values) ≡ 1024) ⌝ }
-    ensures { λ r. ⌜ (0 < r) × (r ≤ 160) ⌝ }
-{
-    if count < 6 {
-        return numbers::off(answers);
-    }
-    let lent = numbers::count_at(fields, 5);
-    if lent > scratch.len() {
-        return numbers::off(answers);
-    }
-    let len = count - 6;
-    smooth_lent(fields, &mut values[..len], &mut scratch[..lent], answers)
 }

@@ -1,7 +1,6 @@
 // One step of a walk. After the refusal stands 1 where there is a point or a cell, and 0 where the
 // walk is done; then the cursor, and what the walk found.
-ghost use mathlib.Core.Path.{_≡_};
-ghost use Prim.Native.Nat.{_+_, _<_, _≤_};
+ghost use Prim.Native.Nat.{_<_, _≤_};
 ghost use lib.ListN.{length};
 use crate::numbers;
 use dense_field::CellStep;
@@ -25,12 +24,9 @@ fn stepped(answers: &mut [u64; 160], found: u64, cursor: Vec3i) {
 }
 
 // `points`: bounds, the counts, the cursor.
-pub fn points(fields: &[u64; 160], count: usize, answers: &mut [u64; 160]) -> usize
+pub fn points(fields: &[u64; 160], answers: &mut [u64; 160]) -> usize
     ensures { λ r. ⌜ (0 < r) × (r ≤ 160) ⌝ }
 {
-    if count != 12 {
-        return numbers::off(answers);
-    }
     let bounds = numbers::box_at(fields, 0);
     let n = numbers::counts_at(fields, 6);
     let cursor = numbers::counts_at(fields, 9);
@@ -49,12 +45,9 @@ pub fn points(fields: &[u64; 160], count: usize, answers: &mut [u64; 160]) -> us
 }
 
 // `cells`: bounds, the counts, the cursor.
-pub fn cells(fields: &[u64; 160], count: usize, answers: &mut [u64; 160]) -> usize
+pub fn cells(fields: &[u64; 160], answers: &mut [u64; 160]) -> usize
     ensures { λ r. ⌜ (0 < r) × (r ≤ 160) ⌝ }
 {
-    if count != 12 {
-        return numbers::off(answers);
-    }
     let bounds = numbers::box_at(fields, 0);
     let n = numbers::counts_at(fields, 6);
     let cursor = numbers::counts_at(fields, 9);
@@ -93,9 +86,9 @@ fn put_step(answers: &mut [u64; 160], step: OctetStep) -> usize
     }
 }
 
-// Fills the lent values from the case and makes a step over their octets.
-fn octets_lent(fields: &[u64; 160], values: &mut [f64], answers: &mut [u64; 160]) -> usize
-    requires { ⌜ 6 + length (now values) ≤ 160 ⌝ }
+// `octets`: the dimensions, the cursor, the values.
+pub fn octets(fields: &[u64; 160], values: &mut [f64], answers: &mut [u64; 160]) -> usize
+    requires { ⌜ length (now values) ≤ 150 ⌝ }
     ensures { λ r. ⌜ (0 < r) × (r ≤ 160) ⌝ }
 {
     let n = numbers::counts_at(fields, 0);
@@ -107,21 +100,4 @@ fn octets_lent(fields: &[u64; 160], values: &mut [f64], answers: &mut [u64; 160]
     let at = put_step(answers, step);
     numbers::put_eight(answers, at, eight);
     at + 8
-}
-
-// `octets`: the dimensions, the cursor, the values.
-pub fn octets(
-    fields: &[u64; 160],
-    count: usize,
-    values: &mut [f64],
-    answers: &mut [u64; 160],
-) -> usize
-    requires { ⌜ (count ≤ 160) × (length (now values) ≡ 1024) ⌝ }
-    ensures { λ r. ⌜ (0 < r) × (r ≤ 160) ⌝ }
-{
-    if count < 6 {
-        return numbers::off(answers);
-    }
-    let len = count - 6;
-    octets_lent(fields, &mut values[..len], answers)
 }

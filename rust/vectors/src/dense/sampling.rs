@@ -1,15 +1,13 @@
 //! Sampling:
-//! `sample X Y Z CELL NX NY NZ LENGTH FROM COUNT PART PART ..`, answered by the
-//! refusal and the values from place FROM on, 150 at most. LENGTH values are
-//! lent, each of them 100 before the call. COUNT is the model's count of parts.
-//! A part is its kind and four numbers: 0 a constant, 1 a sphere, 2 a plane,
-//! 3 min, 4 max, 5 add, 6 sub, 7 neg; numbers that a kind has no use for are 0.
+//! `sample X Y Z CELL NX NY NZ LENGTH COUNT PART PART ..`, answered by the
+//! refusal and the values. LENGTH values are lent, 150 at most, each of them 100
+//! before the call. COUNT is the model's count of parts, of which up to 30 are
+//! given; the others are constants of 0. A part is its kind and four numbers:
+//! 0 a constant, 1 a sphere, 2 a plane, 3 min, 4 max, 5 add, 6 sub, 7 neg;
+//! numbers that a kind has no use for are 0.
 
 use super::*;
 use original::parts::{Model, Part, MOST_PARTS};
-
-/// How many values an answer has at most.
-const SHOWN: usize = 150;
 
 /// A value before the call.
 const BEFORE: f64 = 100.0;
@@ -46,13 +44,12 @@ impl Call {
         }
     }
 
-    fn row(&self, from: usize) -> Row {
+    fn row(&self) -> Row {
         let mut row = Row::new()
             .floats(&self.origin)
             .floats(&[self.cell])
             .counts(self.n)
             .count(self.len)
-            .count(from)
             .count(self.count);
         for part in &self.parts {
             row.0.extend(numbers(part));
@@ -102,8 +99,7 @@ fn numbers(part: &Part) -> [u64; 5] {
     }
 }
 
-/// The case that shows the values from a place on.
-fn case_from(list: &mut List, call: &Call, from: usize) {
+fn case(list: &mut List, call: Call) {
     let refused = call.refusal();
     let values = if refused == 0 {
         let model = call.model().unwrap();
@@ -111,24 +107,8 @@ fn case_from(list: &mut List, call: &Call, from: usize) {
     } else {
         vec![BEFORE; call.len]
     };
-    let shown = &values[from..values.len().min(from + SHOWN)];
-    list.case(
-        "sample",
-        call.row(from),
-        Row::new().count(refused).results(shown),
-    );
-}
-
-/// As many cases as it takes to show every value.
-fn case(list: &mut List, call: Call) {
-    let mut from = 0;
-    loop {
-        case_from(list, &call, from);
-        from += SHOWN;
-        if from >= call.len {
-            return;
-        }
-    }
+    let answer = Row::new().count(refused).results(&values);
+    list.case("sample", call.row(), answer);
 }
 
 fn sphere(random: &mut Random) -> Part {
@@ -211,17 +191,13 @@ fn rows(list: &mut List, random: &mut Random) {
         [64, 2, 1],
         [65, 1, 1],
         [65, 2, 1],
+        [65, 1, 2],
         [128, 1, 1],
         [129, 1, 1],
         [130, 1, 1],
-        [65, 1, 2],
-        [65, 2, 2],
-        [130, 2, 1],
-        [130, 2, 3],
-        [193, 1, 1],
         [1, 65, 1],
         [1, 1, 130],
-        [2, 65, 2],
+        [2, 65, 1],
     ] {
         let parts = [sphere(random), plane(random), Part::Max(0, 1)];
         let cell = full(random).abs() / 16.0;

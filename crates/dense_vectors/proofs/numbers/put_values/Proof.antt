@@ -5,16 +5,13 @@ use Rattle.dense_vectors.proofs.numbers.put_values.Statement.{statement
 use Rattle.dense_vectors.proofs.numbers.put_values.Tie as tie
 
 abbrev Inv-loop : tie.InvT-loop
-Inv-loop answers₀ at values from count i₀ answers i = i ≤ count
+Inv-loop answers₀ at values count i₀ answers i = i ≤ count
 
 abbrev μ-loop : tie.MeasureT-loop
-μ-loop answers₀ at values from count i₀ answers i = count - i
+μ-loop answers₀ at values count i₀ answers i = count - i
 
 loop-holds : tie.Need-loop-holds Inv-loop μ-loop
 loop-holds c = search needs
-
-add-bits-at : tie.Need-add-bits-at Inv-loop μ-loop
-add-bits-at c = search needs
 
 bits-at-requires : tie.Need-bits-at-requires Inv-loop μ-loop
 bits-at-requires c κs = search needs
@@ -47,7 +44,6 @@ put-values-spec =
     Inv-loop
     μ-loop
     loop-holds
-    add-bits-at
     bits-at-requires
     add-answers
     mul-answers

@@ -1,14 +1,17 @@
--- `model_at` is safe and ends: a part takes five numbers, so there are 30 at most.
+-- `model_at` is safe and ends: a part takes five numbers, and 30 are given at most.
 use Prim.Native.Nat.{_-_, _≤_}
 use borrow.Author.Needs.{needs}
 use Rattle.dense_vectors.proofs.sampling.model_at.Statement.{statement}
 use Rattle.dense_vectors.proofs.sampling.model_at.Tie as tie
 
 abbrev Inv-loop : tie.InvT-loop
-Inv-loop fields given count parts₀ p₀ parts p = p ≤ given
+Inv-loop fields count parts₀ end p₀ parts p = p ≤ end
 
 abbrev μ-loop : tie.MeasureT-loop
-μ-loop fields given count parts₀ p₀ parts p = given - p
+μ-loop fields count parts₀ end p₀ parts p = end - p
+
+given-requires : tie.Need-given-requires Inv-loop μ-loop
+given-requires c κs = search needs
 
 loop-holds : tie.Need-loop-holds Inv-loop μ-loop
 loop-holds c = search needs
@@ -46,6 +49,7 @@ model-at-spec =
     (tie.spec
     Inv-loop
     μ-loop
+    given-requires
     loop-holds
     mul-part-at
     add-part-at
