@@ -17,6 +17,11 @@ const MOST_KINDS: u64 = 513;
 
 const LONGEST: u64 = 800;
 
+// A list as it is before the call.
+fn list_before() -> [u32; 800] {
+    [BEFORE; 800]
+}
+
 // The kinds of a case: for each bit from field 4 on, the case's kind or 0.
 fn kinds_of(fields: &[u64; 160], kind: u8) -> [u8; 513] {
     let mut kinds = [0u8; 513];
@@ -76,7 +81,7 @@ fn words(n: u32) -> usize
     12
 }
 
-// `list N KINDS LIST KIND BITS`, the bits eight numbers: the corner list of a node with N children
+// `list N KINDS LIST KIND BITS`, the bits one number or eight: the corner list of a node with N children
 // along an axis, from so many kinds, into a list so long. Answers how many are listed, their sum, whether
 // the rest is 0, whether what lies past the list is as it was, and the bits; or where refused, whether the
 // whole list is as it was.
@@ -96,7 +101,7 @@ fn list(fields: &[u64; 160], answers: &mut [u64; 160]) -> usize
     let kinds_length = fields[1] as usize;
     let list_length = fields[2] as usize;
     let kinds = kinds_of(fields, fields[3] as u8);
-    let mut list = [BEFORE; 800];
+    let mut list = list_before();
     match grid::corner_list(n, &kinds[..kinds_length], &mut list[..list_length]) {
         CornerList::Refused(cause) => {
             answers[0] = cause as u64;
@@ -117,6 +122,9 @@ fn list(fields: &[u64; 160], answers: &mut [u64; 160]) -> usize
 pub fn answer(line: &[u8], fields: &mut [u64; 160], answers: &mut [u64; 160]) -> usize
     ensures { λ r. ⌜ r ≤ 160 ⌝ }
 {
+    if is_case(line, b"list ", 5, fields) {
+        return list(fields, answers);
+    }
     if is_case(line, b"list ", 12, fields) {
         return list(fields, answers);
     }

@@ -9,27 +9,26 @@ mod points; // points.rt: corner and leaf points
 mod pruning; // pruning.rt: the pruning rule
 
 // The answer to a line.
-fn answer(line: &[u8], answers: &mut [u64; 160]) -> usize
+fn answer(line: &[u8], fields: &mut [u64; 160], answers: &mut [u64; 160]) -> usize
     ensures { λ r. ⌜ (0 < r) × (r ≤ 160) ⌝ }
 {
-    let mut fields = [0u64; 160];
-    let a = nodes::answer(line, &mut fields, answers);
+    let a = nodes::answer(line, fields, answers);
     if a > 0 {
         return a;
     }
-    let b = points::answer(line, &mut fields, answers);
+    let b = points::answer(line, fields, answers);
     if b > 0 {
         return b;
     }
-    let c = pruning::answer(line, &mut fields, answers);
+    let c = pruning::answer(line, fields, answers);
     if c > 0 {
         return c;
     }
-    let d = corners::answer(line, &mut fields, answers);
+    let d = corners::answer(line, fields, answers);
     if d > 0 {
         return d;
     }
-    let e = jobs::answer(line, &mut fields, answers);
+    let e = jobs::answer(line, fields, answers);
     if e > 0 {
         return e;
     }
@@ -37,8 +36,9 @@ fn answer(line: &[u8], answers: &mut [u64; 160]) -> usize
 }
 
 fn answer_line(line: &[u8]) {
+    let mut fields = [0u64; 160];
     let mut answers = [0u64; 160];
-    let count = answer(line, &mut answers);
+    let count = answer(line, &mut fields, &mut answers);
     vectors::write_fields(&answers, count);
 }
 
@@ -51,8 +51,13 @@ fn answer_lines(text: &[u8]) {
     }
 }
 
+// Room for the whole of standard input.
+fn room() -> [u8; 655360] {
+    [0; 655360]
+}
+
 fn main() {
-    let mut text = [0u8; 655360];
+    let mut text = room();
     let n = io::read_full(0, &mut text);
     answer_lines(&text[..n]);
 }

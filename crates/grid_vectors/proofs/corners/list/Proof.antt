@@ -53,6 +53,9 @@ cast-kinds-of c = search needs
 kinds-of-requires : tie.Need-kinds-of-requires
 kinds-of-requires c κs = search needs
 
+list-before-requires : tie.Need-list-before-requires
+list-before-requires c κs = search needs
+
 array-share-prefix-kinds : tie.Need-array-share-prefix-kinds
 array-share-prefix-kinds c = search needs
 
@@ -148,6 +151,7 @@ list-spec =
     element-copy-out-kinds-of
     cast-kinds-of
     kinds-of-requires
+    list-before-requires
     array-share-prefix-kinds
     slice-aggregate-corner-list
     array-borrow-prefix-list
