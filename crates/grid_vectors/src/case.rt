@@ -1,23 +1,12 @@
-// A case's word and numbers, what the numbers stand for, and the numbers of an answer.
+// What the numbers of a case stand for, and the numbers of an answer.
 ghost use mathlib.Core.Path.{_≡_};
 ghost use Prim.Native.Nat.{_+_, _*_, _<_, _≤_};
-ghost use lib.ListN.{length};
 use geometry::BoundingBox;
 use geometry::Vec3;
 use grid::Grid;
 
 // The answer to a line that is no case.
 const OFF: u64 = 0xffff_ffff_ffff_ffff;
-
-// Whether a line has this word, which ends in its space, and so many numbers. The fields are read.
-pub fn is_case(line: &[u8], word: &[u8], numbers: usize, fields: &mut [u64; 160]) -> bool
-    requires { ⌜ (0 < length (now word)) × (length (now word) ≤ 64) ⌝ }
-{
-    if !vectors::has_word(line, 0, word) {
-        return false;
-    }
-    vectors::read_fields(line, word.len() - 1, fields) == numbers
-}
 
 // A number of 32 bits; a larger one counts as the largest.
 pub fn small(n: u64) -> u32 {
@@ -85,6 +74,11 @@ pub fn octet(fields: &[u64; 160], at: usize) -> [f64; 8]
         number(fields, at + 6),
         number(fields, at + 7),
     ]
+}
+
+// A case without numbers, or an answer.
+pub fn zeros() -> [u64; 160] {
+    [0; 160]
 }
 
 // The answer to a line that is no case.

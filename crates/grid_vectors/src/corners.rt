@@ -2,11 +2,11 @@
 ghost use Prim.Native.Nat.{_<_, _≤_};
 use crate::case::flag;
 use crate::case::has_bit;
-use crate::case::is_case;
 use crate::case::put_bit;
 use crate::case::put_off;
 use crate::case::small;
 use crate::case::wide;
+use crate::words;
 use grid::CornerList;
 
 // What the lent list holds before the call.
@@ -69,7 +69,7 @@ fn all_are(list: &[u32; 800], from: usize, to: usize, element: u32) -> bool {
 }
 
 // The numbers that the bits of a node's corners take.
-fn words(n: u32) -> usize
+fn words_of(n: u32) -> usize
     ensures { λ r. ⌜ r ≤ 12 ⌝ }
 {
     if n == 2 {
@@ -81,7 +81,39 @@ fn words(n: u32) -> usize
     12
 }
 
-// `list N KINDS LIST KIND BITS`, the bits one number or eight: the corner list of a node with N children
+// The answer where the call refused.
+fn put_refusal(cause: u32, list: &[u32; 800], answers: &mut [u64; 160]) {
+    answers[0] = cause as u64;
+    answers[1] = flag(all_are(list, 0, 800, BEFORE));
+}
+
+// The answer where it listed so many corners.
+fn put_list(count: usize, list: &[u32; 800], end: usize, answers: &mut [u64; 160]) {
+    answers[1] = count as u64;
+    answers[2] = put_listed(list, count, answers);
+    answers[3] = flag(all_are(list, count, end, 0));
+    answers[4] = flag(all_are(list, end, 800, BEFORE));
+}
+
+// Calls on so many kinds and a list so long, and answers.
+fn call(n: u32, kinds: [u8; 513], most: usize, end: usize, answers: &mut [u64; 160]) -> usize
+    requires { ⌜ (most ≤ 513) × (end ≤ 800) ⌝ }
+    ensures { λ r. ⌜ (0 < r) × (r ≤ 160) ⌝ }
+{
+    let mut list = list_before();
+    match grid::corner_list(n, &kinds[..most], &mut list[..end]) {
+        CornerList::Refused(cause) => {
+            put_refusal(cause, &list, answers);
+            2
+        }
+        CornerList::Count(count) => {
+            put_list(count, &list, end, answers);
+            5 + words_of(n)
+        }
+    }
+}
+
+// `list N KINDS LIST KIND BITS`, or `longlist` where the bits are eight numbers: the corner list of a node with N children
 // along an axis, from so many kinds, into a list so long. Answers how many are listed, their sum, whether
 // the rest is 0, whether what lies past the list is as it was, and the bits; or where refused, whether the
 // whole list is as it was.
@@ -100,32 +132,23 @@ fn list(fields: &[u64; 160], answers: &mut [u64; 160]) -> usize
     }
     let kinds_length = fields[1] as usize;
     let list_length = fields[2] as usize;
-    let kinds = kinds_of(fields, fields[3] as u8);
-    let mut list = list_before();
-    match grid::corner_list(n, &kinds[..kinds_length], &mut list[..list_length]) {
-        CornerList::Refused(cause) => {
-            answers[0] = cause as u64;
-            answers[1] = flag(all_are(&list, 0, 800, BEFORE));
-            2
-        }
-        CornerList::Count(count) => {
-            answers[1] = count as u64;
-            answers[2] = put_listed(&list, count, answers);
-            answers[3] = flag(all_are(&list, count, list_length, 0));
-            answers[4] = flag(all_are(&list, list_length, 800, BEFORE));
-            5 + words(n)
-        }
-    }
+    call(
+        n,
+        kinds_of(fields, fields[3] as u8),
+        kinds_length,
+        list_length,
+        answers,
+    )
 }
 
 // The answer to a case of this file, or no numbers.
-pub fn answer(line: &[u8], fields: &mut [u64; 160], answers: &mut [u64; 160]) -> usize
+pub fn answer(word: u64, fields: &[u64; 160], answers: &mut [u64; 160]) -> usize
     ensures { λ r. ⌜ r ≤ 160 ⌝ }
 {
-    if is_case(line, b"list ", 5, fields) {
+    if word == words::LIST {
         return list(fields, answers);
     }
-    if is_case(line, b"list ", 12, fields) {
+    if word == words::LONGLIST {
         return list(fields, answers);
     }
     0

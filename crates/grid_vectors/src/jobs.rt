@@ -1,9 +1,9 @@
 // The causes by which open refuses a job, and what is known of an accepted one.
 ghost use Prim.Native.Nat.{_<_, _≤_};
 use crate::case::grid_of;
-use crate::case::is_case;
 use crate::case::number;
 use crate::case::small;
+use crate::words;
 use grid::Band;
 use grid::Lengths;
 use grid::Refusal;
@@ -85,10 +85,10 @@ fn open(fields: &[u64; 160], answers: &mut [u64; 160]) -> usize
 }
 
 // The answer to a case of this file, or no numbers.
-pub fn answer(line: &[u8], fields: &mut [u64; 160], answers: &mut [u64; 160]) -> usize
+pub fn answer(word: u64, fields: &[u64; 160], answers: &mut [u64; 160]) -> usize
     ensures { λ r. ⌜ r ≤ 160 ⌝ }
 {
-    if is_case(line, b"open ", 21, fields) {
+    if word == words::OPEN {
         return open(fields, answers);
     }
     0

@@ -3,12 +3,12 @@ ghost use Prim.Native.Nat.{_<_, _≤_};
 use crate::case::cube;
 use crate::case::flag;
 use crate::case::grid_of;
-use crate::case::is_case;
 use crate::case::number;
 use crate::case::put_bit;
 use crate::case::put_box;
 use crate::case::put_off;
 use crate::case::small;
+use crate::words;
 use grid::Grid;
 
 // `size CELL N L`: a node's size.
@@ -102,37 +102,37 @@ fn active(fields: &[u64; 160], answers: &mut [u64; 160]) -> usize
 }
 
 // The answer to a case of this file, or no numbers.
-pub fn answer(line: &[u8], fields: &mut [u64; 160], answers: &mut [u64; 160]) -> usize
+pub fn answer(word: u64, fields: &[u64; 160], answers: &mut [u64; 160]) -> usize
     ensures { λ r. ⌜ r ≤ 160 ⌝ }
 {
-    if is_case(line, b"block ", 1, fields) {
+    if word == words::BLOCK {
         answers[1] = flag(grid::is_block(small(fields[0])));
         return 2;
     }
-    if is_case(line, b"size ", 3, fields) {
+    if word == words::SIZE {
         size(fields, answers);
         return 2;
     }
-    if is_case(line, b"along ", 3, fields) {
+    if word == words::ALONG {
         along(fields, answers);
         return 2;
     }
-    if is_case(line, b"counts ", 9, fields) {
+    if word == words::COUNTS {
         counts(fields, answers);
         return 4;
     }
-    if is_case(line, b"node ", 10, fields) {
+    if word == words::NODE {
         node(fields, answers);
         return 7;
     }
-    if is_case(line, b"axis ", 6, fields) {
+    if word == words::AXIS {
         axis(fields, answers);
         return 4;
     }
-    if is_case(line, b"child ", 11, fields) {
+    if word == words::CHILD {
         return child(fields, answers);
     }
-    if is_case(line, b"active ", 10, fields) {
+    if word == words::ACTIVE {
         return active(fields, answers);
     }
     0

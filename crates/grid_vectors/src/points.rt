@@ -2,10 +2,10 @@
 ghost use Prim.Native.Nat.{_+_, _<_, _≤_};
 use crate::case::bounds;
 use crate::case::cube;
-use crate::case::is_case;
 use crate::case::put_off;
 use crate::case::put_vector;
 use crate::case::small;
+use crate::words;
 
 // The most points of an answer.
 const MOST_POINTS: u64 = 50;
@@ -31,6 +31,11 @@ fn leaf(fields: &[u64; 160], answers: &mut [u64; 160]) -> usize
     }
     put_vector(grid::leaf_point(bounds(fields, 0), l, p), 1, answers);
     4
+}
+
+// A row without points.
+fn row() -> [f64; 64] {
+    [0.0; 64]
 }
 
 // The first points of a row, from answer 1 on.
@@ -75,9 +80,9 @@ fn corners(fields: &[u64; 160], answers: &mut [u64; 160]) -> usize
     }
     let count = fields[8] as usize;
     let list = numbers_from(first);
-    let mut xs = [0.0; 64];
-    let mut ys = [0.0; 64];
-    let mut zs = [0.0; 64];
+    let mut xs = row();
+    let mut ys = row();
+    let mut zs = row();
     grid::corner_points(
         bounds(fields, 0),
         small(fields[6]),
@@ -106,9 +111,9 @@ fn leaves(fields: &[u64; 160], answers: &mut [u64; 160]) -> usize
     }
     let first = fields[7] as usize;
     let count = fields[8] as usize;
-    let mut xs = [0.0; 64];
-    let mut ys = [0.0; 64];
-    let mut zs = [0.0; 64];
+    let mut xs = row();
+    let mut ys = row();
+    let mut zs = row();
     grid::leaf_points(
         bounds(fields, 0),
         l,
@@ -155,23 +160,23 @@ fn places(fields: &[u64; 160], answers: &mut [u64; 160]) -> usize
 }
 
 // The answer to a case of this file, or no numbers.
-pub fn answer(line: &[u8], fields: &mut [u64; 160], answers: &mut [u64; 160]) -> usize
+pub fn answer(word: u64, fields: &[u64; 160], answers: &mut [u64; 160]) -> usize
     ensures { λ r. ⌜ r ≤ 160 ⌝ }
 {
-    if is_case(line, b"corner ", 8, fields) {
+    if word == words::CORNER {
         corner(fields, answers);
         return 4;
     }
-    if is_case(line, b"corners ", 9, fields) {
+    if word == words::CORNERS {
         return corners(fields, answers);
     }
-    if is_case(line, b"leaf ", 8, fields) {
+    if word == words::LEAF {
         return leaf(fields, answers);
     }
-    if is_case(line, b"leaves ", 9, fields) {
+    if word == words::LEAVES {
         return leaves(fields, answers);
     }
-    if is_case(line, b"places ", 2, fields) {
+    if word == words::PLACES {
         return places(fields, answers);
     }
     0

@@ -2,9 +2,9 @@
 ghost use Prim.Native.Nat.{_≤_};
 use crate::case::bounds;
 use crate::case::flag;
-use crate::case::is_case;
 use crate::case::number;
 use crate::case::octet;
+use crate::words;
 
 // `extremes V V V V V V V V`: the least and the greatest of an octet, and the mean.
 fn extremes(fields: &[u64; 160], answers: &mut [u64; 160]) {
@@ -23,18 +23,18 @@ fn pruned(fields: &[u64; 160], answers: &mut [u64; 160]) {
 }
 
 // The answer to a case of this file, or no numbers.
-pub fn answer(line: &[u8], fields: &mut [u64; 160], answers: &mut [u64; 160]) -> usize
+pub fn answer(word: u64, fields: &[u64; 160], answers: &mut [u64; 160]) -> usize
     ensures { λ r. ⌜ r ≤ 160 ⌝ }
 {
-    if is_case(line, b"half ", 6, fields) {
+    if word == words::HALF {
         answers[1] = float::to_bits(grid::half_diagonal(bounds(fields, 0)));
         return 2;
     }
-    if is_case(line, b"extremes ", 8, fields) {
+    if word == words::EXTREMES {
         extremes(fields, answers);
         return 4;
     }
-    if is_case(line, b"pruned ", 11, fields) {
+    if word == words::PRUNED {
         pruned(fields, answers);
         return 2;
     }

@@ -147,7 +147,9 @@ impl Model {
             4 => 1,
             _ => 0,
         };
-        let bad = self.inputs[..reads].iter().any(|&input| input >= self.place);
+        let bad = self.inputs[..reads]
+            .iter()
+            .any(|&input| input >= self.place);
         self.place < self.count && bad
     }
 }

@@ -147,7 +147,15 @@ fn nodes_of(g: &Grid) -> Option<Nodes> {
 }
 
 fn blocks(list: &mut List) {
-    let huge = [127, 128, 256, 1 << 16, (1 << 16) + 2, 1 << 31, u32::MAX as u64];
+    let huge = [
+        127,
+        128,
+        256,
+        1 << 16,
+        (1 << 16) + 2,
+        1 << 31,
+        u32::MAX as u64,
+    ];
     for n in (0..=70).chain(huge) {
         list.add("block", &[n], &[0, inside::block(n).is_some() as u64]);
     }
@@ -176,13 +184,24 @@ fn sizes(list: &mut List, random: &mut Random) {
             size_case(list, size_of(random), inner, leaf);
         }
     }
-    for cell in SPECIAL.into_iter().chain([f64::MAX / 2.0, f64::MAX / 4032.0]) {
+    for cell in SPECIAL
+        .into_iter()
+        .chain([f64::MAX / 2.0, f64::MAX / 4032.0])
+    {
         for (inner, leaf) in [(2, 2), (4, 8), (64, 64)] {
             size_case(list, cell, inner, leaf);
         }
     }
     let most = u32::MAX as u64;
-    for (inner, leaf) in [(0, 0), (0, 5), (5, 0), (1, 1), (3, 7), (most, 2), (most, most)] {
+    for (inner, leaf) in [
+        (0, 0),
+        (0, 5),
+        (5, 0),
+        (1, 1),
+        (3, 7),
+        (most, 2),
+        (most, most),
+    ] {
         size_case(list, 1.0, inner, leaf);
         size_case(list, -0.3, inner, leaf);
     }
@@ -229,7 +248,11 @@ fn along(list: &mut List, random: &mut Random) {
         along_case(list, 0.0, most, 2.0);
     }
     // Quotients around the ends of 64 bits, infinite ones and NaN.
-    for most in [9007199254740993.0, 9223372036854775808.0, 18446744073709549568.0] {
+    for most in [
+        9007199254740993.0,
+        9223372036854775808.0,
+        18446744073709549568.0,
+    ] {
         along_case(list, 0.0, most, 1.0);
         along_case(list, 0.0, up(most), 1.0);
     }
@@ -330,7 +353,12 @@ fn special_grids() -> Vec<Grid> {
         // Huge, but for the sums.
         grid((all(-1e300), all(1e300)), 3e299, 2, 4),
         grid((all(1e307), all(1.7e308)), 1e307, 2, 8),
-        grid((all(-f64::MAX), [f64::MAX, -f64::MAX, -f64::MAX]), half, 2, 2),
+        grid(
+            (all(-f64::MAX), [f64::MAX, -f64::MAX, -f64::MAX]),
+            half,
+            2,
+            2,
+        ),
         // A cell of another size than the bounds.
         grid((ORIGIN, all(1e-3)), 1e9, 4, 8),
         grid((all(1.0), all(1.0)), TINY, 2, 2),
@@ -420,7 +448,10 @@ fn axis_case(list: &mut List, least: f64, most: f64, s: f64, inner: u64, i: u64,
     if g.size() == s && i < g.counts()[0] {
         if let Some(nodes) = nodes_of(&g) {
             let (min, max) = from_box(nodes.node_box(i as usize));
-            assert_eq!([result(min[0]), result(max[0])], [result(begin), result(end)]);
+            assert_eq!(
+                [result(min[0]), result(max[0])],
+                [result(begin), result(end)]
+            );
             assert_eq!(nodes.active_in(i as usize)[c as usize], rule);
         }
     }
@@ -531,7 +562,14 @@ fn corner_cases(list: &mut List, random: &mut Random, b: Bounds, n: u64) {
     }
     let count = random.between(1, 5) as usize;
     let first = random.below(corners - count as u64) as usize;
-    row_case(list, "corners", b, n, first as u64, &known[first..first + count]);
+    row_case(
+        list,
+        "corners",
+        b,
+        n,
+        first as u64,
+        &known[first..first + count],
+    );
 }
 
 fn leaf_cases(list: &mut List, random: &mut Random, b: Bounds, leaf: u64) {
@@ -542,7 +580,14 @@ fn leaf_cases(list: &mut List, random: &mut Random, b: Bounds, leaf: u64) {
     }
     let count = random.between(1, 5) as usize;
     let first = random.below(points - count as u64) as usize;
-    row_case(list, "leaves", b, leaf, first as u64, &known[first..first + count]);
+    row_case(
+        list,
+        "leaves",
+        b,
+        leaf,
+        first as u64,
+        &known[first..first + count],
+    );
 }
 
 fn places(list: &mut List, random: &mut Random) {
@@ -701,15 +746,20 @@ fn pruned(list: &mut List, random: &mut Random) {
 /// A corner list from this many kinds into a list this long. The kinds that
 /// are set are `kind`.
 fn list_case(list: &mut List, n: u64, lengths: [u64; 2], kind: u64, active: &[bool]) {
+    let (word, numbers) = if active.len() > 64 {
+        ("longlist", 8)
+    } else {
+        ("list", 1)
+    };
     let mut bits = words(active);
-    bits.resize(if active.len() > 64 { 8 } else { 1 }, 0);
+    bits.resize(numbers, 0);
     let case = [vec![n, lengths[0], lengths[1], kind], bits].concat();
     let Some(block) = inside::block(n) else {
-        return list.add("list", &case, &[2, 1]);
+        return list.add(word, &case, &[2, 1]);
     };
     let corners = (n + 1).pow(3);
     if lengths[0] != n.pow(3) || lengths[1] < corners {
-        return list.add("list", &case, &[6, 1]);
+        return list.add(word, &case, &[6, 1]);
     }
     let set: Vec<bool> = active.iter().map(|&is| is && kind != 0).collect();
     let needed = inside::needed_corners(block, &set);
@@ -717,9 +767,14 @@ fn list_case(list: &mut List, n: u64, lengths: [u64; 2], kind: u64, active: &[bo
     for &corner in &needed {
         flags[corner] = true;
     }
-    let numbers = vec![needed.len() as u64, needed.iter().sum::<usize>() as u64, 1, 1];
+    let numbers = vec![
+        needed.len() as u64,
+        needed.iter().sum::<usize>() as u64,
+        1,
+        1,
+    ];
     let answer = [numbers, words(&flags)].concat();
-    list.add("list", &case, &accepted(answer));
+    list.add(word, &case, &accepted(answer));
 }
 
 fn corner_lists(list: &mut List, random: &mut Random) {
@@ -744,8 +799,20 @@ fn corner_lists(list: &mut List, random: &mut Random) {
                 list_case(list, n, [children, long], kind, &active);
             }
         }
-        list_case(list, n, [children, corners], 1, &vec![false; children as usize]);
-        list_case(list, n, [children, corners], 0, &vec![true; children as usize]);
+        list_case(
+            list,
+            n,
+            [children, corners],
+            1,
+            &vec![false; children as usize],
+        );
+        list_case(
+            list,
+            n,
+            [children, corners],
+            0,
+            &vec![true; children as usize],
+        );
     }
     // Refused: no block, kinds or list not as they must be, both.
     for n in [0, 1, 3, 5, 6, 7, 9, 12, 65, 128, u32::MAX as u64] {
@@ -801,7 +868,13 @@ impl Job {
     fn add(&self, list: &mut List) {
         let (g, m) = (&self.grid, &self.model);
         let model = vec![m.count, m.place, m.kind, m.inputs[0], m.inputs[1]];
-        let case = [grid_bits(g), bits_of(&self.band), model, self.lengths.to_vec()].concat();
+        let case = [
+            grid_bits(g),
+            bits_of(&self.band),
+            model,
+            self.lengths.to_vec(),
+        ]
+        .concat();
         let cause = rules::refusal(g, self.band, m, &self.lengths);
         if cause != 0 {
             return list.add("open", &case, &[cause]);
@@ -869,7 +942,9 @@ fn cause_one(list: &mut List) {
 }
 
 fn cause_two(list: &mut List) {
-    let sizes = [0, 1, 2, 3, 4, 5, 7, 8, 9, 15, 16, 17, 31, 32, 33, 63, 64, 65, 128];
+    let sizes = [
+        0, 1, 2, 3, 4, 5, 7, 8, 9, 15, 16, 17, 31, 32, 33, 63, 64, 65, 128,
+    ];
     for n in sizes.into_iter().chain([1 << 31, u32::MAX as u64]) {
         Job::new(grid((ORIGIN, ORIGIN), 1.0, n, 2)).add(list);
         Job::new(grid((ORIGIN, ORIGIN), 1.0, 2, n)).add(list);
@@ -983,7 +1058,15 @@ fn cause_six(list: &mut List, random: &mut Random) {
         grid((ORIGIN, [100.0, 1.0, 1.0]), 1.0, 64, 4),
         grid(([coarse; 3], [coarse; 3]), 0.25, 2, 2),
         // No active child: the store may have any length.
-        grid(([f64::from_bits(0x7fe1_ccf3_85eb_c8a0); 3], [f64::from_bits(0x7fe1_ccf3_85eb_c8a0); 3]), f64::from_bits(0x7fdf_ffff_ffff_ffff), 2, 2),
+        grid(
+            (
+                [f64::from_bits(0x7fe1_ccf3_85eb_c8a0); 3],
+                [f64::from_bits(0x7fe1_ccf3_85eb_c8a0); 3],
+            ),
+            f64::from_bits(0x7fdf_ffff_ffff_ffff),
+            2,
+            2,
+        ),
     ];
     for g in grids {
         let job = Job::new(g);

@@ -33,6 +33,15 @@ element-copy-out-count c = search needs
 numbers-from-requires : tie.Need-numbers-from-requires
 numbers-from-requires c κs = search needs
 
+row-requires : tie.Need-row-requires
+row-requires c κs = search needs
+
+row-requires-2 : tie.Need-row-requires-2
+row-requires-2 c κs = search needs
+
+row-requires-3 : tie.Need-row-requires-3
+row-requires-3 c κs = search needs
+
 bounds-requires : tie.Need-bounds-requires
 bounds-requires c κs = search needs
 
@@ -76,6 +85,9 @@ corners-spec =
     returns-2
     element-copy-out-count
     numbers-from-requires
+    row-requires
+    row-requires-2
+    row-requires-3
     bounds-requires
     element-copy-out-small-2
     small-requires-2

@@ -1,8 +1,6 @@
 //! Ours: what the private parts of a sparse field hold and answer.
 
-use super::{
-    BlockSize, InternalNode, LeafNode, NodeHandle, SparseField, SparseFieldConfig,
-};
+use super::{BlockSize, InternalNode, LeafNode, NodeHandle, SparseField, SparseFieldConfig};
 use crate::types::computation::data::field_iterator::PointIterator;
 use crate::types::computation::data::DenseField;
 use crate::types::computation::model::{ComputationGraph, Data, ModelComponent, Parameter};
@@ -45,7 +43,11 @@ impl Nodes {
     pub fn counts(&self) -> [usize; 3] {
         let mut counts = [0; 3];
         for &(i, j, k) in self.field.root.table.keys() {
-            counts = [counts[0].max(i + 1), counts[1].max(j + 1), counts[2].max(k + 1)];
+            counts = [
+                counts[0].max(i + 1),
+                counts[1].max(j + 1),
+                counts[2].max(k + 1),
+            ];
         }
         assert_eq!(self.field.root.table.len(), counts.iter().product());
         counts
