@@ -106,8 +106,8 @@ fn lent_by(kind: u64, fields: &[u64; 160], count: usize) -> usize
 fn answer_values(kind: u64, fields: &[u64; 160], count: usize, answers: &mut [u64; 160]) -> usize
     ensures { λ r. ⌜ (0 < r) × (r ≤ 160) ⌝ }
 {
-    let mut values = [0.0; 150];
-    let mut scratch = [0.0; 150];
+    let mut values = numbers::floats();
+    let mut scratch = numbers::floats();
     let len = lent_by(kind, fields, count);
     lend(kind, fields, len, &mut values, &mut scratch, answers)
 }
@@ -133,8 +133,8 @@ fn answer(kind: u64, fields: &[u64; 160], count: usize, answers: &mut [u64; 160]
 
 // Writes the answer of a line's call.
 fn take_line(line: &[u8]) {
-    let mut fields = [0u64; 160];
-    let mut answers = [0u64; 160];
+    let mut fields = numbers::zeros();
+    let mut answers = numbers::zeros();
     let end = word_end(line);
     let kind = kind_of(
         line,
@@ -155,8 +155,13 @@ fn take_lines(text: &[u8]) {
     }
 }
 
+// Room for the whole of standard input.
+fn room() -> [u8; 524288] {
+    [0; 524288]
+}
+
 fn main() {
-    let mut text = [0u8; 524288];
+    let mut text = room();
     let n = io::read_full(0, &mut text);
     take_lines(&text[..n]);
 }

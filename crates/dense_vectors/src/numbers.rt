@@ -7,6 +7,17 @@ use geometry::BoundingBox;
 use geometry::Vec3;
 use geometry::Vec3i;
 
+// Room for the numbers of a case or of an answer. As a call's result it is an array of which a proof
+// knows the length alone.
+pub fn zeros() -> [u64; 160] {
+    [0; 160]
+}
+
+// Room for values.
+pub fn floats() -> [f64; 150] {
+    [0.0; 150]
+}
+
 fn place(n: u64) -> usize {
     n as usize
 }

@@ -84,6 +84,7 @@ pub mod types {
             }
             mod sparse_field {
                 shared!("types--computation--data--sparse_field");
+                pub mod inside;
             }
             pub use dense_field::*;
             pub use sparse_field::*;

@@ -10,8 +10,8 @@ mod values;
 mod walks;
 
 use crate::bits::*;
+use crate::fields::List;
 use crate::random::Random;
-use std::fmt::Write;
 
 pub use original::types::geometry::{BoundingBox, Vec3, Vec3i};
 
@@ -27,17 +27,8 @@ const MOST: usize = 16_777_216;
 
 const ORIGIN: Point = [0.0, 0.0, 0.0];
 
-/// The cases, one to a line, and their answers.
-pub struct List {
-    pub cases: String,
-    pub answers: String,
-}
-
 pub fn list() -> List {
-    let mut list = List {
-        cases: String::new(),
-        answers: String::new(),
-    };
+    let mut list = List::default();
     let mut random = Random::new(3);
     counts::write(&mut list, &mut random);
     sampling::write(&mut list, &mut random);
@@ -48,16 +39,8 @@ pub fn list() -> List {
     list
 }
 
-impl List {
-    fn case(&mut self, word: &str, case: Row, answer: Row) {
-        self.cases.push_str(word);
-        for number in case.0 {
-            write!(self.cases, " {number:016x}").unwrap();
-        }
-        self.cases.push('\n');
-        let numbers: Vec<String> = answer.0.iter().map(|n| format!("{n:016x}")).collect();
-        writeln!(self.answers, "{}", numbers.join(" ")).unwrap();
-    }
+fn put(list: &mut List, word: &str, case: Row, answer: Row) {
+    list.add(word, &case.0, &answer.0);
 }
 
 /// The numbers of a case or of an answer.

@@ -43,7 +43,7 @@ fn corners(list: &mut List, origin: Point, cell: f64, n: Triple, at: Triple) {
         .counts(n)
         .counts(at);
     let answer = Row::new().count(refused).results(&points.concat());
-    list.case("corners", case, answer);
+    put(list, "corners", case, answer);
 }
 
 fn octet(list: &mut List, n: Triple, at: Triple, values: &[f64]) {
@@ -60,7 +60,12 @@ fn octet(list: &mut List, n: Triple, at: Triple, values: &[f64]) {
         eight = field.cell_values(at[0], at[1], at[2]);
     }
     let case = Row::new().counts(n).counts(at).floats(values);
-    list.case("octet", case, Row::new().count(refused).results(&eight));
+    put(
+        list,
+        "octet",
+        case,
+        Row::new().count(refused).results(&eight),
+    );
 }
 
 fn inside(list: &mut List, random: &mut Random) {

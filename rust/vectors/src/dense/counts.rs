@@ -31,7 +31,12 @@ fn case(list: &mut List, bounds: Bounds, cell: f64) {
         let n = original::dense::point_count(&bounding_box(bounds), cell);
         answer = answer.counts([n.i, n.j, n.k]);
     }
-    list.case("count", Row::new().bounds(bounds).floats(&[cell]), answer);
+    put(
+        list,
+        "count",
+        Row::new().bounds(bounds).floats(&[cell]),
+        answer,
+    );
 }
 
 /// Extents at whole multiples of the cell, and the floats on both sides.

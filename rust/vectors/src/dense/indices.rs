@@ -40,7 +40,7 @@ fn place(list: &mut List, at: Triple, n: Triple) {
     } else {
         Row::new().count(0).count(original::dense::place(at, n))
     };
-    list.case("place", Row::new().counts(at).counts(n), answer);
+    put(list, "place", Row::new().counts(at).counts(n), answer);
 }
 
 fn indices(list: &mut List, at: usize, n: Triple) {
@@ -51,7 +51,7 @@ fn indices(list: &mut List, at: usize, n: Triple) {
     } else {
         Row::new().count(0).counts(original::dense::indices(at, n))
     };
-    list.case("indices", Row::new().count(at).counts(n), answer);
+    put(list, "indices", Row::new().count(at).counts(n), answer);
 }
 
 fn outside(list: &mut List, n: Triple) {

@@ -108,7 +108,7 @@ fn case(list: &mut List, call: Call) {
         vec![BEFORE; call.len]
     };
     let answer = Row::new().count(refused).results(&values);
-    list.case("sample", call.row(), answer);
+    put(list, "sample", call.row(), answer);
 }
 
 fn sphere(random: &mut Random) -> Part {

@@ -52,13 +52,13 @@ fn answer(n: Triple, values: &[f64], call: impl Fn(&mut DenseField<f64>)) -> Row
 fn pad(list: &mut List, n: Triple, value: f64, values: &[f64]) {
     let answer = answer(n, values, |field| field.padding(value));
     let case = Row::new().counts(n).floats(&[value]).floats(values);
-    list.case("pad", case, answer);
+    put(list, "pad", case, answer);
 }
 
 fn threshold(list: &mut List, n: Triple, limit: f64, values: &[f64]) {
     let answer = answer(n, values, |field| field.threshold(limit));
     let case = Row::new().counts(n).floats(&[limit]).floats(values);
-    list.case("threshold", case, answer);
+    put(list, "threshold", case, answer);
 }
 
 struct Smoothing {
@@ -88,7 +88,7 @@ fn smooth(list: &mut List, call: Smoothing, values: &[f64]) {
         field.smooth(factor, rounds);
         Row::new().count(0).count(0).results(field.data())
     };
-    list.case("smooth", case, answer);
+    put(list, "smooth", case, answer);
 }
 
 /// With a scratch as long as the values.

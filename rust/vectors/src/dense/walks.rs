@@ -63,7 +63,7 @@ fn points(list: &mut List, bounds: Bounds, n: Triple, at: Triple) -> Option<Trip
         (Row::new().count(refused), None)
     };
     let case = Row::new().bounds(bounds).counts(n).counts(at);
-    list.case("points", case, answer);
+    put(list, "points", case, answer);
     next
 }
 
@@ -77,7 +77,7 @@ fn cells(list: &mut List, bounds: Bounds, n: Triple, at: Triple) -> Option<Tripl
         (Row::new().count(refused), None)
     };
     let case = Row::new().bounds(bounds).counts(n).counts(at);
-    list.case("cells", case, answer);
+    put(list, "cells", case, answer);
     next
 }
 
@@ -183,7 +183,7 @@ fn octets(list: &mut List, n: Triple, at: Triple, values: &[f64]) -> Option<Trip
         answer(found.map(|v| v.to_vec()), triple(next))
     };
     let case = Row::new().counts(n).counts(at).floats(values);
-    list.case("octets", case, answer);
+    put(list, "octets", case, answer);
     next
 }
 
