@@ -113,10 +113,10 @@ fn call(n: u32, kinds: [u8; 513], most: usize, end: usize, answers: &mut [u64; 1
     }
 }
 
-// `list N KINDS LIST KIND BITS`, or `longlist` where the bits are eight numbers: the corner list of a node with N children
-// along an axis, from so many kinds, into a list so long. Answers how many are listed, their sum, whether
-// the rest is 0, whether what lies past the list is as it was, and the bits; or where refused, whether the
-// whole list is as it was.
+// `list N KINDS LIST KIND BITS`, or `longlist` where the bits are eight numbers: the corner list of a
+// node with N children along an axis, from so many kinds, into a list so long. Answers how many are
+// listed, their sum, whether the rest is 0, whether what lies past the list is as it was, and the bits;
+// or where refused, whether the whole list is as it was.
 fn list(fields: &[u64; 160], answers: &mut [u64; 160]) -> usize
     ensures { λ r. ⌜ (0 < r) × (r ≤ 160) ⌝ }
 {

@@ -101,6 +101,27 @@ fn active(fields: &[u64; 160], answers: &mut [u64; 160]) -> usize
     if n == 8 { 10 } else { 3 }
 }
 
+// The answer to a case about boxes or activity, or no numbers.
+fn box_answer(word: u64, fields: &[u64; 160], answers: &mut [u64; 160]) -> usize
+    ensures { λ r. ⌜ r ≤ 160 ⌝ }
+{
+    if word == words::NODE {
+        node(fields, answers);
+        return 7;
+    }
+    if word == words::AXIS {
+        axis(fields, answers);
+        return 4;
+    }
+    if word == words::CHILD {
+        return child(fields, answers);
+    }
+    if word == words::ACTIVE {
+        return active(fields, answers);
+    }
+    0
+}
+
 // The answer to a case of this file, or no numbers.
 pub fn answer(word: u64, fields: &[u64; 160], answers: &mut [u64; 160]) -> usize
     ensures { λ r. ⌜ r ≤ 160 ⌝ }
@@ -121,19 +142,5 @@ pub fn answer(word: u64, fields: &[u64; 160], answers: &mut [u64; 160]) -> usize
         counts(fields, answers);
         return 4;
     }
-    if word == words::NODE {
-        node(fields, answers);
-        return 7;
-    }
-    if word == words::AXIS {
-        axis(fields, answers);
-        return 4;
-    }
-    if word == words::CHILD {
-        return child(fields, answers);
-    }
-    if word == words::ACTIVE {
-        return active(fields, answers);
-    }
-    0
+    box_answer(word, fields, answers)
 }
