@@ -79,31 +79,31 @@ module _ (n : Vec3i) (x-above : 0 < n .i) (y-above : 0 < n .j) where
       ∙ ap (pointAt n) one
 
   -- one stretch more of a run's points
-  module _ (origin : Vec3) (cell : Float) (at t count : ℕ) {v : Vec3i} (here : v ≡ pointAt n (at + t)) (fits : v .i + count ≤ n .i) (short : t + count ≤ 64) where
-    pub more-points : {px py pz px' py' pz' : List Float} → RunPoints origin cell n at t px py pz
-        → length px ≡ 64 → length py ≡ 64 → length pz ≡ 64
-        → px' ≡ filled t count (λ q. axisPoint (origin .x) cell (v .i + (q - t))) px
-        → py' ≡ filled t count (λ q. axisPoint (origin .y) cell (v .j)) py
-        → pz' ≡ filled t count (λ q. axisPoint (origin .z) cell (v .k)) pz
-        → RunPoints origin cell n at (t + count) px' py' pz'
-    unfolding fieldPoint
-    more-points {px} {py} {pz} {px'} {py'} {pz'} so-far x-long y-long z-long x y z = record { point = λ q below. one q below (ltb q t) refl }
-      where
-        earlier : (q : ℕ) (l : List Float) {l' : List Float} (g : ℕ → Float) → l' ≡ filled t count g l → q < t → getD l' q past ≡ getD l q past
-        earlier q l g e h = ap (λ (k : List Float). getD k q past) e ∙ getD-unfilled t count g l q past (λ from. omega arith)
+  pub more-points : (origin : Vec3) (cell : Float) (at t count : ℕ) {v : Vec3i} {px py pz px' py' pz' : List Float}
+      → v ≡ pointAt n (at + t) → v .i + count ≤ n .i → t + count ≤ 64
+      → RunPoints origin cell n at t px py pz → length px ≡ 64 → length py ≡ 64 → length pz ≡ 64
+      → px' ≡ filled t count (λ q. axisPoint (origin .x) cell (v .i + (q - t))) px
+      → py' ≡ filled t count (λ q. axisPoint (origin .y) cell (v .j)) py
+      → pz' ≡ filled t count (λ q. axisPoint (origin .z) cell (v .k)) pz
+      → RunPoints origin cell n at (t + count) px' py' pz'
+  unfolding fieldPoint
+  more-points origin cell at t count {v} {px} {py} {pz} {px'} {py'} {pz'} here fits short so-far x-long y-long z-long x y z = record { point = λ q below. one q below (ltb q t) refl }
+    where
+      earlier : (q : ℕ) (l : List Float) {l' : List Float} (g : ℕ → Float) → l' ≡ filled t count g l → q < t → getD l' q past ≡ getD l q past
+      earlier q l g e h = ap (λ (k : List Float). getD k q past) e ∙ getD-unfilled t count g l q past (λ from. omega arith)
 
-        now-set : (q : ℕ) → q < t + count → (l : List Float) {l' : List Float} (g : ℕ → Float) → length l ≡ 64 → l' ≡ filled t count g l → t ≤ q → getD l' q past ≡ g q
-        now-set q below l g long e h = ap (λ (k : List Float). getD k q past) e ∙ getD-filled t count g l q past h below (omega arith)
+      now-set : (q : ℕ) → q < t + count → (l : List Float) {l' : List Float} (g : ℕ → Float) → length l ≡ 64 → l' ≡ filled t count g l → t ≤ q → getD l' q past ≡ g q
+      now-set q below l g long e h = ap (λ (k : List Float). getD k q past) e ∙ getD-filled t count g l q past h below (omega arith)
 
-        one : (q : ℕ) → q < t + count → (b : Bool) → ltb q t ≡ b → vec3 (getD px' q past) (getD py' q past) (getD pz' q past) ≡ placePoint origin cell n (at + q)
-        one q below true test =
-            let h : q < t = ltb-true q t test in
-            (λ s. vec3 (earlier q px _ x h s) (earlier q py _ y h s) (earlier q pz _ z h s)) ∙ so-far .point q h
-        one q below false test =
-            let h : t ≤ q = ltb-false q t test in
-            let there : at + t + (q - t) ≡ at + q = omega arith in
-            (λ s. vec3 (now-set q below px _ x-long x h s) (now-set q below py _ y-long y h s) (now-set q below pz _ z-long z h s))
-            ∙ ap (fieldPoint origin cell) (row-point (at + t) (q - t) here (omega arith) ∙ ap (pointAt n) there)
+      one : (q : ℕ) → q < t + count → (b : Bool) → ltb q t ≡ b → vec3 (getD px' q past) (getD py' q past) (getD pz' q past) ≡ placePoint origin cell n (at + q)
+      one q below true test =
+          let h : q < t = ltb-true q t test in
+          (λ s. vec3 (earlier q px _ x h s) (earlier q py _ y h s) (earlier q pz _ z h s)) ∙ so-far .point q h
+      one q below false test =
+          let h : t ≤ q = ltb-false q t test in
+          let there : at + t + (q - t) ≡ at + q = omega arith in
+          (λ s. vec3 (now-set q below px _ x-long x h s) (now-set q below py _ y-long y h s) (now-set q below pz _ z-long z h s))
+          ∙ ap (fieldPoint origin cell) (row-point (at + t) (q - t) here (omega arith) ∙ ap (pointAt n) there)
 
 -- the results of a run at its places
 pub run-filled : (l : Flat) (m : ℕ) (origin : Vec3) (cell : Float) (n : Vec3i) (at len : ℕ) (before values : List Float) {px py pz results last : List Float}

@@ -42,7 +42,8 @@ fn fill_along(origin: f64, cell: f64, from: usize, places: &mut [f64], at: usize
     }
 }
 
-// Where `count` points of a row stand, from `first` on, at the places from `at` on.
+// Where `count` points of a row stand, from `first` on, at the places from `at` on. The last clause
+// hands on what only a loan as a slice tells: that an array has its length.
 fn fill_stretch(
     origin: Vec3,
     cell: f64,
