@@ -1,8 +1,14 @@
 //! Compares bits, which no contract speaks of where a NaN is concerned: a
 //! computed NaN has one pattern, and a copied one keeps its own.
 
-#[cfg(all(feature = "model", feature = "original"))]
+#[cfg(feature = "original")]
+pub mod fields;
+pub mod floats;
+#[cfg(feature = "original")]
 pub mod models;
+pub mod points;
+
+use std::collections::BTreeMap;
 
 use crate::host::{self, ROW};
 use crate::roots::hardware_sqrt;
@@ -14,7 +20,7 @@ const COMPUTED_NAN: u64 = 0x7ff8_0000_0000_0000;
 const ROOTS: usize = 20_000_000;
 
 /// A small generator of numbers (splitmix64).
-struct Random(u64);
+pub struct Random(u64);
 
 impl Random {
     fn next(&mut self) -> u64 {
@@ -22,6 +28,58 @@ impl Random {
         let z = (self.0 ^ (self.0 >> 30)).wrapping_mul(0xbf58_476d_1ce4_e5b9);
         let z = (z ^ (z >> 27)).wrapping_mul(0x94d0_49bb_1331_11eb);
         z ^ (z >> 31)
+    }
+}
+
+/// Numbers for which an operation may have a rule of its own. Three are NaNs.
+const SPECIAL: [u64; 10] = [
+    0,
+    0x8000_0000_0000_0000,
+    0x3ff0_0000_0000_0000,
+    1,
+    0x7fef_ffff_ffff_ffff,
+    0x7ff0_0000_0000_0000,
+    0xfff0_0000_0000_0000,
+    0x7ff8_0000_0000_0000,
+    0xfff8_0000_0000_0000,
+    0x7ff8_0000_0000_1234,
+];
+
+/// Mostly of ordinary size with all digits, at times special.
+fn number(random: &mut Random) -> f64 {
+    let bits = random.next();
+    if bits % 16 == 0 {
+        return f64::from_bits(SPECIAL[(random.next() % 10) as usize]);
+    }
+    let exponent = 1015 + bits % 16;
+    f64::from_bits((bits & 0x800f_ffff_ffff_ffff) | exponent << 52)
+}
+
+/// For each kind of result how many were compared, how many of them are NaN and
+/// how many wrong.
+#[derive(Default)]
+struct Tally(BTreeMap<&'static str, [usize; 3]>);
+
+impl Tally {
+    fn compare(&mut self, kind: &'static str, got: f64, expected: u64) {
+        let got = got.to_bits();
+        let [compared, nans, wrong] = self.0.entry(kind).or_default();
+        *compared += 1;
+        *nans += f64::from_bits(expected).is_nan() as usize;
+        if got != expected {
+            *wrong += 1;
+            if *wrong <= 10 {
+                println!("{kind}: {got:016x}, not {expected:016x}");
+            }
+        }
+    }
+
+    /// Prints what was compared, and answers how many differ.
+    fn report(&self) -> usize {
+        for (kind, [compared, nans, wrong]) in &self.0 {
+            println!("check: {kind}: {compared}, {nans} of them NaN, {wrong} wrong");
+        }
+        self.0.values().map(|counts| counts[2]).sum()
     }
 }
 

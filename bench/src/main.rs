@@ -1,12 +1,13 @@
 //! Our functions, through a static library, against the machine's root and
-//! the original's evaluation, in one process. Prints a table of ratios, or
+//! the original's calls, in one process. Prints a table of ratios, or
 //! with the word `check` compares the bits of many results.
 
 mod check;
+mod fields;
 mod host;
 mod measure;
-#[cfg(feature = "model")]
 mod models;
+mod nodes;
 mod roots;
 
 use std::process::ExitCode;
@@ -17,17 +18,32 @@ fn main() -> ExitCode {
     }
     measure::head();
     roots::rows();
-    #[cfg(feature = "model")]
     models::rows();
+    on_one_thread(fields::rows);
+    fields::rows_on_all_threads();
+    nodes::rows();
     ExitCode::SUCCESS
 }
 
+/// Runs on the only thread of a pool, where the original's parallel loops find
+/// no other.
+#[cfg(feature = "original")]
+fn on_one_thread(rows: fn()) {
+    let pool = rayon::ThreadPoolBuilder::new().num_threads(1).build();
+    pool.expect("a pool of one thread").install(rows);
+}
+
+#[cfg(not(feature = "original"))]
+fn on_one_thread(rows: fn()) {
+    rows();
+}
+
 fn compare_bits() -> ExitCode {
-    let wrong = check::roots();
-    #[cfg(all(feature = "model", feature = "original"))]
-    let wrong = wrong + check::models::values();
-    #[cfg(not(all(feature = "model", feature = "original")))]
-    println!("check: SKIPPED, the values of models");
+    let wrong = check::roots() + check::floats::values() + check::points::values();
+    #[cfg(feature = "original")]
+    let wrong = wrong + check::models::values() + check::fields::values();
+    #[cfg(not(feature = "original"))]
+    println!("check: SKIPPED, the values of models and of fields");
     if wrong == 0 {
         ExitCode::SUCCESS
     } else {

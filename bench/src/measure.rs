@@ -3,8 +3,12 @@
 use std::hint::black_box;
 use std::time::{Duration, Instant};
 
-/// How many runs of each side are measured.
+/// How many runs of each side are measured at most.
 const RUNS: usize = 601;
+
+/// How many there are at least, and how long a row takes where they are long.
+const FEWEST: usize = 9;
+const ROW_TIME: Duration = Duration::from_secs(2);
 
 /// About how long one run takes. Short, so that on a busy machine most runs are
 /// not interrupted: with longer ones the median is of interrupted runs.
@@ -61,9 +65,18 @@ impl<'a> Runs<'a> {
 
     /// The median, in nanoseconds for one result.
     fn median(&mut self) -> f64 {
-        self.times.sort_by(f64::total_cmp);
-        self.times[self.times.len() / 2]
+        median(&mut self.times)
     }
+}
+
+fn median(times: &mut [f64]) -> f64 {
+    times.sort_by(f64::total_cmp);
+    times[times.len() / 2]
+}
+
+/// Whether so many runs of a row that began then are enough.
+fn enough(runs: usize, begun: Instant) -> bool {
+    runs >= RUNS || (runs >= FEWEST && begun.elapsed() > ROW_TIME)
 }
 
 /// Prints the table's head.
@@ -77,25 +90,101 @@ pub fn head() {
 pub fn row(name: &str, results: usize, ours: Side, theirs: Option<Side>) {
     let mut ours = Runs::new(ours, results);
     let mut theirs = theirs.map(|side| Runs::new(side, results));
-    for _ in 0..RUNS {
+    let begun = Instant::now();
+    while !enough(ours.times.len(), begun) {
         ours.run();
         if let Some(theirs) = &mut theirs {
             theirs.run();
         }
     }
     let our_time = ours.median();
-    let Some(mut theirs) = theirs else {
-        println!("| {name} | {our_time:.1} | not built | |");
+    let theirs = theirs.map(|mut theirs| (theirs.median(), theirs.results));
+    print(name, our_time, &ours.results, theirs);
+}
+
+/// One side of a comparison of whole fields.
+pub trait Job {
+    /// Puts the input back. Not measured.
+    fn prepare(&mut self);
+    fn run(&mut self);
+    fn results(&self) -> &[f64];
+}
+
+/// What a job's time is: that of its own thread, which other processes do not
+/// add to, or the time by the wall, for jobs of several threads.
+#[derive(Clone, Copy)]
+pub enum Clock {
+    Thread,
+    Wall,
+}
+
+/// Measures one row of jobs that are long enough to be timed one by one.
+pub fn jobs(name: &str, clock: Clock, ours: &mut dyn Job, mut theirs: Option<&mut dyn Job>) {
+    let mut times = [Vec::new(), Vec::new()];
+    let begun = Instant::now();
+    while !enough(times[0].len(), begun) {
+        times[0].push(timed(clock, ours));
+        if let Some(theirs) = &mut theirs {
+            times[1].push(timed(clock, *theirs));
+        }
+    }
+    let our_time = median(&mut times[0]);
+    let theirs = theirs.map(|job| (median(&mut times[1]), job.results().to_vec()));
+    print(name, our_time, ours.results(), theirs);
+}
+
+/// The time of one job, in nanoseconds for one result.
+fn timed(clock: Clock, job: &mut dyn Job) -> f64 {
+    job.prepare();
+    let (wall, thread) = (Instant::now(), thread_time());
+    job.run();
+    let time = match clock {
+        Clock::Thread => thread_time() - thread,
+        Clock::Wall => wall.elapsed(),
+    };
+    time.as_nanos() as f64 / black_box(job.results()).len() as f64
+}
+
+/// The time that this thread has run.
+fn thread_time() -> Duration {
+    #[repr(C)]
+    struct Time {
+        seconds: i64,
+        nanoseconds: i64,
+    }
+    extern "C" {
+        fn clock_gettime(clock: i32, time: &mut Time) -> i32;
+    }
+    const THREAD: i32 = 3;
+    let mut time = Time {
+        seconds: 0,
+        nanoseconds: 0,
+    };
+    unsafe { clock_gettime(THREAD, &mut time) };
+    Duration::new(time.seconds as u64, time.nanoseconds as u32)
+}
+
+/// Prints a row: our time, and theirs with their results.
+fn print(name: &str, our_time: f64, our_results: &[f64], theirs: Option<(f64, Vec<f64>)>) {
+    let ours = shown(our_time);
+    let Some((their_time, their_results)) = theirs else {
+        println!("| {name} | {ours} | not built | |");
         return;
     };
-    let their_time = theirs.median();
-    let note = if same(&ours.results, &theirs.results) {
+    let note = if same(our_results, &their_results) {
         ""
     } else {
         " (the results differ)"
     };
     let ratio = our_time / their_time;
-    println!("| {name} | {our_time:.1} | {their_time:.1} | {ratio:.2}{note} |");
+    let theirs = shown(their_time);
+    println!("| {name} | {ours} | {theirs} | {ratio:.2}{note} |");
+}
+
+/// A time, with two digits at least.
+fn shown(time: f64) -> String {
+    let digits = if time < 0.95 { 2 } else { 1 };
+    format!("{time:.digits$}")
 }
 
 /// Equal bits, or both NaN, at every place.

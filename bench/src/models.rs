@@ -20,10 +20,19 @@ pub enum Part {
 }
 
 pub fn rows() {
-    model("one plane", &[PLANE]);
-    model("one sphere", &[Part::Sphere([0.5, 1.0, -0.25], 2.0)]);
-    model("32 spheres under 31 mins", &union());
-    model("a chain of 64 parts", &chain());
+    for (name, parts) in measured() {
+        model(name, &parts);
+    }
+}
+
+/// The models of the table, with their names there.
+pub fn measured() -> [(&'static str, Vec<Part>); 4] {
+    [
+        ("one plane", vec![PLANE]),
+        ("one sphere", vec![Part::Sphere([0.5, 1.0, -0.25], 2.0)]),
+        ("32 spheres under 31 mins", union()),
+        ("a chain of 64 parts", chain()),
+    ]
 }
 
 const PLANE: Part = Part::Plane([0.6, -0.64, 0.48], 0.125);
@@ -89,11 +98,9 @@ fn model(name: &str, parts: &[Part]) {
         }
     };
     compare(&format!("{name}, at points"), parts, &at, &mut at_points);
-    #[cfg(feature = "rows")]
     in_rows(name, parts, &at, &layout);
 }
 
-#[cfg(feature = "rows")]
 fn in_rows(name: &str, parts: &[Part], at: &Points, layout: &Layout) {
     let mut values = [0.0; ROW * ROW];
     let mut ours = |out: &mut [f64]| {

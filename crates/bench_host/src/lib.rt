@@ -8,6 +8,12 @@ ghost use Rattle.model.specs.Model.{valuesTo, modelValue};
 ghost use Rattle.model.specs.Flat.{flatOf, partsOf};
 ghost use Rattle.model.specs.Row.{evaluatedRows};
 
+mod dense; // dense.rt: the dense field's calls
+mod floats; // floats.rt: floats, points and boxes
+mod given; // given.rt: a model from flat arrays
+mod nodes; // nodes.rt: the grid of a sparse field
+mod walks; // walks.rt: walks over points and cells
+
 // The correctly rounded square root.
 #[no_mangle]
 pub extern "C" fn bench_sqrt(x: f64) -> f64

@@ -19,3 +19,12 @@ pub record Between (n : Vec3i) (at count old new : ℕ) : Type 0 where
   pub before : n .i * n .j ≤ at
   pub behind : at + count + n .i * n .j ≤ old
   pub same : new ≡ old
+
+-- a run of up to 64 places of a field
+pub record Run (n : Vec3i) (at len : ℕ) : Type 0 where
+  pub x-above : 0 < n .i
+  pub y-above : 0 < n .j
+  pub rows : n .i ≤ n .i * n .j
+  pub area : n .i * n .j ≤ 16777216
+  pub within : at + len ≤ 16777216
+  pub short : len ≤ 64

@@ -1,5 +1,6 @@
-// A model's values at a field's points, in runs of up to 64 points of a row. A row is the points of
-// one j and k. The model's parts stand in two flat arrays, as `model::lay_out` leaves them.
+// A model's values at a field's points, in runs of up to 64 consecutive places. A row is the points
+// of one j and k, and a run goes on over row ends. The model's parts stand in two flat arrays, as
+// `model::lay_out` leaves them.
 ghost use mathlib.Core.Path.{_≡_};
 ghost use mathlib.Core.Bool.{cond};
 ghost use mathlib.Core.List.{map};
@@ -8,11 +9,12 @@ ghost use lib.Dec.{eqb};
 ghost use lib.ListN.{length, getD};
 ghost use Rattle.lists.specs.Tabulate.{tabulate};
 ghost use Rattle.lists.specs.Filled.{filled};
+ghost use Rattle.geometry.specs.Index.{indicesOf};
 ghost use Rattle.model.specs.Flat.{flatOf};
 ghost use Rattle.model.specs.Part.{past, partIn};
 ghost use Rattle.dense_field.specs.Field.{pointsOf};
-ghost use Rattle.dense_field.specs.Lent.{Lent};
-ghost use Rattle.dense_field.specs.Runs.{axisPoint, flatAt, sampleCause, sampleOutcome};
+ghost use Rattle.dense_field.specs.Lent.{Lent, Run};
+ghost use Rattle.dense_field.specs.Runs.{axisPoint, RunPoints, flatAt, sampleCause, sampleOutcome};
 ghost use Rattle.dense_field.specs.Sampling.{sampled};
 use crate::Outcome;
 use crate::count;
@@ -28,15 +30,83 @@ fn axis_point(origin: f64, cell: f64, i: usize) -> f64
     origin + cell * float::from_count(i as u64)
 }
 
-// Where `count` points of an axis stand, from number `from` on.
-fn fill_along(origin: f64, cell: f64, from: usize, places: &mut [f64], count: usize)
-    requires { ⌜ (count ≤ length (now places)) × (from + count ≤ 16777216) ⌝ }
-    ensures { λ _. ⌜ now (places .exit) ≡ filled 0 count (λ t. axisPoint origin cell (from + t)) (now (places .entry)) ⌝ }
+// Where `count` points of an axis stand, from number `from` on, at the places from `at` on.
+fn fill_along(origin: f64, cell: f64, from: usize, places: &mut [f64], at: usize, count: usize)
+    requires { ⌜ (at + count ≤ length (now places)) × (from + count ≤ 16777216) ⌝ }
+    ensures { λ _. ⌜ now (places .exit) ≡ filled at count (λ q. axisPoint origin cell (from + (q - at))) (now (places .entry)) ⌝ }
 {
     let mut t = 0;
     while t < count {
-        places[t] = axis_point(origin, cell, from + t);
+        places[at + t] = axis_point(origin, cell, from + t);
         t += 1;
+    }
+}
+
+// Where `count` points of a row stand, from `first` on, at the places from `at` on. The last clause
+// hands on what only a loan as a slice tells: that an array has its length.
+fn fill_stretch(
+    origin: Vec3,
+    cell: f64,
+    first: Vec3i,
+    px: &mut [f64; 64],
+    py: &mut [f64; 64],
+    pz: &mut [f64; 64],
+    at: usize,
+    count: usize,
+)
+    requires { ⌜ (at + count ≤ 64) × (first .i + count ≤ 16777216) ⌝ }
+    ensures { λ _. ⌜ now (px .exit) ≡ filled at count (λ q. axisPoint (origin .x) cell (first .i + (q - at))) (now (px .entry)) ⌝ }
+    ensures { λ _. ⌜ now (py .exit) ≡ filled at count (λ _. axisPoint (origin .y) cell (first .j)) (now (py .entry)) ⌝ }
+    ensures { λ _. ⌜ now (pz .exit) ≡ filled at count (λ _. axisPoint (origin .z) cell (first .k)) (now (pz .entry)) ⌝ }
+    ensures { λ _. ⌜ (length (now (px .entry)) ≡ 64) × (length (now (py .entry)) ≡ 64) × (length (now (pz .entry)) ≡ 64) ⌝ }
+{
+    fill_along(origin.x, cell, first.i, px, at, count);
+    let y = axis_point(origin.y, cell, first.j);
+    pad::fill(y, py, at, count);
+    let z = axis_point(origin.z, cell, first.k);
+    pad::fill(z, pz, at, count);
+}
+
+// The indices of a place.
+fn point_at(n: Vec3i, at: usize) -> Vec3i
+    requires { ⌜ (0 < n .i) × (0 < n .j) × (n .i * n .j ≤ 16777216) ⌝ }
+    ensures { λ r. ⌜ r ≡ indicesOf at (n .i) (n .j) ⌝ }
+{
+    let slab = n.i * n.j;
+    let rest = at % slab;
+    Vec3i::new(rest % n.i, rest / n.i, at / slab)
+}
+
+// The lesser of two numbers above 0.
+fn lesser(a: usize, b: usize) -> usize
+    requires { ⌜ (0 < a) × (0 < b) ⌝ }
+    ensures { λ r. ⌜ (0 < r) × (r ≤ a) × (r ≤ b) ⌝ }
+{
+    if a < b { a } else { b }
+}
+
+// Where the points of `len` places stand, from place `at` on. Those of one row go together.
+fn fill_points(
+    origin: Vec3,
+    cell: f64,
+    n: Vec3i,
+    at: usize,
+    len: usize,
+    px: &mut [f64; 64],
+    py: &mut [f64; 64],
+    pz: &mut [f64; 64],
+)
+    requires { ⌜ Run n at len ⌝ }
+    ensures { λ _. ⌜ RunPoints origin cell n at len (now (px .exit)) (now (py .exit)) (now (pz .exit)) ⌝ }
+{
+    let mut first = point_at(n, at);
+    let mut t: usize = 0;
+    while t < len {
+        let count = lesser(n.i - first.i, len - t);
+        fill_stretch(origin, cell, first, px, py, pz, t, count);
+        let last = Vec3i::new(first.i + (count - 1), first.j, first.k);
+        first = geometry::next_indices(last, n.i, n.j);
+        t += count;
     }
 }
 
@@ -52,15 +122,8 @@ fn copy_run(results: &[f64], values: &mut [f64], at: usize, count: usize)
     }
 }
 
-// How many points a run has where so many are left.
-fn run_length(left: usize) -> usize
-    requires { ⌜ 0 < left ⌝ }
-    ensures { λ r. ⌜ (0 < r) × (r ≤ left) × (r ≤ 64) ⌝ }
-{
-    if left < 64 { left } else { 64 }
-}
-
-// The values at `len` points of a row, from number i on.
+// The values at the `len` places from `at` on, whatever rows they are in. The four rows of 64 are
+// lent, and hold the points and the results of the run.
 fn sample_run(
     words: &[u32; 192],
     numbers: &[f64; 256],
@@ -68,61 +131,45 @@ fn sample_run(
     origin: Vec3,
     cell: f64,
     n: Vec3i,
-    first: Vec3i,
+    at: usize,
     len: usize,
     scratch: &mut [f64; 4096],
+    px: &mut [f64; 64],
+    py: &mut [f64; 64],
+    pz: &mut [f64; 64],
+    results: &mut [f64; 64],
     values: &mut [f64],
 )
     requires { ⌜ Lent n (length (now values)) ⌝ }
-    requires { ⌜ (first .i + len ≤ n .i) × (first .j < n .j) × (first .k < n .k) × (len ≤ 64) ⌝ }
-    ensures { λ _. ⌜ now (values .exit) ≡ filled (first .k * (n .i * n .j) + first .j * n .i + first .i) len (flatAt (flatOf (now (words .entry)) (now (numbers .entry))) (min count 64) origin cell n) (now (values .entry)) ⌝ }
+    requires { ⌜ (at + len ≤ length (now values)) × (len ≤ 64) ⌝ }
+    ensures { λ _. ⌜ now (values .exit) ≡ filled at len (flatAt (flatOf (now (words .entry)) (now (numbers .entry))) (min count 64) origin cell n) (now (values .entry)) ⌝ }
 {
-    let mut px = [0.0; 64];
-    let mut py = [0.0; 64];
-    let mut pz = [0.0; 64];
-    let mut results = [0.0; 64];
-    fill_along(origin.x, cell, first.i, &mut px, len);
-    let y = axis_point(origin.y, cell, first.j);
-    pad::fill(y, &mut py, 0, len);
-    let z = axis_point(origin.z, cell, first.k);
-    pad::fill(z, &mut pz, 0, len);
-    model::evaluate_row_into(
-        words,
-        numbers,
-        count,
-        &px,
-        &py,
-        &pz,
-        len,
-        scratch,
-        &mut results,
-    );
-    let at = first.k * (n.i * n.j) + first.j * n.i + first.i;
-    copy_run(&results, values, at, len);
+    fill_points(origin, cell, n, at, len, px, py, pz);
+    model::evaluate_row_into(words, numbers, count, px, py, pz, len, scratch, results);
+    copy_run(results, values, at, len);
 }
 
-// The values at the points of a row.
-fn sample_row(
+// The values at all places, in runs of up to 64.
+fn sample_places(
     words: &[u32; 192],
     numbers: &[f64; 256],
     count: usize,
     origin: Vec3,
     cell: f64,
     n: Vec3i,
-    j: usize,
-    k: usize,
     scratch: &mut [f64; 4096],
+    px: &mut [f64; 64],
+    py: &mut [f64; 64],
+    pz: &mut [f64; 64],
+    results: &mut [f64; 64],
     values: &mut [f64],
 )
     requires { ⌜ Lent n (length (now values)) ⌝ }
-    requires { ⌜ (j < n .j) × (k < n .k) ⌝ }
-    ensures { λ _. ⌜ now (values .exit) ≡ filled (k * (n .i * n .j) + j * n .i) (n .i) (flatAt (flatOf (now (words .entry)) (now (numbers .entry))) (min count 64) origin cell n) (now (values .entry)) ⌝ }
+    ensures { λ _. ⌜ now (values .exit) ≡ tabulate (pointsOf n) (flatAt (flatOf (now (words .entry)) (now (numbers .entry))) (min count 64) origin cell n) ⌝ }
 {
-    let row = n.i;
-    let mut i = 0;
-    while i < row {
-        let len = run_length(row - i);
-        let first = Vec3i::new(i, j, k);
+    let mut at = 0;
+    while at < values.len() {
+        let len = lesser(values.len() - at, 64);
         sample_run(
             words,
             numbers,
@@ -130,47 +177,16 @@ fn sample_row(
             origin,
             cell,
             n,
-            first,
+            at,
             len,
             scratch,
+            px,
+            py,
+            pz,
+            results,
             values,
         );
-        i += len;
-    }
-}
-
-// The values at all points, row by row.
-fn sample_rows(
-    words: &[u32; 192],
-    numbers: &[f64; 256],
-    count: usize,
-    origin: Vec3,
-    cell: f64,
-    n: Vec3i,
-    scratch: &mut [f64; 4096],
-    values: &mut [f64],
-)
-    requires { ⌜ Lent n (length (now values)) ⌝ }
-    ensures { λ _. ⌜ now (values .exit) ≡ tabulate (pointsOf n) (flatAt (flatOf (now (words .entry)) (now (numbers .entry))) (min count 64) origin cell n) ⌝ }
-{
-    let rows = n.j * n.k;
-    let mut r = 0;
-    while r < rows {
-        let j = r % n.j;
-        let k = r / n.j;
-        sample_row(
-            words,
-            numbers,
-            count,
-            origin,
-            cell,
-            n,
-            j,
-            k,
-            scratch,
-            values,
-        );
-        r += 1;
+        at += len;
     }
 }
 
@@ -210,7 +226,11 @@ pub fn sample(
     model::lay_out(model, &mut words, &mut numbers);
     let count = model.count as usize;
     let mut scratch = [0.0; 4096];
-    sample_rows(
+    let mut px = [0.0; 64];
+    let mut py = [0.0; 64];
+    let mut pz = [0.0; 64];
+    let mut results = [0.0; 64];
+    sample_places(
         &words,
         &numbers,
         count,
@@ -218,6 +238,10 @@ pub fn sample(
         cell,
         n,
         &mut scratch,
+        &mut px,
+        &mut py,
+        &mut pz,
+        &mut results,
         values,
     );
     Outcome::Done

@@ -1,9 +1,15 @@
 // Reading a list of stored cases: words, numbers of 16 lowercase hexadecimal digits, and decimal numbers.
+// Writing the answers.
 ghost use mathlib.Core.Path.{_≡_};
 ghost use Prim.Native.Nat.{_<_, _≤_};
 ghost use lib.ListN.{length};
 ghost use Rattle.vectors.specs.Line.{LineEnd};
 ghost use Rattle.vectors.specs.Text.{byteAt, digitOf, hexAt, hasWord, joined, rowAt};
+
+mod fields; // fields.rt: a line's numbers, read and written
+
+pub use fields::read_fields;
+pub use fields::write_fields;
 
 // What stands where a number is looked for.
 pub enum Hex {

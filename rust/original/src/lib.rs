@@ -3,9 +3,14 @@
 //! Each file is included into a module at its original place. What the shared
 //! folder does not have is a stub with the signatures that the files use, in
 //! `types/`.
-//! `parts.rs` is ours: the shapes and operations of a model as components of
-//! the original, and the way to its evaluation.
+//! Ours are `parts.rs`, the shapes and operations of a model as components of
+//! the original, and the way to its evaluation; `dense.rs` with `cursors.rs`,
+//! the way to the dense field and to its walks from any cursor; `inside.rs`,
+//! which reads the sparse field's private parts; and `benched.rs`, the way to
+//! what the benchmark calls.
 
+pub mod benched;
+pub mod dense;
 pub mod parts;
 
 /// Asked for by the original's model; nothing here reads it.
@@ -75,12 +80,14 @@ pub mod types {
         pub mod data {
             pub mod field_iterator {
                 shared!("types--computation--data--field_iterator");
+                pub mod cursors;
             }
             mod dense_field {
                 shared!("types--computation--data--dense_field");
             }
             mod sparse_field {
                 shared!("types--computation--data--sparse_field");
+                pub mod inside;
             }
             pub use dense_field::*;
             pub use sparse_field::*;

@@ -216,7 +216,7 @@ impl Model {
 
 /// The original's computation graph.
 pub struct Graph<'a> {
-    graph: ComputationGraph<'a, f64>,
+    pub(crate) graph: ComputationGraph<'a, f64>,
 }
 
 impl Graph<'_> {

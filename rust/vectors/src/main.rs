@@ -1,9 +1,13 @@
 //! Writes the lists of stored cases. The same list comes out each time.
 //!
-//! usage: vectors float|model
+//! usage: vectors float|model|dense|grid [answers]
 
 mod bits;
+mod dense;
+mod fields;
 mod floats;
+mod grid_rules;
+mod grids;
 mod models;
 mod random;
 
@@ -11,12 +15,17 @@ use std::io::{self, Write};
 use std::process::ExitCode;
 
 fn main() -> ExitCode {
-    let wanted = std::env::args().nth(1);
-    let text = match wanted.as_deref() {
-        Some("float") => floats::list(),
-        Some("model") => models::list(),
+    let words: Vec<String> = std::env::args().skip(1).collect();
+    let words: Vec<&str> = words.iter().map(String::as_str).collect();
+    let text = match words[..] {
+        ["float"] => floats::list(),
+        ["model"] => models::list(),
+        ["dense"] => dense::list().cases,
+        ["dense", "answers"] => dense::list().answers,
+        ["grid"] => grids::list().cases,
+        ["grid", "answers"] => grids::list().answers,
         _ => {
-            eprintln!("usage: vectors float|model");
+            eprintln!("usage: vectors float|model|dense|grid [answers]");
             return ExitCode::from(2);
         }
     };

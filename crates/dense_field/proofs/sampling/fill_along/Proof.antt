@@ -4,7 +4,7 @@ use native.Mathlib.Omega.{arith}
 use borrow.Author.Needs.{needs}
 use lib.Ieee.{Float}
 use Prim.Native.Nat.{ℕ, _+_, _≤_, _-_}
-use lib.ListN.{length, set}
+use lib.ListN.{length}
 use Rattle.lists.specs.Filled.{filled}
 use Rattle.lists.proofs.Filling.{filled-none, filled-length, filled-store, filled-done}
 use Rattle.dense_field.specs.Runs.{axisPoint}
@@ -12,10 +12,10 @@ use Rattle.dense_field.proofs.sampling.fill_along.Statement.{statement}
 use Rattle.dense_field.proofs.sampling.fill_along.Tie as tie
 
 abbrev Inv-loop : tie.InvT-loop
-Inv-loop origin cell from places₀ count t₀ places t = (t ≤ count) × (length places ≡ length places₀) × (places ≡ filled 0 t (λ s. axisPoint origin cell (from + s)) places₀)
+Inv-loop origin cell from places₀ at count t₀ places t = (t ≤ count) × (length places ≡ length places₀) × (places ≡ filled at t (λ q. axisPoint origin cell (from + (q - at))) places₀)
 
 abbrev μ-loop : tie.MeasureT-loop
-μ-loop origin cell from places₀ count t₀ places t = count - t
+μ-loop origin cell from places₀ at count t₀ places t = count - t
 
 loop-holds : tie.Need-loop-holds Inv-loop μ-loop
 loop-holds c = (search needs, search needs, sym (filled-none _ _ _))
@@ -25,6 +25,9 @@ add-axis-point c = search needs
 
 axis-point-requires : tie.Need-axis-point-requires Inv-loop μ-loop
 axis-point-requires c κs = search needs
+
+add-places : tie.Need-add-places Inv-loop μ-loop
+add-places c = search needs
 
 mul-places : tie.Need-mul-places Inv-loop μ-loop
 mul-places c = search needs
@@ -42,11 +45,9 @@ loop-again : tie.Need-loop-again Inv-loop μ-loop
 loop-again c =
     let s = c .before .before .loop in
     let a = c .before .before .before .before .args in
-    let g : ℕ → Float = λ m. axisPoint (a .origin) (a .cell) (a .from + m) in
-    let here : s .t ≡ 0 + s .t = omega arith in
-    let next =
-    ap (λ m. set (s .places) m (c .axis-point .result)) here
-    ∙ filled-store 0 (s .t) g (a .places .now) (s .inv .2) (c .axis-point .ensures ∙ ap g here) in
+    let g : ℕ → Float = λ q. axisPoint (a .origin) (a .cell) (a .from + (q - a .at)) in
+    let here : a .from + s .t ≡ a .from + (a .at + s .t - a .at) = omega arith in
+    let next = filled-store (a .at) (s .t) g (a .places .now) (s .inv .2) (c .axis-point .ensures ∙ ap (axisPoint (a .origin) (a .cell)) here) in
     (search needs, ap length next ∙ filled-length _ _ _ _, next)
 
 same-length : tie.Need-same-length Inv-loop μ-loop
@@ -64,6 +65,7 @@ fill-along-spec =
     loop-holds
     add-axis-point
     axis-point-requires
+    add-places
     mul-places
     slice-write-places
     add-t

@@ -26,9 +26,10 @@ lay-out-requires c κs = search needs
 cast-count : tie.Need-cast-count
 cast-count c = search needs
 
-sample-rows-requires : tie.Need-sample-rows-requires
-sample-rows-requires c κs =
-    let none = sym (c .before .before .before .before .before .before .before .before .before .sample-cause .ensures) ∙ c .before .before .before .before .before .before .before .before .if1 .left in
+sample-places-requires : tie.Need-sample-places-requires
+sample-places-requires c κs =
+    let s = c .before .before .before .before .before .before .before .before .before .before .before .before in
+    let none = sym (s .before .sample-cause .ensures) ∙ s .if1 .left in
     lent _ _ (passed _ _ _ _ _ none .right-length)
 
 same-length : tie.Need-same-length
@@ -37,12 +38,14 @@ same-length c = search needs
 returns-2 : tie.Need-returns-2
 unfolding sampleOutcome
 returns-2 c =
-    let a = c .before .before .before .before .before .before .before .before .before .before .before .before .before .before .args in
-    let none = sym (c .before .before .before .before .before .before .before .before .before .before .before .before .sample-cause .ensures) ∙ c .before .before .before .before .before .before .before .before .before .before .before .if1 .left in
-    let laid = c .before .before .before .before .before .before .before .before .lay-out .ensures in
+    let places = c .before .before in
+    let laid = places .before .before .before .before .before .before .before .before .before .before in
+    let s = laid .before .before .before in
+    let a = s .before .before .before .args in
+    let none = sym (s .before .sample-cause .ensures) ∙ s .if1 .left in
     let zero = ap (λ m. eqb m 0) none in
     let in-order = passed _ _ _ _ _ none .in-order in
-    (rw zero refl, rw zero (c .before .before .sample-rows .ensures ∙ flat-sampled (a .model) _ (a .origin) (a .cell) (a .n) in-order (laid .1) (laid .0)))
+    (rw zero refl, rw zero (places .sample-places .ensures ∙ flat-sampled (a .model) _ (a .origin) (a .cell) (a .n) in-order (laid .lay-out .ensures .1) (laid .lay-out .ensures .0)))
 
 pub sample-spec : {M : Type 1} → statement M
 sample-spec =
@@ -52,6 +55,6 @@ sample-spec =
     returns
     lay-out-requires
     cast-count
-    sample-rows-requires
+    sample-places-requires
     same-length
     returns-2)

@@ -1,0 +1,35 @@
+-- A model, a box and a grid, from numbers.
+use Prim.Native.Nat.{ℕ, _+_}
+use mathlib.Core.List.{List}
+use lib.ListN.{getD}
+use lib.Ieee.{Float}
+use Rattle.lists.specs.Tabulate.{tabulate}
+use Rattle.geometry.specs.declared.BoundingBox.{BoundingBox}
+use Rattle.geometry.specs.Values.{vec3, box}
+use Rattle.grid.specs.declared.Grid.{Grid}
+use Rattle.model.specs.declared.Part.{Part}
+use Rattle.model.specs.declared.ModelComponent.{ModelComponent}
+use Rattle.model.specs.declared.ImplicitModel.{ImplicitModel}
+use Rattle.model.specs.Flat.{Flat, partFrom}
+use Rattle.model.specs.Part.{past}
+
+abbrev pub boxGiven : (x0 y0 z0 x1 y1 z1 : Float) → BoundingBox
+boxGiven x0 y0 z0 x1 y1 z1 = box (vec3 x0 y0 z0) (vec3 x1 y1 z1)
+
+abbrev pub gridGiven : BoundingBox → Float → (inner leaf : ℕ) → Grid
+gridGiven bounds cell inner leaf = record { bounds = bounds; cell = cell; inner = inner; leaf = leaf }
+
+-- the part that two lists have at a place, whatever its inputs are
+unfoldable pub partGiven : Flat → ℕ → Part
+partGiven l p =
+    partFrom (getD (l .words) p 0)
+    (vec3 (getD (l .numbers) p past) (getD (l .numbers) (64 + p) past) (getD (l .numbers) (128 + p) past))
+    (getD (l .numbers) (192 + p) past)
+    (getD (l .words) (64 + p) 0)
+    (getD (l .words) (128 + p) 0)
+
+abbrev pub componentGiven : Flat → ℕ → ModelComponent
+componentGiven l p = record { part = partGiven l p }
+
+abbrev pub modelGiven : Flat → ℕ → ImplicitModel
+modelGiven l count = record { parts = tabulate 64 (componentGiven l); count = count }

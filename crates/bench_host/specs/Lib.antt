@@ -1,0 +1,3 @@
+-- What the exported functions take and answer, in numbers.
+pub mod Answers
+pub mod Given

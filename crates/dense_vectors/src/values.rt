@@ -1,0 +1,81 @@
+// Calls that change a field's values. The values end the case, and what they are after ends the
+// answer.
+ghost use Prim.Native.Nat.{_<_, _≤_};
+ghost use lib.ListN.{length};
+use crate::numbers;
+
+// What each value of the scratch is before a call.
+const BEFORE: f64 = 100.0;
+
+// `pad`: the dimensions, the value to set, the values.
+pub fn pad(fields: &[u64; 160], values: &mut [f64], answers: &mut [u64; 160]) -> usize
+    requires { ⌜ length (now values) ≤ 150 ⌝ }
+    ensures { λ r. ⌜ (0 < r) × (r ≤ 160) ⌝ }
+{
+    let len = values.len();
+    let n = numbers::counts_at(fields, 0);
+    let value = numbers::float_at(fields, 3);
+    numbers::values_at(fields, 4, values);
+    let done = dense_field::padding(n, value, values);
+    answers[0] = numbers::outcome(done);
+    numbers::put_values(answers, 1, values, len);
+    1 + len
+}
+
+// `threshold`: the dimensions, the limit, the values.
+pub fn threshold(fields: &[u64; 160], values: &mut [f64], answers: &mut [u64; 160]) -> usize
+    requires { ⌜ length (now values) ≤ 150 ⌝ }
+    ensures { λ r. ⌜ (0 < r) × (r ≤ 160) ⌝ }
+{
+    let len = values.len();
+    let n = numbers::counts_at(fields, 0);
+    let limit = numbers::float_at(fields, 3);
+    numbers::values_at(fields, 4, values);
+    let done = dense_field::threshold(n, limit, values);
+    answers[0] = numbers::outcome(done);
+    numbers::put_values(answers, 1, values, len);
+    1 + len
+}
+
+// Whether every value has these bits.
+fn all_have(values: &[f64], bits: u64) -> bool {
+    let mut i = 0;
+    while i < values.len() {
+        if float::to_bits(values[i]) != bits {
+            return false;
+        }
+        i += 1;
+    }
+    true
+}
+
+// What a call left of the scratch: 1 what it was before, 0 every value +0, 2 anything else.
+fn scratch_after(scratch: &[f64]) -> u64 {
+    if all_have(scratch, float::to_bits(BEFORE)) {
+        return 1;
+    }
+    if all_have(scratch, 0) { 0 } else { 2 }
+}
+
+// `smooth`: the dimensions, the factor, the rounds, the scratch's length, the values.
+pub fn smooth(
+    fields: &[u64; 160],
+    values: &mut [f64],
+    scratch: &mut [f64],
+    answers: &mut [u64; 160],
+) -> usize
+    requires { ⌜ length (now values) ≤ 150 ⌝ }
+    ensures { λ r. ⌜ (0 < r) × (r ≤ 160) ⌝ }
+{
+    let len = values.len();
+    let n = numbers::counts_at(fields, 0);
+    let factor = numbers::float_at(fields, 3);
+    let rounds = numbers::short_at(fields, 4);
+    numbers::values_at(fields, 6, values);
+    numbers::set_all(scratch, BEFORE);
+    let done = dense_field::smooth(n, factor, rounds, values, scratch);
+    answers[0] = numbers::outcome(done);
+    answers[1] = scratch_after(scratch);
+    numbers::put_values(answers, 2, values, len);
+    2 + len
+}

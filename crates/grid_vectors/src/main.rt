@@ -1,0 +1,75 @@
+// Answers the stored cases of the grid that standard input holds: a line each, and a line for each.
+ghost use Prim.Native.Nat.{_<_, _≤_};
+
+mod case; // case.rt: what a case's numbers stand for, and those of an answer
+mod corners; // corners.rt: the corner list
+mod jobs; // jobs.rt: the causes of open
+mod nodes; // nodes.rt: nodes, children, activity
+mod points; // points.rt: corner and leaf points
+mod pruning; // pruning.rt: the pruning rule
+mod words; // words.rt: the words of the cases
+
+// The answer to a case with this word.
+fn answer(word: u64, fields: &[u64; 160], answers: &mut [u64; 160]) -> usize
+    ensures { λ r. ⌜ (0 < r) × (r ≤ 160) ⌝ }
+{
+    let a = nodes::answer(word, fields, answers);
+    if a > 0 {
+        return a;
+    }
+    let b = points::answer(word, fields, answers);
+    if b > 0 {
+        return b;
+    }
+    let c = pruning::answer(word, fields, answers);
+    if c > 0 {
+        return c;
+    }
+    let d = corners::answer(word, fields, answers);
+    if d > 0 {
+        return d;
+    }
+    let e = jobs::answer(word, fields, answers);
+    if e > 0 {
+        return e;
+    }
+    case::put_off(answers)
+}
+
+// The answer to a line.
+fn answer_to(line: &[u8], answers: &mut [u64; 160]) -> usize
+    ensures { λ r. ⌜ (0 < r) × (r ≤ 160) ⌝ }
+{
+    let word = words::word_of(line);
+    let mut fields = case::zeros();
+    if vectors::read_fields(line, words::word_end(line), &mut fields) != words::numbers_of(word) {
+        return case::put_off(answers);
+    }
+    answer(word, &fields, answers)
+}
+
+fn answer_line(line: &[u8]) {
+    let mut answers = case::zeros();
+    let count = answer_to(line, &mut answers);
+    vectors::write_fields(&answers, count);
+}
+
+fn answer_lines(text: &[u8]) {
+    let mut at = 0;
+    while at < text.len() {
+        let end = vectors::line_end(text, at);
+        answer_line(&text[at..end]);
+        at = end;
+    }
+}
+
+// Room for the whole of standard input.
+fn room() -> [u8; 655360] {
+    [0; 655360]
+}
+
+fn main() {
+    let mut text = room();
+    let n = io::read_full(0, &mut text);
+    answer_lines(&text[..n]);
+}
