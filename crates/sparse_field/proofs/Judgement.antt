@@ -11,6 +11,7 @@ use lib.ListN.{length, getD, take}
 use lib.Seq.{getD-take, length-take-le}
 use lib.Ieee.{Float}
 use borrow.Author.Tests.{eq-eqb, ne-eqb, eqb-true, eqb-false, lt-ltb, le-ltb, ltb-true, ltb-false, not-false}
+use Rattle.lists.proofs.Tests.{or-left, or-right, and-left, and-right}
 use Rattle.geometry.specs.Causes.{cause, firstOf}
 use Rattle.model.specs.declared.ImplicitModel.{ImplicitModel}
 use Rattle.model.specs.Model.{refusedByFour}
@@ -45,17 +46,18 @@ use Rattle.sparse_field.proofs.FlagLaws.{nonzero-true}
 
 -- ---- an input without a cause
 
-or-left : (a b : Bool) → (a || b) ≡ false → a ≡ false
-or-left true b e = e
-or-left false b e = refl
-
-pub record NoCause (g : Grid) (l : Lengths) : Type 0 where
+pub record NoCause (g : Grid) (m : ImplicitModel) (l : Lengths) : Type 0 where
   pub two : refusedByTwo g ≡ false
+  pub four : refusedByFour m ≡ false
   pub five : refusedByFive g ≡ false
   pub long : nodesOf g * cube (g .inner) ≤ l .kinds
+  pub numbers : nodesOf g * cube (g .inner) ≤ l .numbers
+  pub places : nodesOf g * cube (g .inner) ≤ l .places
+  pub corners : cube (g .inner + 1) ≤ l .corners
+  pub store : counting.activeOf g * cube (g .leaf) ≤ l .store
 
-pub no-cause : (g : Grid) (band : Band) (m : ImplicitModel) (l : Lengths) → numberOf (refusalOf g band m l) ≡ 0 → NoCause g l
-unfolding refusalOf openCauses firstOf refusedBySix childrenOf
+pub no-cause : (g : Grid) (band : Band) (m : ImplicitModel) (l : Lengths) → numberOf (refusalOf g band m l) ≡ 0 → NoCause g m l
+unfolding refusalOf openCauses firstOf refusedBySix childrenOf storeNeeded
 no-cause g band m l e =
     let b = all (refusedByOne g) (refusedByTwo g) (refusedByThree band) (refusedByFour m) (refusedByFive g) (refusedBySix g l) e in
     let n = nodesOf g * cube (g .inner) in
@@ -63,22 +65,31 @@ no-cause g band m l e =
     let numbers = ltb (l .numbers) n in
     let places = ltb (l .places) n in
     let corners = ltb (l .corners) (cube (g .inner + 1)) in
+    let store = ltb (l .store) (counting.activeOf g * cube (g .leaf)) in
+    let four = or-left (kinds || numbers || places || corners) store (b .3) in
+    let three = or-left (kinds || numbers || places) corners four in
+    let two = or-left (kinds || numbers) places three in
     record {
       two = b .0;
-      five = b .1;
-      long = ltb-false (l .kinds) n (or-left kinds numbers (or-left (kinds || numbers) places (or-left (kinds || numbers || places) corners (or-left (kinds || numbers || places || corners) (ltb (l .store) (storeNeeded g)) (b .2)))));
+      four = b .1;
+      five = b .2;
+      long = ltb-false (l .kinds) n (or-left kinds numbers two);
+      numbers = ltb-false (l .numbers) n (or-right kinds numbers two);
+      places = ltb-false (l .places) n (or-right (kinds || numbers) places three);
+      corners = ltb-false (l .corners) (cube (g .inner + 1)) (or-right (kinds || numbers || places) corners four);
+      store = ltb-false (l .store) (counting.activeOf g * cube (g .leaf)) (or-right (kinds || numbers || places || corners) store (b .3));
     }
   where
     all : (b1 b2 b3 b4 b5 b6 : Bool)
         → numberOf (firstOf (cause b1 1 ∷ cause b2 2 ∷ cause b3 3 ∷ cause b4 4 ∷ cause b5 5 ∷ cause b6 6 ∷ []) By None) ≡ 0
-        → (b2 ≡ false) × (b5 ≡ false) × (b6 ≡ false)
+        → (b2 ≡ false) × (b4 ≡ false) × (b5 ≡ false) × (b6 ≡ false)
     all true b2 b3 b4 b5 b6 e = absurd (omega arith)
     all false true b3 b4 b5 b6 e = absurd (omega arith)
     all false false true b4 b5 b6 e = absurd (omega arith)
     all false false false true b5 b6 e = absurd (omega arith)
     all false false false false true b6 e = absurd (omega arith)
     all false false false false false true e = absurd (omega arith)
-    all false false false false false false e = (refl, refl, refl)
+    all false false false false false false e = (refl, refl, refl, refl)
 
 -- ---- kinds that are found right
 
@@ -87,15 +98,6 @@ beq-true true true e = refl
 beq-true true false e = sym e
 beq-true false true e = e
 beq-true false false e = refl
-
-and-left : (a b : Bool) → (a && b) ≡ true → a ≡ true
-and-left true b e = refl
-and-left false b e = e
-
-and-right : (a b : Bool) → (a && b) ≡ true → b ≡ true
-and-right true b e = e
-and-right false true e = refl
-and-right false false e = e
 
 active-from : (P : Plan) (j : ℕ) (l : List ℕ) → sameActive P j l ≡ true → (i : ℕ) → i < length l → nonzero (getD l i 0) ≡ activeAt P (j + i)
 unfolding sameActive
@@ -410,7 +412,7 @@ module _ (r : Record) (ks : List ℕ) (ns : List Float) (ps : List ℕ) (st cs :
   impossible-cause a = judged-first meetsCause otherLengths otherKinds otherCounts manyEvaluations otherCursor manyLeaves noLeaf a
 
   module _ (a : meetsCause ≡ false) where
-    pub possible-input : NoCause (r .input .grid) lentNow
+    pub possible-input : NoCause (r .input .grid) (r .input .model) lentNow
     possible-input = no-cause (r .input .grid) (r .input .band) (r .input .model) lentNow (eqb-true _ 0 (not-false _ a))
 
     pub impossible-lengths : otherLengths ≡ true → true ≡ isImpossible

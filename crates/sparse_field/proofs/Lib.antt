@@ -8,6 +8,9 @@ pub mod NodeKinds
 pub mod NodeLaws
 pub mod JobLaws
 pub mod Judgement
+pub mod Opening
+pub mod Results
+pub mod Demand
 pub mod AroundLaws
 pub mod Searching
 pub mod Writing

@@ -12,5 +12,6 @@ pub mod Records
 pub mod Progress
 pub mod Startable
 pub mod Calls
+pub mod Lists
 pub mod Flags
 pub mod Judged

@@ -1,5 +1,5 @@
 -- The record that the code hands on, and the schedule's record that it stands for.
-use Prim.Native.Nat.{ℕ}
+use Prim.Native.Nat.{ℕ, _*_}
 use mathlib.Core.Bool.{Bool, true, false}
 use mathlib.Core.List.{List}
 use lib.ListN.{replicate}
@@ -111,3 +111,13 @@ recordOut (job j) = jobOut j
 abbrev pub cursorAt : Stop → Cursor
 cursorAt Through = End
 cursorAt (At a) = a
+
+-- the record of an input's job: its lengths, its counts, and where it has come to
+abbrev pub recordAt : Input → grids.Lengths → (nodes active leaves points evaluations : ℕ) → Stop → Record
+recordAt i l nodes active leaves points evaluations stop = record {
+  job = true;
+  input = i;
+  lengths = l;
+  counts = record { nodes = nodes; active = active; leaves = leaves; sampled = leaves * points; evaluations = evaluations };
+  cursor = cursorAt stop;
+}

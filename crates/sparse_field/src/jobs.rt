@@ -2,7 +2,7 @@
 ghost use mathlib.Core.Path.{_≡_};
 ghost use mathlib.Core.Bool.{false};
 ghost use mathlib.Core.List.{[]};
-ghost use Prim.Native.Nat.{_-_, _+_, _*_, _≤_, _<_, _^_};
+ghost use Prim.Native.Nat.{_≤_};
 ghost use Rattle.grid.specs.Blocks.{cube};
 ghost use Rattle.model.specs.Model.{refusedByFour};
 ghost use Rattle.schedule.specs.Schedule.{eventsFrom};
@@ -11,7 +11,7 @@ ghost use Rattle.sparse_field.specs.Calls.{memoryOf};
 ghost use Rattle.sparse_field.specs.Plan.{planOf};
 ghost use Rattle.sparse_field.specs.Progress.{Sized, Lent, Advanced, readingIn};
 ghost use Rattle.schedule.specs.Opened.{lengthsOf};
-ghost use Rattle.sparse_field.specs.Records.{lent, cursorIn, cursorAt, noRecord};
+ghost use Rattle.sparse_field.specs.Records.{lent, cursorIn, cursorAt, noRecord, recordAt};
 ghost use Rattle.sparse_field.specs.Startable.{Startable};
 use crate::Counts;
 use crate::Cursor;
@@ -140,5 +140,36 @@ pub fn no_record() -> Record
             evaluations: 0,
         },
         cursor: Cursor::End,
+    }
+}
+
+// The record of an input's job.
+pub fn record_of(
+    input: Input,
+    lengths: Lengths,
+    nodes: u64,
+    active: u64,
+    turn: Progress,
+    evaluations: u64,
+) -> Record
+    requires { ⌜ (turn .leaves ≤ 16777216) × (input .grid .leaf ≤ 64) ⌝ }
+    ensures { λ r. ⌜ r ≡ recordAt input lengths nodes active (turn .leaves) (cube (input .grid .leaf)) evaluations (turn .stop) ⌝ }
+{
+    let g = input.grid;
+    let leaves = turn.leaves;
+    let sampled = leaves * (grid::cube_of(g.leaf as usize) as u64);
+    let stop = turn.stop;
+    Record {
+        job: true,
+        input,
+        lengths,
+        counts: Counts {
+            nodes,
+            active,
+            leaves,
+            sampled,
+            evaluations,
+        },
+        cursor: cursor_of(stop),
     }
 }
