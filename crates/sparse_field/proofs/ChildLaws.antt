@@ -69,8 +69,11 @@ pub active-few : (g : Grid) (band : Band) (words : List ℕ) (reals : List Float
 unfolding planWith countAll
 active-few g band words reals parts sized =
     let P : Plan = plan g band words reals parts in
-    omega (arith, sized .children,
-      sumFrom-most (λ v. countOf (P .active) v (P .children)) (P .children) (λ v. sumBits-most (P .active v) (P .children)) (P .nodes) 0)
+    omega (
+      arith,
+      sized .children,
+      sumFrom-most (λ v. countOf (P .active) v (P .children)) (P .children) (λ v. sumBits-most (P .active v) (P .children)) (P .nodes) 0,
+    )
 
 -- so are the leaves before a child
 pub leaves-few : (g : Grid) (band : Band) (words : List ℕ) (reals : List Float) (parts v c leaves : ℕ) (m : Memory) → Sized g → c < cube (g .inner)
@@ -115,24 +118,24 @@ module _ (g : Grid) (band : Band) (words : List ℕ) (reals : List Float) (parts
     decided x test =
         let lies′ : child ≡ childBox (nodeBox g v) (g .inner) c = lies ∙ ap (λ n. childBox n (g .inner) c) boxed in
         let same : pruning.pruned (band .min) (band .max) (pruning.lowest (octetValues (m .corners) (g .inner) c))
-          (pruning.highest (octetValues (m .corners) (g .inner) c)) (pruning.halfDiagonal (childBox (nodeBox g v) (g .inner) c)) ≡ x
-          = sym (ap (λ l. pruning.pruned (band .min) (band .max) (pruning.lowest l) (pruning.highest l) (pruning.halfDiagonal (childBox (nodeBox g v) (g .inner) c))) read)
-            ∙ sym (ap (λ y. pruning.pruned (band .min) (band .max) (pruning.lowest octet) (pruning.highest octet) y) (half ∙ ap pruning.halfDiagonal lies′))
-            ∙ test in
+        (pruning.highest (octetValues (m .corners) (g .inner) c)) (pruning.halfDiagonal (childBox (nodeBox g v) (g .inner) c)) ≡ x
+        = sym (ap (λ l. pruning.pruned (band .min) (band .max) (pruning.lowest l) (pruning.highest l) (pruning.halfDiagonal (childBox (nodeBox g v) (g .inner) c))) read)
+        ∙ sym (ap (λ y. pruning.pruned (band .min) (band .max) (pruning.lowest octet) (pruning.highest octet) y) (half ∙ ap pruning.halfDiagonal lies′))
+        ∙ test in
         ap (λ y. cond y (constant 1 (pruning.average (octetValues (m .corners) (g .inner) c))) leaf) same
         ∙ sym (ap (λ l. cond x (constant 1 (pruning.average l)) leaf) read)
 
     -- a child that becomes a constant
     pub constant-turn : {x : Float} → pruning.pruned (band .min) (band .max) (pruning.lowest octet) (pruning.highest octet) h ≡ true → x ≡ pruning.average octet
         → ChildrenAdvanced P v c (suc c) b leaves m
-          (memoryOf (set (m .kinds) (v * r + c) 1) (set (m .numbers) (v * r + c) x) (m .places) (m .store) (m .corners)) (progress leaves b Through)
+        (memoryOf (set (m .kinds) (v * r + c) 1) (set (m .numbers) (v * r + c) x) (m .places) (m .store) (m .corners)) (progress leaves b Through)
     unfolding planWith
     constant-turn {x} test mean =
         let turn = turn-constant P v c b leaves m ready below is-active 1 (pruning.average octet) (omega arith) (decided true test) in
         subst (λ n. ChildrenAdvanced P v c (suc c) b leaves m
-          (memoryOf (set (m .kinds) (v * n + c) 1) (set (m .numbers) (v * n + c) x) (m .places) (m .store) (m .corners)) (progress leaves b Through)) (sym cubed)
+        (memoryOf (set (m .kinds) (v * n + c) 1) (set (m .numbers) (v * n + c) x) (m .places) (m .store) (m .corners)) (progress leaves b Through)) (sym cubed)
         (subst (λ y. ChildrenAdvanced P v c (suc c) b leaves m
-          (memoryOf (set (m .kinds) (v * cube (g .inner) + c) 1) (set (m .numbers) (v * cube (g .inner) + c) y) (m .places) (m .store) (m .corners)) (progress leaves b Through)) (sym mean) turn)
+        (memoryOf (set (m .kinds) (v * cube (g .inner) + c) 1) (set (m .numbers) (v * cube (g .inner) + c) y) (m .places) (m .store) (m .corners)) (progress leaves b Through)) (sym mean) turn)
 
     -- a leaf more is one of all active children
     pub leaf-inside : (leaves + 1) * cube (g .leaf) ≤ length (m .store)
@@ -145,25 +148,25 @@ module _ (g : Grid) (band : Band) (words : List ℕ) (reals : List Float) (parts
     pub leaf-turn : {store : List Float} {turn : Progress} → pruning.pruned (band .min) (band .max) (pruning.lowest octet) (pruning.highest octet) h ≡ false
         → turn ≡ leafProgress (leaves + 1) b v c 0 (cube (g .leaf))
         → store ≡ filled ((leaves + 1 - 1) * cube (g .leaf) + 0) (min b (cube (g .leaf) - 0))
-          (λ q. at (flatValue words reals parts) (leafPoint child (g .leaf) (q - (leaves + 1 - 1) * cube (g .leaf)))) (m .store)
+        (λ q. at (flatValue words reals parts) (leafPoint child (g .leaf) (q - (leaves + 1 - 1) * cube (g .leaf)))) (m .store)
         → ChildrenAdvanced P v c (suc c) b leaves m
-          (memoryOf (set (m .kinds) (v * r + c) 2) (m .numbers) (set (m .places) (v * r + c) leaves) store (m .corners)) turn
+        (memoryOf (set (m .kinds) (v * r + c) 2) (m .numbers) (set (m .places) (v * r + c) leaves) store (m .corners)) turn
     unfolding planWith boxOf
     leaf-turn {store} {turn} test goes stored =
         let lies′ : child ≡ childBox (nodeBox g v) (g .inner) c = lies ∙ ap (λ n. childBox n (g .inner) c) boxed in
         let one : leaves + 1 ≡ suc leaves = add-one leaves in
         let stored′ : store ≡ filledStore P v c 0 b (suc leaves) (m .store) =
-          stored
-          ∙ ap (λ n. filled ((n - 1) * cube (g .leaf) + 0) (min b (cube (g .leaf) - 0))
-            (λ q. at (flatValue words reals parts) (leafPoint child (g .leaf) (q - (n - 1) * cube (g .leaf)))) (m .store)) one
-          ∙ ap (λ x. filled ((suc leaves - 1) * cube (g .leaf) + 0) (min b (cube (g .leaf) - 0))
-            (λ q. at (flatValue words reals parts) (leafPoint x (g .leaf) (q - (suc leaves - 1) * cube (g .leaf)))) (m .store)) lies′ in
+        stored
+        ∙ ap (λ n. filled ((n - 1) * cube (g .leaf) + 0) (min b (cube (g .leaf) - 0))
+        (λ q. at (flatValue words reals parts) (leafPoint child (g .leaf) (q - (n - 1) * cube (g .leaf)))) (m .store)) one
+        ∙ ap (λ x. filled ((suc leaves - 1) * cube (g .leaf) + 0) (min b (cube (g .leaf) - 0))
+        (λ q. at (flatValue words reals parts) (leafPoint x (g .leaf) (q - (suc leaves - 1) * cube (g .leaf)))) (m .store)) lies′ in
         let goes′ : turn ≡ leafProgress (suc leaves) b v c 0 (cube (g .leaf)) = goes ∙ ap (λ n. leafProgress n b v c 0 (cube (g .leaf))) one in
         let whole = turn-leaf P v c b leaves m ready below is-active (decided false test) in
         subst (λ n. ChildrenAdvanced P v c (suc c) b leaves m
-          (memoryOf (set (m .kinds) (v * n + c) 2) (m .numbers) (set (m .places) (v * n + c) leaves) store (m .corners)) turn) (sym cubed)
+        (memoryOf (set (m .kinds) (v * n + c) 2) (m .numbers) (set (m .places) (v * n + c) leaves) store (m .corners)) turn) (sym cubed)
         (subst (λ l. ChildrenAdvanced P v c (suc c) b leaves m
-          (memoryOf (set (m .kinds) (v * cube (g .inner) + c) 2) (m .numbers) (set (m .places) (v * cube (g .inner) + c) leaves) l (m .corners)) turn) (sym stored′)
+        (memoryOf (set (m .kinds) (v * cube (g .inner) + c) 2) (m .numbers) (set (m .places) (v * cube (g .inner) + c) leaves) l (m .corners)) turn) (sym stored′)
         (subst (λ t. ChildrenAdvanced P v c (suc c) b leaves m
-          (memoryOf (set (m .kinds) (v * cube (g .inner) + c) 2) (m .numbers) (set (m .places) (v * cube (g .inner) + c) leaves)
-          (filledStore P v c 0 b (suc leaves) (m .store)) (m .corners)) t) (sym goes′) whole))
+        (memoryOf (set (m .kinds) (v * cube (g .inner) + c) 2) (m .numbers) (set (m .places) (v * cube (g .inner) + c) leaves)
+        (filledStore P v c 0 b (suc leaves) (m .store)) (m .corners)) t) (sym goes′) whole))

@@ -72,13 +72,13 @@ module _ (g : Grid) (band : Band) (value : Float → Float → Float → Float) 
   -- the run over the corners that one node's part needs is the plan's
   pub plan-corners : {box : BoundingBox} {i b next left : ℕ} {before after : List Float} → box ≡ nodeBox g v
       → CornerRun (corners.needed (g .inner) (kinds.nonzero (take d (drop first l)))) (λ i. plans.at value (corners.cornerPoint box (g .inner) i))
-        (cube (g .inner + 1)) i b next left before after
+      (cube (g .inner + 1)) i b next left before after
       → CornerRun (planWith g band value .needed v) (planWith g band value .cornerValue v) (planWith g band value .corners) i b next left before after
   unfolding planWith
   plan-corners {box} {i} {b} {next} {left} {before} {after} boxed run =
       subst (λ test. CornerRun test (planWith g band value .cornerValue v) (cube (g .inner + 1)) i b next left before after) (fun-ext (part-needed g band value l right long v below from size))
       (subst (λ x. CornerRun (corners.needed (g .inner) (kinds.nonzero (take d (drop first l)))) (λ i. plans.at value (corners.cornerPoint x (g .inner) i))
-        (cube (g .inner + 1)) i b next left before after) boxed run)
+      (cube (g .inner + 1)) i b next left before after) boxed run)
 
 -- ---- a run over a node's corners
 
@@ -116,7 +116,7 @@ module _ (P : Plan) (v i b leaves next left : ℕ) (m : Memory) (after : List Fl
       let rest : b - neededFrom (P .needed v) r i ≡ left = omega (arith, run .spent) in
       run-corners P v r i b (stateIn m leaves) (m .corners) (omega (arith, run .from, run .within)) (lent .corners) (omega (arith, run .spent))
       ∙ ap₂ (λ k n. runOf P k (eventsFrom P (at (corner v n)) (λ j. getD (evaluatedFrom (P .needed v) (P .cornerValue v) r i (m .corners)) j plusZero))
-          (stateIn (memoryOf (m .kinds) (m .numbers) (m .places) (m .store) (evaluatedFrom (P .needed v) (P .cornerValue v) r i (m .corners))) leaves)) rest place
+      (stateIn (memoryOf (m .kinds) (m .numbers) (m .places) (m .store) (evaluatedFrom (P .needed v) (P .cornerValue v) r i (m .corners))) leaves)) rest place
       ∙ ap (λ l. runOf P left (eventsFrom P (at (corner v next)) (λ j. getD l j plusZero)) (stateIn (memoryOf (m .kinds) (m .numbers) (m .places) (m .store) l) leaves)) (sym (run .written))
 
   -- it stops before a corner
@@ -126,9 +126,9 @@ module _ (P : Plan) (v i b leaves next left : ℕ) (m : Memory) (after : List Fl
       let stop : (left ≡ 0) × (P .needed v next ≡ true) = ⊎-elim (λ (e : next ≡ P .corners). absurd (omega arith)) (λ p. p) (run .stops) in
       record {
         same = corners-run
-          ∙ ap (λ es. runOf P left es (stateIn cornered leaves))
+            ∙ ap (λ es. runOf P left es (stateIn cornered leaves))
             (corner-evaluate P v next short (stop .1) (stateIn cornered leaves) (omega (arith, cornered-lent .corners)))
-          ∙ stopped P left (stop .0) (corner v next) (P .cornerValue v next) _ (stateIn cornered leaves);
+            ∙ stopped P left (stop .0) (corner v next) (P .cornerValue v next) _ (stateIn cornered leaves);
         lent = cornered-lent;
         atMost = tt;
       }
@@ -136,7 +136,7 @@ module _ (P : Plan) (v i b leaves next left : ℕ) (m : Memory) (after : List Fl
   -- it comes to the children
   pub corners-through : PlanLaws P → v < P .nodes → P .corners ≤ next → leaves ≤ activeBefore P v 0
       → Advanced P b leaves m cornered (eventsFrom P (at (corner v i)) (readingIn m)) (childrenLeft P v 0 (readingIn cornered)) (progress leaves left Through)
-        (activeBefore P v 0)
+      (activeBefore P v 0)
   corners-through laws node last most = record {
     same = corners-run ∙ ap (λ es. runOf P left es (stateIn cornered leaves)) (corner-last P v laws node next last (readingIn cornered));
     lent = cornered-lent;
@@ -199,7 +199,7 @@ module _ (g : Grid) (band : Band) (words : List ℕ) (reals : List Float) (parts
     (ready : Ready (plan g band words reals parts) v 0 leaves m) (n : ℕ) (cubed : n ≡ cube (g .inner))
     {box : BoundingBox} {next left : ℕ} {after : List Float} (boxed : box ≡ nodeBox g v)
     (run : CornerRun (corners.needed (g .inner) (kinds.nonzero (take (v * n + n - v * n) (drop (v * n) (m .kinds)))))
-      (λ i. plans.at (flatValue words reals parts) (corners.cornerPoint box (g .inner) i)) (cube (g .inner + 1)) i b next left (m .corners) after) where
+    (λ i. plans.at (flatValue words reals parts) (corners.cornerPoint box (g .inner) i)) (cube (g .inner + 1)) i b next left (m .corners) after) where
   abbrev P : Plan
   P = plan g band words reals parts
 
@@ -212,14 +212,14 @@ module _ (g : Grid) (band : Band) (words : List ℕ) (reals : List Float) (parts
   -- the code's corners stop before one that is needed
   pub node-at-corner : next < cube (g .inner + 1)
       → NodeAdvanced P v b leaves m (memoryOf (m .kinds) (m .numbers) (m .places) (m .store) after) (eventsFrom P (at (corner v i)) (readingIn m))
-        (progress leaves left (At (Corner v next)))
+      (progress leaves left (At (Corner v next)))
   unfolding planWith
   node-at-corner short = record { advanced = corners-stopped P v i b leaves next left m after (ready .lent) planned short; cleared = tt }
 
   -- or come to the children
   pub node-past-corners : cube (g .inner + 1) ≤ next
       → Advanced P b leaves m (memoryOf (m .kinds) (m .numbers) (m .places) (m .store) after) (eventsFrom P (at (corner v i)) (readingIn m))
-        (childrenLeft P v 0 (readingIn (memoryOf (m .kinds) (m .numbers) (m .places) (m .store) after))) (progress leaves left Through) (activeBefore P v 0)
+      (childrenLeft P v 0 (readingIn (memoryOf (m .kinds) (m .numbers) (m .places) (m .store) after))) (progress leaves left Through) (activeBefore P v 0)
   unfolding planWith
   node-past-corners last =
       corners-through P v i b leaves next left m after (ready .lent) planned (plan-laws g band (flatValue words reals parts) (sized .innerLeast)) (ready .node) last (ready .atMost)
@@ -240,19 +240,19 @@ module _ (g : Grid) (band : Band) (words : List ℕ) (reals : List Float) (parts
   pub node-points : {box child : BoundingBox} {store : List Float} {turn : Progress} → p ≤ cube (g .leaf) → box ≡ nodeBox g v → child ≡ childBox box (g .inner) c
       → turn ≡ leafProgress leaves b v c p (cube (g .leaf))
       → store ≡ filled ((leaves - 1) * cube (g .leaf) + p) (min b (cube (g .leaf) - p))
-        (λ q. plans.at (flatValue words reals parts) (leafPoint child (g .leaf) (q - (leaves - 1) * cube (g .leaf)))) (m .store)
+      (λ q. plans.at (flatValue words reals parts) (leafPoint child (g .leaf) (q - (leaves - 1) * cube (g .leaf)))) (m .store)
       → Advanced Q b leaves m (memoryOf (m .kinds) (m .numbers) (m .places) store (m .corners)) (eventsFrom Q (at (point v c p)) (readingIn m))
-        (childrenLeft Q v (suc c) (readingIn m)) turn (activeBefore Q v (suc c))
+      (childrenLeft Q v (suc c) (readingIn m)) turn (activeBefore Q v (suc c))
   unfolding planWith boxOf
   node-points {box} {child} {store} {turn} within boxed lies goes stored =
       let lies′ : child ≡ childBox (nodeBox g v) (g .inner) c = lies ∙ ap (λ x. childBox x (g .inner) c) boxed in
       let stored′ : store ≡ filledStore Q v c p b leaves (m .store) =
-        stored ∙ ap (λ x. filled ((leaves - 1) * cube (g .leaf) + p) (min b (cube (g .leaf) - p))
-          (λ q. plans.at (flatValue words reals parts) (leafPoint x (g .leaf) (q - (leaves - 1) * cube (g .leaf)))) (m .store)) lies′ in
+      stored ∙ ap (λ x. filled ((leaves - 1) * cube (g .leaf) + p) (min b (cube (g .leaf) - p))
+      (λ q. plans.at (flatValue words reals parts) (leafPoint x (g .leaf) (q - (leaves - 1) * cube (g .leaf)))) (m .store)) lies′ in
       subst (λ l. Advanced Q b leaves m (memoryOf (m .kinds) (m .numbers) (m .places) l (m .corners)) (eventsFrom Q (at (point v c p)) (readingIn m))
-        (childrenLeft Q v (suc c) (readingIn m)) turn (activeBefore Q v (suc c))) (sym stored′)
+      (childrenLeft Q v (suc c) (readingIn m)) turn (activeBefore Q v (suc c))) (sym stored′)
       (subst (λ t. Advanced Q b leaves m (memoryOf (m .kinds) (m .numbers) (m .places) (filledStore Q v c p b leaves (m .store)) (m .corners))
-        (eventsFrom Q (at (point v c p)) (readingIn m)) (childrenLeft Q v (suc c) (readingIn m)) t (activeBefore Q v (suc c))) (sym goes)
+      (eventsFrom Q (at (point v c p)) (readingIn m)) (childrenLeft Q v (suc c) (readingIn m)) t (activeBefore Q v (suc c))) (sym goes)
       (turn-points Q v c p b leaves m (ready .lent) (ready .atMost) within))
 
 -- ---- from a cursor on

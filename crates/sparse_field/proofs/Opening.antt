@@ -60,7 +60,7 @@ pub sparse-laws : ModelLaws sparse
 unfolding planWith
 sparse-laws = record {
   planLaws = λ l i none.
-    let n = no-cause (i .grid) (i .band) (i .model) (lent l) none in
-    plan-laws (i .grid) (i .band) (valueOf (i .model)) (sized (i .grid) (i .model) (lent l) n .innerLeast);
+      let n = no-cause (i .grid) (i .band) (i .model) (lent l) none in
+      plan-laws (i .grid) (i .band) (valueOf (i .model)) (sized (i .grid) (i .model) (lent l) n .innerLeast);
   enoughCorners = λ l i none. no-cause (i .grid) (i .band) (i .model) (lent l) none .corners;
 }

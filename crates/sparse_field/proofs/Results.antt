@@ -48,9 +48,9 @@ module _ (i : Input) (l : opened.Lengths) (k b leaves most : ℕ) (m m₁ : Memo
   -- the engine with the job, after the budget
   pub engine-after : advanced sparse i l k (stateIn m leaves) (split b es)
       ≡ record {
-          jobRecord = job (record { input = i; lengths = l; counts = countsWith (planOf i) (r .leaves) (k + (b - r .left)); cursor = cursorIn (cursorAt (r .stop)) });
-          memory = m₁;
-        }
+        jobRecord = job (record { input = i; lengths = l; counts = countsWith (planOf i) (r .leaves) (k + (b - r .left)); cursor = cursorIn (cursorAt (r .stop)) });
+        memory = m₁;
+      }
   unfolding advanced runOf
   engine-after =
       let state : applyAll (planOf i) (split b es .made) (stateIn m leaves) ≡ stateIn m₁ (r .leaves) = ap (λ x. x .state) final in

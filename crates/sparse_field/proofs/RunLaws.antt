@@ -69,11 +69,11 @@ module _ (P : Plan) where
       where
         one : (n : Bool) → P .needed v i ≡ n → bit n + neededFrom (P .needed v) r (suc i) ≤ b
             → ((b : ℕ) (l : List Float) → P .corners ≤ length l → neededFrom (P .needed v) r (suc i) ≤ b
-              → cornersRun b (suc i) s l
-              ≡ cornersRun (b - neededFrom (P .needed v) r (suc i)) (suc i + r) s (evaluatedFrom (P .needed v) (P .cornerValue v) r (suc i) l))
+            → cornersRun b (suc i) s l
+            ≡ cornersRun (b - neededFrom (P .needed v) r (suc i)) (suc i + r) s (evaluatedFrom (P .needed v) (P .cornerValue v) r (suc i) l))
             → cornersRun b i s l
             ≡ cornersRun (b - (bit n + neededFrom (P .needed v) r (suc i))) (i + suc r) s
-              (evaluatedFrom (P .needed v) (P .cornerValue v) r (suc i) (cond n (set l i (P .cornerValue v i)) l))
+            (evaluatedFrom (P .needed v) (P .cornerValue v) r (suc i) (cond n (set l i (P .cornerValue v i)) l))
         one true e h later =
             let more : b ≡ suc (b - 1) = omega arith in
             let place : suc i + r ≡ i + suc r = omega arith in

@@ -76,7 +76,7 @@ module _ (P : Plan) where
       → Advanced P b leaves m m₁ from mid r most → r .stop ≡ At a → Advanced P b leaves m m₁ from to r most₂
   advanced-stopped {m₁ = m₁} {mid = mid} {to = to} {r = r} {most₂ = most₂} a first stopped = record {
     same = first .same ∙ ap (λ x. afterStop P (stateIn m₁ (r .leaves)) (r .left) x mid) stopped
-      ∙ sym (ap (λ x. afterStop P (stateIn m₁ (r .leaves)) (r .left) x to) stopped);
+        ∙ sym (ap (λ x. afterStop P (stateIn m₁ (r .leaves)) (r .left) x to) stopped);
     lent = first .lent;
     atMost = subst (λ x. IfThrough x (r .leaves ≤ most₂)) (sym stopped) tt;
   }
@@ -108,12 +108,12 @@ module _ (P : Plan) where
     -- a child that becomes a constant
     pub turn-constant : P .active v c ≡ true → (k : ℕ) (x : Float) → 0 < k → P .decide v c (readingIn m) ≡ constant k x
         → ChildrenAdvanced P v c (suc c) b leaves m
-          (memoryOf (set (m .kinds) (v * P .children + c) k) (set (m .numbers) (v * P .children + c) x) (m .places) (m .store) (m .corners))
-          (progress leaves b Through)
+        (memoryOf (set (m .kinds) (v * P .children + c) k) (set (m .numbers) (v * P .children + c) x) (m .places) (m .store) (m .corners))
+        (progress leaves b Through)
     unfolding apply
     turn-constant active k x above decided = record {
       same = ap (λ es. runOf P b es (stateIn m leaves)) (child-constant P v c below active (readingIn m) k x decided)
-        ∙ run-work P b (makeConstant (v * P .children + c) k x) (childrenLeft P v (suc c) (readingIn m)) (stateIn m leaves);
+          ∙ run-work P b (makeConstant (v * P .children + c) k x) (childrenLeft P v (suc c) (readingIn m)) (stateIn m leaves);
       lent = record {
         kinds = rw length-set (ready .lent .kinds);
         numbers = rw length-set (ready .lent .numbers);
@@ -146,7 +146,7 @@ module _ (P : Plan) where
   pub leaf-run : (v c p b n : ℕ) (m : Memory) → p ≤ P .leafPoints
       → runOf P b (eventsFrom P (at (point v c p)) (readingIn m)) (stateIn m n)
       ≡ afterStop P (leafState v c p b n m)
-        (leafProgress n b v c p (P .leafPoints) .left) (leafProgress n b v c p (P .leafPoints) .stop) (childrenLeft P v (suc c) (readingIn m))
+      (leafProgress n b v c p (P .leafPoints) .left) (leafProgress n b v c p (P .leafPoints) .stop) (childrenLeft P v (suc c) (readingIn m))
   unfolding leafProgress
   leaf-run v c p b n m within =
       run-points P v c (readingIn m) (min b (P .leafPoints - p)) p b (stateIn m n) (m .store) (omega arith) (omega arith)
@@ -155,7 +155,7 @@ module _ (P : Plan) where
       one : (x : Bool) → ltb (p + min b (P .leafPoints - p)) (P .leafPoints) ≡ x
           → runOf P (b - min b (P .leafPoints - p)) (eventsFrom P (at (point v c (p + min b (P .leafPoints - p)))) (readingIn m)) (leafState v c p b n m)
           ≡ afterStop P (leafState v c p b n m)
-            (b - min b (P .leafPoints - p)) (cond x (At (Point v c (p + min b (P .leafPoints - p)))) Through) (childrenLeft P v (suc c) (readingIn m))
+          (b - min b (P .leafPoints - p)) (cond x (At (Point v c (p + min b (P .leafPoints - p)))) Through) (childrenLeft P v (suc c) (readingIn m))
       one true e =
           let next : ℕ = p + min b (P .leafPoints - p) in
           let short : next < P .leafPoints = ltb-true next (P .leafPoints) e in
@@ -185,15 +185,15 @@ module _ (P : Plan) where
   -- points of the last leaf, that of child c
   pub turn-points : (v c p b n : ℕ) (m : Memory) → Lent P m → n ≤ activeBefore P v (suc c) → p ≤ P .leafPoints
       → Advanced P b n m (leafState v c p b n m .memory) (eventsFrom P (at (point v c p)) (readingIn m)) (childrenLeft P v (suc c) (readingIn m))
-        (leafProgress n b v c p (P .leafPoints)) (activeBefore P v (suc c))
+      (leafProgress n b v c p (P .leafPoints)) (activeBefore P v (suc c))
   turn-points v c p b n m lent most within = record {
     same = leaf-run v c p b n m within
-      ∙ ap (λ n′. afterStop P (stateIn (leafState v c p b n m .memory) n′) (leafProgress n b v c p (P .leafPoints) .left)
+        ∙ ap (λ n′. afterStop P (stateIn (leafState v c p b n m .memory) n′) (leafProgress n b v c p (P .leafPoints) .left)
         (leafProgress n b v c p (P .leafPoints) .stop) (childrenLeft P v (suc c) (readingIn m)))
         (sym (leafProgress-leaves n b v c p (P .leafPoints)));
     lent = leaf-lent v c p b n m lent;
     atMost = if-through (leafProgress n b v c p (P .leafPoints) .stop)
-      (subst (λ k. k ≤ activeBefore P v (suc c)) (sym (leafProgress-leaves n b v c p (P .leafPoints))) most);
+        (subst (λ k. k ≤ activeBefore P v (suc c)) (sym (leafProgress-leaves n b v c p (P .leafPoints))) most);
   }
 
   module _ (v c b leaves : ℕ) (m : Memory) (ready : Ready P v c leaves m) (below : c < P .children) where
@@ -218,8 +218,8 @@ module _ (P : Plan) where
         let points = turn-points v c 0 b (suc leaves) leafMade made (omega (arith, ready .atMost, before-next P (P .active) v c)) (omega arith) in
         record {
           same = ap (λ es. runOf P b es (stateIn m leaves)) (child-leaf P v c below active (readingIn m) decided)
-            ∙ run-work P b (makeLeaf (v * P .children + c)) (eventsFrom P (at (point v c 0)) (readingIn m)) (stateIn m leaves)
-            ∙ points .same;
+              ∙ run-work P b (makeLeaf (v * P .children + c)) (eventsFrom P (at (point v c 0)) (readingIn m)) (stateIn m leaves)
+              ∙ points .same;
           lent = points .lent;
           atMost = points .atMost;
         }
@@ -238,11 +238,11 @@ module _ (P : Plan) where
       subst (λ l. NodeAdvanced P v b leaves m (memoryOf (m₁ .kinds) (m₁ .numbers) (m₁ .places) (m₁ .store) l) (childrenLeft P v c (readingIn m)) r) (sym zeroed) (record {
         advanced = record {
           same = children .same
-            ∙ ap (λ x. afterStop P (stateIn m₁ (r .leaves)) (r .left) x (childrenLeft P v (P .children) (readingIn m))) through
-            ∙ ap (λ es. runOf P (r .left) es (stateIn m₁ (r .leaves))) (child-last P v (P .children) (omega arith) (readingIn m))
-            ∙ run-work P (r .left) clearCorners (nodesLeft P (suc v)) (stateIn m₁ (r .leaves))
-            ∙ sym (ap (λ x. afterStop P (stateIn (memoryOf (m₁ .kinds) (m₁ .numbers) (m₁ .places) (m₁ .store) (replicate (length (m₁ .corners)) plusZero)) (r .leaves)) (r .left) x
-                (nodesLeft P (suc v))) through);
+              ∙ ap (λ x. afterStop P (stateIn m₁ (r .leaves)) (r .left) x (childrenLeft P v (P .children) (readingIn m))) through
+              ∙ ap (λ es. runOf P (r .left) es (stateIn m₁ (r .leaves))) (child-last P v (P .children) (omega arith) (readingIn m))
+              ∙ run-work P (r .left) clearCorners (nodesLeft P (suc v)) (stateIn m₁ (r .leaves))
+              ∙ sym (ap (λ x. afterStop P (stateIn (memoryOf (m₁ .kinds) (m₁ .numbers) (m₁ .places) (m₁ .store) (replicate (length (m₁ .corners)) plusZero)) (r .leaves)) (r .left) x
+              (nodesLeft P (suc v))) through);
           lent = record {
             kinds = children .lent .kinds;
             numbers = children .lent .numbers;

@@ -57,11 +57,10 @@ returns c =
     let k = c .before .before .before .before .before .cube-of .result in
     let e : k ≡ cube (a .l) = c .before .before .before .before .before .cube-of .ensures in
     let start = ap (λ k. a .ordinal * k) e in
-    let f : ℕ → Float = λ q. at (flatValue (a .words .now) (a .reals .now) (a .parts)) (leafPoint (a .b) (a .l) q) in
-    (
+    let f : ℕ → Float = λ q. at (flatValue (a .words .now) (a .reals .now) (a .parts)) (leafPoint (a .b) (a .l) q) in (
       c .before .before .fill-points .ensures .0,
       stretch-filled (a .ordinal * k) (a .p) (min (a .budget) (cube (a .l) - a .p)) f (a .store .now) (omega (arith, start, s .pre .3)) (omega (arith, start, s .pre)) (c .before .before .fill-points .ensures .1)
-      ∙ ap (λ k. filled (a .ordinal * k + a .p) (min (a .budget) (cube (a .l) - a .p)) (λ q. f (q - a .ordinal * k)) (a .store .now)) e,
+          ∙ ap (λ k. filled (a .ordinal * k + a .p) (min (a .budget) (cube (a .l) - a .p)) (λ q. f (q - a .ordinal * k)) (a .store .now)) e,
     )
 
 pub fill-leaf-spec : {M : Type 1} → statement M

@@ -33,9 +33,15 @@ cube-of-requires c κs = omega (arith, c .before .before .before .before .before
 
 loop-holds : tie.Need-loop-holds Inv-loop μ-loop
 loop-holds c =
-    let s = c .before .before .before .before .before .before .before in
-    (c .cube-of .ensures, omega (arith, c .cube-of .ensures, s .pre .0 .2), refl, refl, refl, refl,
-      advanced-start _ _ _ _ _ _ (s .pre .1 .lent) (s .pre .1 .atMost))
+    let s = c .before .before .before .before .before .before .before in (
+      c .cube-of .ensures,
+      omega (arith, c .cube-of .ensures, s .pre .0 .2),
+      refl,
+      refl,
+      refl,
+      refl,
+      advanced-start _ _ _ _ _ _ (s .pre .1 .lent) (s .pre .1 .atMost),
+    )
 
 child-turn-requires : tie.Need-child-turn-requires Inv-loop μ-loop
 child-turn-requires c κs =

@@ -54,10 +54,15 @@ run-nodes-requires c κs =
     let a = s .args in
     let turn = c .before .before .before .before .before .before .before .before .before .before .before .before .before .before .before .before .before .before .node-from-point in
     let through = c .before .before .before .before .before .before .enum-told2 .given .1 in
-    let few = came-through _ (turn .ensures .advanced .atMost) through in
-    ((s .pre .0 .0, omega (arith, node s), s .pre .0 .4,
-      subst (λ n. turn .result .leaves ≤ activeBefore (plan (a .g) (a .band) (a .words .now) (a .reals .now) (a .parts)) n 0) (sym (add-one (a .v))) few),
-      (turn .ensures .advanced .lent, came-through _ (turn .ensures .cleared) through))
+    let few = came-through _ (turn .ensures .advanced .atMost) through in (
+      (
+        s .pre .0 .0,
+        omega (arith, node s),
+        s .pre .0 .4,
+        subst (λ n. turn .result .leaves ≤ activeBefore (plan (a .g) (a .band) (a .words .now) (a .reals .now) (a .parts)) n 0) (sym (add-one (a .v))) few,
+      ),
+      (turn .ensures .advanced .lent, came-through _ (turn .ensures .cleared) through),
+    )
 
 same-length-6 : tie.Need-same-length-6
 same-length-6 c = search needs

@@ -95,7 +95,7 @@ rest-of-node-requires c κs =
     let s = c .before .before .before .before .before .before .before .before .before .before .before .before .before .before .before .before .before .before .before .before .before .before .before .before in
     let a = s .args in
     let past = node-past-corners (a .g) (a .band) (a .words .now) (a .reals .now) (a .parts) (a .v) (a .i) (a .budget) (a .leaves) (memory s) (s .pre .0 .0) (s .pre .1)
-      (c .before .before .before .before .before .before .before .before .before .before .before .before .before .before .before .before .cube-of .result) (c .before .before .before .before .before .before .before .before .before .before .before .before .before .before .before .before .cube-of .ensures) (c .before .before .before .before .before .before .before .before .before .before .before .before .before .before .before .before .before .node-box .ensures) (c .before .before .before .before .before .before .before .before .before .before .before .run-corners .ensures) (omega (arith, c .before .before .before .before .before .before .before .before .cube-of2 .ensures, c .before .before .before .before .before .before .if1 .left)) in
+    (c .before .before .before .before .before .before .before .before .before .before .before .before .before .before .before .before .cube-of .result) (c .before .before .before .before .before .before .before .before .before .before .before .before .before .before .before .before .cube-of .ensures) (c .before .before .before .before .before .before .before .before .before .before .before .before .before .before .before .before .before .node-box .ensures) (c .before .before .before .before .before .before .before .before .before .before .before .run-corners .ensures) (omega (arith, c .before .before .before .before .before .before .before .before .cube-of2 .ensures, c .before .before .before .before .before .before .if1 .left)) in
     ((s .pre .0 .0, c .before .before .before .before .before .before .before .before .before .before .before .before .before .before .before .before .before .node-box .ensures, omega arith, s .pre .0 .2), record { lent = past .lent; node = s .pre .1 .node; atMost = past .atMost })
 
 same-length-3 : tie.Need-same-length-3
@@ -118,7 +118,7 @@ returns-2 c =
     let s = c .before .before .before .before .before .before .before .before .before .before .before .before .before .before .before .before .before .before .before .before .before .before .before .before .before .before .before .before .before .before .before .before .before .before .before in
     let a = s .args in
     let past = node-past-corners (a .g) (a .band) (a .words .now) (a .reals .now) (a .parts) (a .v) (a .i) (a .budget) (a .leaves) (memory s) (s .pre .0 .0) (s .pre .1)
-      (c .before .before .before .before .before .before .before .before .before .before .before .before .before .before .before .before .before .before .before .before .before .before .before .before .before .before .before .cube-of .result) (c .before .before .before .before .before .before .before .before .before .before .before .before .before .before .before .before .before .before .before .before .before .before .before .before .before .before .before .cube-of .ensures) (c .before .before .before .before .before .before .before .before .before .before .before .before .before .before .before .before .before .before .before .before .before .before .before .before .before .before .before .before .node-box .ensures) (c .before .before .before .before .before .before .before .before .before .before .before .before .before .before .before .before .before .before .before .before .before .before .run-corners .ensures) (omega (arith, c .before .before .before .before .before .before .before .before .before .before .before .before .before .before .before .before .before .before .before .cube-of2 .ensures, c .before .before .before .before .before .before .before .before .before .before .before .before .before .before .before .before .before .if1 .left)) in
+    (c .before .before .before .before .before .before .before .before .before .before .before .before .before .before .before .before .before .before .before .before .before .before .before .before .before .before .before .cube-of .result) (c .before .before .before .before .before .before .before .before .before .before .before .before .before .before .before .before .before .before .before .before .before .before .before .before .before .before .before .cube-of .ensures) (c .before .before .before .before .before .before .before .before .before .before .before .before .before .before .before .before .before .before .before .before .before .before .before .before .before .before .before .before .node-box .ensures) (c .before .before .before .before .before .before .before .before .before .before .before .before .before .before .before .before .before .before .before .before .before .before .run-corners .ensures) (omega (arith, c .before .before .before .before .before .before .before .before .before .before .before .before .before .before .before .before .before .before .before .cube-of2 .ensures, c .before .before .before .before .before .before .before .before .before .before .before .before .before .before .before .before .before .if1 .left)) in
     record { advanced = advanced-then _ past refl (c .before .before .before .before .before .before .before .before .before .before .rest-of-node .ensures .advanced); cleared = c .before .before .before .before .before .before .before .before .before .before .rest-of-node .ensures .cleared }
 
 pub node-from-corner-spec : {M : Type 1} → statement M

@@ -44,9 +44,14 @@ child-box-requires c κs = search needs
 leaf-from-requires : tie.Need-leaf-from-requires
 leaf-from-requires c κs =
     let s = c .before .before .before .before .before .before .before .before .before in
-    let a = s .args in
-    (s .pre .0 .0 .leafLeast, s .pre .0 .0 .leafMost, s .pre .0 .2, s .pre .0 .3,
-      leaves-inside (a .g) (a .band) (a .words .now) (a .reals .now) (a .parts) (a .v) (a .c) (a .p) (a .budget) (a .leaves) (memory s) (s .pre .1) (s .pre .0 .1), s .pre .0 .4)
+    let a = s .args in (
+      s .pre .0 .0 .leafLeast,
+      s .pre .0 .0 .leafMost,
+      s .pre .0 .2,
+      s .pre .0 .3,
+      leaves-inside (a .g) (a .band) (a .words .now) (a .reals .now) (a .parts) (a .v) (a .c) (a .p) (a .budget) (a .leaves) (memory s) (s .pre .1) (s .pre .0 .1),
+      s .pre .0 .4,
+    )
 
 enum-told : tie.Need-enum-told
 enum-told c = search needs
@@ -59,7 +64,7 @@ returns c =
     let s = c .before .before .before .before .before .before .before .before .before .before .before .before .before .before in
     let a = s .args in
     let points = node-points (a .g) (a .band) (a .words .now) (a .reals .now) (a .parts) (a .v) (a .c) (a .p) (a .budget) (a .leaves) (memory s) (s .pre .1) (s .pre .0 .1)
-      (s .pre .0 .2) (c .before .before .before .before .before .before .before .before .node-box .ensures) (c .before .before .before .before .before .before .before .child-box .ensures) (c .before .before .before .before .leaf-from .ensures .0) (c .before .before .before .before .leaf-from .ensures .1) in
+    (s .pre .0 .2) (c .before .before .before .before .before .before .before .before .node-box .ensures) (c .before .before .before .before .before .before .before .child-box .ensures) (c .before .before .before .before .leaf-from .ensures .0) (c .before .before .before .before .leaf-from .ensures .1) in
     node-stopped _ _ _ _ (c .enum-told .given .0 .0) points (c .enum-told .given .1)
 
 enum-told-2 : tie.Need-enum-told-2
@@ -73,10 +78,15 @@ rest-of-node-requires c κs =
     let s = c .before .before .before .before .before .before .before .before .before .before .before .before .before .before .before .before .before .before .before .before in
     let a = s .args in
     let points = node-points (a .g) (a .band) (a .words .now) (a .reals .now) (a .parts) (a .v) (a .c) (a .p) (a .budget) (a .leaves) (memory s) (s .pre .1) (s .pre .0 .1)
-      (s .pre .0 .2) (c .before .before .before .before .before .before .before .before .before .before .before .before .before .before .node-box .ensures) (c .before .before .before .before .before .before .before .before .before .before .before .before .before .child-box .ensures) (c .before .before .before .before .before .before .before .before .before .before .leaf-from .ensures .0) (c .before .before .before .before .before .before .before .before .before .before .leaf-from .ensures .1) in
-    let most = came-through _ (points .atMost) (c .before .before .before .before .before .before .enum-told2 .given .1) in
-    ((s .pre .0 .0, c .before .before .before .before .before .before .before .before .before .before .before .before .before .before .node-box .ensures, omega (arith, s .pre .0 .1), s .pre .0 .4), record { lent = points .lent; node = s .pre .1 .node;
-      atMost = subst (λ n. c .before .before .before .before .before .before .before .before .before .before .leaf-from .result .leaves ≤ activeBefore (plan (a .g) (a .band) (a .words .now) (a .reals .now) (a .parts)) (a .v) n) (sym (add-one (a .c))) most })
+    (s .pre .0 .2) (c .before .before .before .before .before .before .before .before .before .before .before .before .before .before .node-box .ensures) (c .before .before .before .before .before .before .before .before .before .before .before .before .before .child-box .ensures) (c .before .before .before .before .before .before .before .before .before .before .leaf-from .ensures .0) (c .before .before .before .before .before .before .before .before .before .before .leaf-from .ensures .1) in
+    let most = came-through _ (points .atMost) (c .before .before .before .before .before .before .enum-told2 .given .1) in (
+      (s .pre .0 .0, c .before .before .before .before .before .before .before .before .before .before .before .before .before .before .node-box .ensures, omega (arith, s .pre .0 .1), s .pre .0 .4),
+      record {
+        lent = points .lent;
+        node = s .pre .1 .node;
+        atMost = subst (λ n. c .before .before .before .before .before .before .before .before .before .before .leaf-from .result .leaves ≤ activeBefore (plan (a .g) (a .band) (a .words .now) (a .reals .now) (a .parts)) (a .v) n) (sym (add-one (a .c))) most;
+      },
+    )
 
 same-length-2 : tie.Need-same-length-2
 same-length-2 c = search needs
@@ -99,7 +109,7 @@ returns-2 c =
     let a = s .args in
     let P = plan (a .g) (a .band) (a .words .now) (a .reals .now) (a .parts) in
     let points = node-points (a .g) (a .band) (a .words .now) (a .reals .now) (a .parts) (a .v) (a .c) (a .p) (a .budget) (a .leaves) (memory s) (s .pre .1) (s .pre .0 .1)
-      (s .pre .0 .2) (c .before .before .before .before .before .before .before .before .before .before .before .before .before .before .before .before .before .before .before .before .before .before .before .before .before .node-box .ensures) (c .before .before .before .before .before .before .before .before .before .before .before .before .before .before .before .before .before .before .before .before .before .before .before .before .child-box .ensures) (c .before .before .before .before .before .before .before .before .before .before .before .before .before .before .before .before .before .before .before .before .before .leaf-from .ensures .0) (c .before .before .before .before .before .before .before .before .before .before .before .before .before .before .before .before .before .before .before .before .before .leaf-from .ensures .1) in
+    (s .pre .0 .2) (c .before .before .before .before .before .before .before .before .before .before .before .before .before .before .before .before .before .before .before .before .before .before .before .before .before .node-box .ensures) (c .before .before .before .before .before .before .before .before .before .before .before .before .before .before .before .before .before .before .before .before .before .before .before .before .child-box .ensures) (c .before .before .before .before .before .before .before .before .before .before .before .before .before .before .before .before .before .before .before .before .before .leaf-from .ensures .0) (c .before .before .before .before .before .before .before .before .before .before .before .before .before .before .before .before .before .before .before .before .before .leaf-from .ensures .1) in
     let rest = c .before .before .before .before .before .before .before .before .before .before .rest-of-node .ensures in
     record { advanced = advanced-then P (then P _ _ _ _ points (sym (add-one (a .c)))) (c .before .before .before .before .before .before .before .before .before .before .before .before .before .before .before .before .before .enum-told2 .given .1) (rest .advanced); cleared = rest .cleared }
 

@@ -88,9 +88,17 @@ loop-again c =
     let l = c .before .before .before .before .before .before .before .before .before .before .before .before .before .before .before .before .before .before .before .before .loop in
     let turn = c .before .before .before .before .before .before .before .before .before .before .before .before .node-from-corner in
     let below : l .v < nodesOf (c .before .before .before .before .before .before .before .before .before .before .before .before .before .before .before .before .before .before .before .before .before .before .before .before .before .before .before .args .g) = omega (arith, l .inv .0, c .before .before .before .before .before .before .before .before .before .before .before .before .before .before .before .before .before .before .before .loop-test .taken) in
-    let done = advanced-through _ (node-after _ (l .v) _ _ _ _ (l .inv .7) below (l .inv .8) (turn .ensures)) (c .enum-told2 .given .1) in
-    (l .inv .0, omega (arith, c .before .before .before .before .before .before .before .before .before .before .before .before .before .before .before .before .before .before .before .loop-test .taken), c .before .before .before .before .before .before .before .before .before .before .before .kinds .given ∙ l .inv .2, c .before .before .before .before .before .before .before .before .before .numbers .given ∙ l .inv .3, c .before .before .before .before .before .before .before .places .given ∙ l .inv .4,
-      c .before .before .before .before .before .store .given ∙ l .inv .5, c .before .before .before .corners .given ∙ l .inv .6, nodes-upto _ _ _ _ _ (sym (add-one (l .v))) done, came-through _ (turn .ensures .cleared) (c .enum-told2 .given .1))
+    let done = advanced-through _ (node-after _ (l .v) _ _ _ _ (l .inv .7) below (l .inv .8) (turn .ensures)) (c .enum-told2 .given .1) in (
+      l .inv .0,
+      omega (arith, c .before .before .before .before .before .before .before .before .before .before .before .before .before .before .before .before .before .before .before .loop-test .taken),
+      c .before .before .before .before .before .before .before .before .before .before .before .kinds .given ∙ l .inv .2,
+      c .before .before .before .before .before .before .before .before .before .numbers .given ∙ l .inv .3,
+      c .before .before .before .before .before .before .before .places .given ∙ l .inv .4,
+      c .before .before .before .before .before .store .given ∙ l .inv .5,
+      c .before .before .before .corners .given ∙ l .inv .6,
+      nodes-upto _ _ _ _ _ (sym (add-one (l .v))) done,
+      came-through _ (turn .ensures .cleared) (c .enum-told2 .given .1),
+    )
 
 same-length-6 : tie.Need-same-length-6 Inv-loop μ-loop
 same-length-6 c = c .before .loop .inv .2
