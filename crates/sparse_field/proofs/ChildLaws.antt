@@ -65,15 +65,12 @@ pub place-few : (g : Grid) (v c : ℕ) → Sized g → v < nodesOf g → c < cub
 place-few g v c sized hv hc = omega (arith, mul-le-mul-right (cube (g .inner)) hv, sized .children)
 
 -- there are few active children
-pub active-few : (g : Grid) (band : Band) (words : List ℕ) (reals : List Float) (parts : ℕ) → Sized g → activeAll (plan g band words reals parts) ≤ 16777216
+pub active-few : (g : Grid) (band : Band) (value : Float → Float → Float → Float) → Sized g → activeAll (planWith g band value) ≤ 16777216
 unfolding planWith countAll
-active-few g band words reals parts sized =
-    let P : Plan = plan g band words reals parts in
-    omega (
-      arith,
-      sized .children,
-      sumFrom-most (λ v. countOf (P .active) v (P .children)) (P .children) (λ v. sumBits-most (P .active v) (P .children)) (P .nodes) 0,
-    )
+active-few g band value sized =
+    let P : Plan = planWith g band value in
+    omega (arith, sized .children,
+      sumFrom-most (λ v. countOf (P .active) v (P .children)) (P .children) (λ v. sumBits-most (P .active v) (P .children)) (P .nodes) 0)
 
 -- so are the leaves before a child
 pub leaves-few : (g : Grid) (band : Band) (words : List ℕ) (reals : List Float) (parts v c leaves : ℕ) (m : Memory) → Sized g → c < cube (g .inner)
@@ -81,7 +78,7 @@ pub leaves-few : (g : Grid) (band : Band) (words : List ℕ) (reals : List Float
 unfolding planWith
 leaves-few g band words reals parts v c leaves m sized below ready =
     let P : Plan = plan g band words reals parts in
-    omega (arith, ready .atMost, active-few g band words reals parts sized, before-most P (P .active) v c (ready .node) (omega arith))
+    omega (arith, ready .atMost, active-few g band (flatValue words reals parts) sized, before-most P (P .active) v c (ready .node) (omega arith))
 
 -- a number that is not 0
 nonzero-above : (k : ℕ) → (k ≡ 0 → ⊥) → nonzero k ≡ true

@@ -8,8 +8,9 @@ pub mod NodeKinds
 pub mod NodeLaws
 pub mod JobLaws
 pub mod Judgement
-pub mod Opening
 pub mod Results
+pub mod Opening
+pub mod CallLaws
 pub mod Demand
 pub mod AroundLaws
 pub mod Searching

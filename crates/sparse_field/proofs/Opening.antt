@@ -1,29 +1,47 @@
 -- What an accepted input and a possible record give the engine to start from.
-use Prim.Native.Nat.{ℕ, suc, _+_, _*_, _≤_, _<_}
+use Prim.Native.Nat.{ℕ, suc, _+_, _*_, _-_, _≤_, _<_}
 use mathlib.Core.Path.{_≡_, refl, sym, ap, subst, _∙_}
 use mathlib.Core.Bool.{false}
+use mathlib.Core.List.{[]}
+use native.Mathlib.Nat.{mul-pos}
 use native.Mathlib.Omega.{arith}
+use Rattle.float.specs.Zero.{plusZero}
 use Rattle.grid.specs.declared.Grid.{Grid}
 use Rattle.grid.specs.declared.Lengths.{Lengths}
 use Rattle.grid.specs.Blocks.{cube}
+use Rattle.grid.specs.Nodes.{nodesOf}
 use Rattle.grid.specs.Causes.{childrenOf}
+use Rattle.grid.proofs.Counts.{i-above, j-above, k-above}
 use Rattle.grid.proofs.CauseLaws.{inner-block, leaf-block, few-children}
 use Rattle.model.specs.declared.ImplicitModel.{ImplicitModel}
-use Rattle.schedule.specs.Schedule.{Plan, Memory}
-use Rattle.schedule.specs.Totals.{activeUpTo}
+use Rattle.schedule.specs.Schedule.{Plan, Memory, schedule, split, cursorOf, nodesFrom, nodesLeft, eventsFrom}
+use Rattle.schedule.specs.Totals.{activeAll, activeUpTo}
+use Rattle.schedule.specs.Counts.{countsWith}
+use Rattle.schedule.specs.JobRecord.{job}
+use Rattle.schedule.specs.Engine.{openedEngine}
+use Rattle.schedule.proofs.Activity.{opened-active, opened-lengths}
+use Rattle.schedule.proofs.AfterFacts.{after}
+use Rattle.schedule.proofs.Sums.{up-to-most}
+use Rattle.schedule.proofs.StopFacts.{getD-equal}
 use Rattle.schedule.specs.PlanLaws.{Valid}
 use Rattle.schedule.specs.Stops.{AtLeast}
+use Rattle.schedule.specs.Opened as opens
 use Rattle.schedule.specs.Opened.{lengthsOf, ActiveKinds}
 use Rattle.schedule.specs.Model.{ModelLaws}
 use Rattle.sparse_field.specs.declared.Input.{Input}
 use Rattle.sparse_field.specs.declared.Cursor.{Cursor}
+use Rattle.sparse_field.specs.declared.Progress.{Progress}
 use Rattle.sparse_field.specs.declared.Cursor.the-variants.{End, Corner, Point}
 use Rattle.sparse_field.specs.Plan.{planWith, planOf, valueOf}
-use Rattle.sparse_field.specs.Progress.{Sized, Lent}
-use Rattle.sparse_field.specs.Records.{sparse, lent, cursorIn}
+use Rattle.sparse_field.specs.Calls.{startMemory}
+use Rattle.sparse_field.specs.Progress.{Sized, Lent, Advanced, readingIn, ZeroCorners}
+use Rattle.sparse_field.specs.Records.{sparse, lent, cursorIn, cursorAt}
 use Rattle.sparse_field.specs.Startable.{Startable}
 use Rattle.sparse_field.proofs.Judgement.{NoCause, no-cause, active-all}
-use Rattle.sparse_field.proofs.NodeLaws.{plan-laws}
+use Rattle.sparse_field.proofs.NodeLaws.{plan-laws, node-begins}
+use Rattle.sparse_field.specs.Runs.{runOf}
+use Rattle.sparse_field.proofs.ChildLaws.{active-few}
+use Rattle.sparse_field.proofs.Results.{final, engine-after}
 
 -- sizes that no cause refuses
 pub sized : (g : Grid) (m : ImplicitModel) (l : Lengths) → NoCause g m l → Sized g
@@ -64,3 +82,77 @@ sparse-laws = record {
       plan-laws (i .grid) (i .band) (valueOf (i .model)) (sized (i .grid) (i .model) (lent l) n .innerLeast);
   enoughCorners = λ l i none. no-cause (i .grid) (i .band) (i .model) (lent l) none .corners;
 }
+
+-- there are few active children
+pub active-within : (i : Input) → Sized (i .grid) → activeAll (planOf i) ≤ 16777216
+active-within i size = active-few (i .grid) (i .band) (valueOf (i .model)) size
+
+-- ---- the start of a job
+
+module _ (i : Input) (l : opens.Lengths) (none : sparse .cause l i ≡ 0) where
+  abbrev P : Plan
+  P = planOf i
+
+  pub nothing : NoCause (i .grid) (i .model) (lent l)
+  nothing = no-cause (i .grid) (i .band) (i .model) (lent l) none
+
+  -- the memory that open prepares is lent
+  pub start-lent : Lent P (startMemory i l)
+  start-lent =
+      lent-memory i (startMemory i l) (subst (λ k. NoCause (i .grid) (i .model) (lent k)) (sym (opened-lengths P l)) nothing) (opened-active P l)
+
+  -- its corners are all +0
+  start-cleared : ZeroCorners (startMemory i l)
+  unfolding opens.opened
+  start-cleared j = getD-equal plusZero (l .corners) j
+
+  -- there is a node
+  some-node : 0 < P .nodes
+  unfolding planWith nodesOf
+  some-node = mul-pos (mul-pos (i-above (i .grid)) (j-above (i .grid))) (k-above (i .grid))
+
+  pub start-startable : Startable P (Corner 0 0) 0
+  start-startable = (some-node, omega arith, omega arith)
+
+  -- what is left at its first corner is the whole schedule
+  pub start-events : eventsFrom P (cursorIn (Corner 0 0)) (readingIn (startMemory i l)) ≡ schedule P
+  unfolding nodesLeft schedule
+  start-events =
+      let all : P .nodes - 0 ≡ P .nodes = omega arith in
+      sym (node-begins P 0 (startMemory i l) some-node start-cleared) ∙ ap (λ n. nodesFrom P n 0) all
+
+  -- a job's work from its first corner on is work on the whole schedule
+  start-done : {m m₁ : Memory} {r : Progress} → m ≡ startMemory i l
+      → Advanced P 0 0 m m₁ (eventsFrom P (cursorIn (Corner 0 0)) (readingIn m)) [] r (activeAll P)
+      → Advanced P 0 0 (startMemory i l) m₁ (schedule P) [] r (activeAll P)
+  start-done {m} {m₁} {r} start done =
+      subst (λ es. Advanced P 0 0 (startMemory i l) m₁ es [] r (activeAll P)) start-events
+      (subst (λ x. Advanced P 0 0 x m₁ (eventsFrom P (cursorIn (Corner 0 0)) (readingIn x)) [] r (activeAll P)) start done)
+
+  -- the engine after an accepted open, from what a job's work has come to
+  pub opened-after : {m m₁ : Memory} {r : Progress} → m ≡ startMemory i l
+      → Advanced P 0 0 m m₁ (eventsFrom P (cursorIn (Corner 0 0)) (readingIn m)) [] r (activeAll P)
+      → openedEngine sparse i l
+      ≡ record {
+          jobRecord = job (record { input = i; lengths = l; counts = countsWith P (r .leaves) 0; cursor = cursorIn (cursorAt (r .stop)) });
+          memory = m₁;
+        }
+  unfolding opens.opened
+  opened-after {m} {m₁} {r} start done =
+      let none : 0 + (0 - r .left) ≡ 0 = omega arith in
+      engine-after i l 0 0 0 (activeAll P) (startMemory i l) m₁ (schedule P) r (start-done start done)
+      ∙ ap (λ k. record {
+          jobRecord = job (record { input = i; lengths = l; counts = countsWith P (r .leaves) k; cursor = cursorIn (cursorAt (r .stop)) });
+          memory = m₁;
+        }) none
+
+  -- its leaves are among the active children
+  pub opened-leaves : {m m₁ : Memory} {r : Progress} → m ≡ startMemory i l
+      → Advanced P 0 0 m m₁ (eventsFrom P (cursorIn (Corner 0 0)) (readingIn m)) [] r (activeAll P) → r .leaves ≤ activeAll P
+  unfolding opens.opened opens.stateAt runOf
+  opened-leaves {m} {m₁} {r} start done =
+      let laws = sparse-laws .planLaws l i none in
+      let facts = after P laws l (sparse-laws .enoughCorners l i none) 0 in
+      let same : opens.stateAt P l 0 .leaves ≡ r .leaves =
+        ap (λ x. x .state .leaves) (final i l 0 0 0 (activeAll P) (startMemory i l) m₁ (schedule P) r (start-done start done)) in
+      omega (arith, same, facts .atMost, up-to-most P (cursorOf (split 0 (schedule P) .rest)) (facts .resumes .valid))

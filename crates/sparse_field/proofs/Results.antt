@@ -1,25 +1,35 @@
 -- What a call hands back, from where its work has come to.
 use Prim.Native.Nat.{ℕ, zero, suc, _+_, _*_, _-_, _≤_, _<_}
 use mathlib.Core.Path.{_≡_, refl, sym, ap, _∙_}
+use mathlib.Core.Bool.{true}
 use mathlib.Core.List.{List, []}
 use native.Mathlib.Omega.{arith}
 use Rattle.schedule.specs.Schedule as schedule
-use Rattle.schedule.specs.Schedule.{Plan, Memory, State, Event, applyAll, split, evaluations, cursorOf}
+use Rattle.schedule.specs.Schedule.{Plan, Memory, State, Event, applyAll, split, evaluations, cursorOf, eventsFrom}
+use lib.ListN.{length}
+use Rattle.grid.specs.declared.Lengths as grids
+use Rattle.grid.specs.Blocks.{cube}
+use Rattle.schedule.specs.Totals.{activeAll, activeUpTo, evaluationsBound}
+use Rattle.schedule.specs.PlanLaws.{PlanLaws, Valid}
+use Rattle.schedule.specs.Stops.{AtLeast}
 use Rattle.schedule.specs.Opened as opened
 use Rattle.schedule.specs.Counts.{countsWith}
 use Rattle.schedule.specs.JobRecord.{job}
 use Rattle.schedule.specs.Engine.{Engine, advanced}
 use Rattle.schedule.proofs.Split.{split-made}
+use Rattle.schedule.proofs.Sums.{up-to-most}
+use Rattle.schedule.proofs.EventCounts.{left-bound}
+use Rattle.schedule.proofs.Resume.{resume-within}
 use Rattle.sparse_field.specs.declared.Input.{Input}
 use Rattle.sparse_field.specs.declared.Cursor.{Cursor}
 use Rattle.sparse_field.specs.declared.Cursor.the-variants.{End, Corner, Point}
 use Rattle.sparse_field.specs.declared.Progress.{Progress}
 use Rattle.sparse_field.specs.declared.Stop.{Stop}
 use Rattle.sparse_field.specs.declared.Stop.the-variants.{Through, At}
-use Rattle.sparse_field.specs.Plan.{planOf}
+use Rattle.sparse_field.specs.Plan.{planOf, planWith}
 use Rattle.sparse_field.specs.Runs.{Run, runOf}
-use Rattle.sparse_field.specs.Progress.{stateIn, Advanced, afterStop}
-use Rattle.sparse_field.specs.Records.{sparse, cursorIn, cursorOut, cursorAt}
+use Rattle.sparse_field.specs.Progress.{stateIn, Advanced, afterStop, readingIn}
+use Rattle.sparse_field.specs.Records.{sparse, lent, cursorIn, cursorOut, cursorAt, recordOut, recordAt}
 use Rattle.sparse_field.proofs.RunLaws.{run-end}
 
 -- a cursor comes back as it was
@@ -35,7 +45,8 @@ stop-ends P s left (At a) = refl
 
 module _ (i : Input) (l : opened.Lengths) (k b leaves most : ℕ) (m m₁ : Memory) (es : List Event) (r : Progress)
     (done : Advanced (planOf i) b leaves m m₁ es [] r most) where
-  final : runOf (planOf i) b es (stateIn m leaves) ≡ record { state = stateIn m₁ (r .leaves); cursor = cursorIn (cursorAt (r .stop)); left = r .left }
+  -- where it has come to
+  pub final : runOf (planOf i) b es (stateIn m leaves) ≡ record { state = stateIn m₁ (r .leaves); cursor = cursorIn (cursorAt (r .stop)); left = r .left }
   final = done .same ∙ stop-ends (planOf i) (stateIn m₁ (r .leaves)) (r .left) (r .stop)
 
   -- the evaluations that were made are what is no longer left
@@ -44,6 +55,13 @@ module _ (i : Input) (l : opened.Lengths) (k b leaves most : ℕ) (m m₁ : Memo
   made =
       let rest : b - evaluations (split b es .made) ≡ r .left = ap (λ x. x .left) final in
       omega (arith, split-made b es)
+
+  -- no more is left of the budget than there was
+  pub left-most : r .left ≤ b
+  unfolding runOf
+  left-most =
+      let rest : b - evaluations (split b es .made) ≡ r .left = ap (λ x. x .left) final in
+      omega arith
 
   -- the engine with the job, after the budget
   pub engine-after : advanced sparse i l k (stateIn m leaves) (split b es)
@@ -59,3 +77,47 @@ module _ (i : Input) (l : opened.Lengths) (k b leaves most : ℕ) (m m₁ : Memo
         jobRecord = job (record { input = i; lengths = l; counts = countsWith (planOf i) (state t .leaves) (k + made t); cursor = cursor t });
         memory = state t .memory;
       }
+
+-- ---- from a cursor of the plan
+
+module _ (i : Input) (laws : PlanLaws (planOf i)) (b leaves most : ℕ) (m m₁ : Memory) (a : schedule.Cursor) (r : Progress)
+    (done : Advanced (planOf i) b leaves m m₁ (eventsFrom (planOf i) a (readingIn m)) [] r most) (valid : Valid (planOf i) a) where
+  -- the leaves are among the active children
+  pub leaves-after : planOf i .corners ≤ length (m .corners) → AtLeast 1 a leaves → leaves ≤ activeUpTo (planOf i) a → r .leaves ≤ activeAll (planOf i)
+  unfolding runOf
+  leaves-after enough low high =
+      let P : Plan = planOf i in
+      let facts = resume-within P laws 1 0 (omega arith) a valid (stateIn m leaves) enough low (omega arith) b in
+      let same : applyAll P (split b (eventsFrom P a (readingIn m)) .made) (stateIn m leaves) ≡ stateIn m₁ (r .leaves) =
+        ap (λ x. x .state) (final i (opened.lengthsOf m) 0 b leaves most m m₁ (eventsFrom P a (readingIn m)) r done) in
+      omega (arith, ap (λ s. s .leaves) same, facts .below, up-to-most P (cursorOf (split b (eventsFrom P a (readingIn m)) .rest)) (facts .resumes .valid))
+
+  -- no more evaluations are made than a job can have
+  pub made-most : b - r .left ≤ evaluationsBound (planOf i)
+  made-most =
+      let P : Plan = planOf i in
+      let es : List Event = eventsFrom P a (readingIn m) in
+      omega (arith, made i (opened.lengthsOf m) 0 b leaves most m m₁ es r done, split-made b es, left-bound P a (readingIn m) valid)
+
+-- ---- the record
+
+-- the record that the code makes is the engine's
+pub record-same : (i : Input) {l : grids.Lengths} {k : opened.Lengths} {nodes active evaluated n : ℕ} (r : Progress)
+    → l ≡ lent k → nodes ≡ planOf i .nodes → active ≡ activeAll (planOf i) → evaluated ≡ n
+    → recordAt i l nodes active (r .leaves) (cube (i .grid .leaf)) evaluated (r .stop)
+    ≡ recordOut (job (record { input = i; lengths = k; counts = countsWith (planOf i) (r .leaves) n; cursor = cursorIn (cursorAt (r .stop)) }))
+unfolding planWith
+record-same i r lengths nodes active evaluated =
+    λ t. record {
+      job = true;
+      input = i;
+      lengths = lengths t;
+      counts = record {
+        nodes = nodes t;
+        active = active t;
+        leaves = r .leaves;
+        sampled = r .leaves * cube (i .grid .leaf);
+        evaluations = evaluated t;
+      };
+      cursor = sym (cursor-back (cursorAt (r .stop))) t;
+    }

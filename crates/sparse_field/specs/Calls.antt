@@ -5,13 +5,14 @@ use mathlib.Core.List.{List}
 use lib.Ieee.{Float}
 use Rattle.schedule.specs.Schedule.{Memory}
 use Rattle.schedule.specs.Calls as calls
-use Rattle.schedule.specs.Opened.{Lengths}
+use Rattle.schedule.specs.Opened.{Lengths, opened}
 use Rattle.schedule.specs.Engine.{Engine, openedEngine, engineStepJob, engineCall}
 use Rattle.sparse_field.specs.declared.Input.{Input}
 use Rattle.sparse_field.specs.declared.Record.{Record}
 use Rattle.sparse_field.specs.declared.Answer.{Answer}
 use Rattle.sparse_field.specs.declared.Answer.the-variants.{Accepted, Refused}
 use Rattle.sparse_field.specs.declared.Outcome.{Outcome}
+use Rattle.sparse_field.specs.Plan.{planOf}
 use Rattle.sparse_field.specs.Records.{sparse, jobIn, recordIn, recordOut}
 
 -- the memory that five slices hold
@@ -36,6 +37,10 @@ unfoldable pub called : calls.Call sparse → Record → Memory → Handed
 called c r m =
     let o = engineCall sparse c (record { jobRecord = recordIn r; memory = m }) in
     handed r (o .answer) (o .next)
+
+-- what an accepted open writes before the first event
+abbrev pub startMemory : Input → Lengths → Memory
+startMemory i l = opened (planOf i) l .memory
 
 -- the record and the memory after an accepted open
 abbrev pub openedRecord : Input → Lengths → Record

@@ -4,6 +4,7 @@ use grid::Grid;
 use grid::Lengths;
 use model::ImplicitModel;
 
+mod calls; // calls.rt: open, step and drop
 mod children; // children.rt: a node's children, decided in order
 mod corners; // corners.rt: a node's needed corners, evaluated in rows
 mod jobs; // jobs.rt: a job's work, and records

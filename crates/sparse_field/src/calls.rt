@@ -5,7 +5,7 @@ ghost use mathlib.Core.Bool.{false};
 ghost use Rattle.schedule.specs.Calls.{opens, steps, drops};
 ghost use Rattle.schedule.specs.Opened.{lengthsOf};
 ghost use Rattle.schedule.specs.Possible.{impossible};
-ghost use Rattle.sparse_field.specs.Calls.{memoryOf, called, openedRecord, openedMemory, steppedEngine};
+ghost use Rattle.sparse_field.specs.Calls.{memoryOf, called, startMemory, openedRecord, openedMemory, steppedEngine};
 ghost use Rattle.sparse_field.specs.Records.{sparse, lent, jobIn, recordOut};
 use crate::Answer;
 use crate::Cursor;
@@ -19,8 +19,24 @@ use crate::zeroing;
 use grid::Lengths;
 use grid::Refusal;
 
-// An accepted open: all five slices are zeroed and the kinds set, and the job runs on to its first
-// evaluation or its end.
+// What an accepted open writes before the first event: all five slices are zeroed whole, and the kinds
+// are set.
+fn prepare(
+    input: Input,
+    kinds: &mut [u8],
+    numbers: &mut [f64],
+    places: &mut [u32],
+    store: &mut [f64],
+    corners: &mut [f64],
+)
+    requires { ⌜ sparse .cause (lengthsOf (memoryOf (now kinds) (now numbers) (now places) (now store) (now corners))) input ≡ 0 ⌝ }
+    ensures { λ _. ⌜ memoryOf (now (kinds .exit)) (now (numbers .exit)) (now (places .exit)) (now (store .exit)) (now (corners .exit)) ≡ startMemory input (lengthsOf (memoryOf (now (kinds .entry)) (now (numbers .entry)) (now (places .entry)) (now (store .entry)) (now (corners .entry)))) ⌝ }
+{
+    zeroing::zero_all(kinds, numbers, places, store, corners);
+    kind::set_kinds(input, kinds);
+}
+
+// An accepted open: the memory is prepared, and the job runs on to its first evaluation or its end.
 fn opened(
     input: Input,
     lengths: Lengths,
@@ -34,18 +50,10 @@ fn opened(
     ensures { λ r. ⌜ r ≡ openedRecord input (lengthsOf (memoryOf (now (kinds .entry)) (now (numbers .entry)) (now (places .entry)) (now (store .entry)) (now (corners .entry)))) ⌝ }
     ensures { λ _. ⌜ memoryOf (now (kinds .exit)) (now (numbers .exit)) (now (places .exit)) (now (store .exit)) (now (corners .exit)) ≡ openedMemory input (lengthsOf (memoryOf (now (kinds .entry)) (now (numbers .entry)) (now (places .entry)) (now (store .entry)) (now (corners .entry)))) ⌝ }
 {
-    zeroing::zero_all(kinds, numbers, places, store, corners);
-    kind::set_kinds(input, kinds);
+    prepare(input, kinds, numbers, places, store, corners);
+    let start = Cursor::Corner(0, 0);
     let turn = jobs::run_job(
-        input,
-        Cursor::Corner(0, 0),
-        0,
-        0,
-        kinds,
-        numbers,
-        places,
-        store,
-        corners,
+        input, start, 0, 0, kinds, numbers, places, store, corners,
     );
     let nodes = grid::node_total(input.grid) as u64;
     let active = grid::active_children(input.grid);

@@ -1,0 +1,92 @@
+-- What `called` comes to, by the branches of open, step and drop.
+use Prim.Native.Nat.{ℕ, zero, suc, _-_, _<_}
+use mathlib.Core.Path.{_≡_, refl, sym, ap, _∙_}
+use mathlib.Core.Bool.{Bool, true, false}
+use mathlib.Core.List.{[], _∷_}
+use native.Mathlib.Omega.{arith}
+use Rattle.geometry.specs.Causes.{cause, firstOf}
+use Rattle.model.specs.declared.ImplicitModel.{ImplicitModel}
+use Rattle.model.specs.Model.{refusedByFour}
+use Rattle.grid.specs.declared.Grid.{Grid}
+use Rattle.grid.specs.declared.Band.{Band}
+use Rattle.grid.specs.declared.Lengths.{Lengths}
+use Rattle.grid.specs.declared.Refusal.{Refusal}
+use Rattle.grid.specs.declared.Refusal.the-variants.{None, By}
+use Rattle.grid.specs.Causes.{refusedByOne, refusedByTwo, refusedByThree, refusedByFive, refusedBySix, openCauses, refusalOf}
+use Rattle.schedule.specs.Schedule.{Memory}
+use Rattle.schedule.specs.Opened.{lengthsOf, zeroMemory}
+use Rattle.schedule.specs.Possible.{impossible}
+use Rattle.schedule.specs.Calls.{opens, steps, drops}
+use Rattle.schedule.specs.Engine.{Engine, engineCall, engineOpen, engineStep, engineStepJob}
+use Rattle.sparse_field.specs.declared.Input.{Input}
+use Rattle.sparse_field.specs.declared.Record.{Record}
+use Rattle.sparse_field.specs.declared.Answer.the-variants.{Accepted, Refused}
+use Rattle.sparse_field.specs.Records.{sparse, lent, numberOf, jobIn, byFlag, recordIn, recordOut, noRecord}
+use Rattle.sparse_field.specs.Calls.{Handed, handed, called, openedRecord, openedMemory, steppedEngine}
+
+-- a refused call: the record that it was given, and the memory as it was
+abbrev pub refusedBy : ℕ → Record → Memory → Handed
+refusedBy n r m = record { outcome = record { answer = Refused n; next = r }; memory = m }
+
+-- an accepted call
+abbrev pub acceptedWith : Record → Memory → Handed
+acceptedWith r m = record { outcome = record { answer = Accepted; next = r }; memory = m }
+
+module _ (i : Input) (r : Record) (m : Memory) where
+  abbrev byNumber : ℕ → Handed
+  byNumber n = let o = engineOpen sparse i (record { jobRecord = recordIn r; memory = m }) n in handed r (o .answer) (o .next)
+
+  -- a refusal's number is above 0
+  refusal-above : (n : ℕ) (l : Lengths) → refusalOf (i .grid) (i .band) (i .model) l ≡ By n → 0 < n
+  unfolding refusalOf openCauses firstOf
+  refusal-above n l e =
+      all (refusedByOne (i .grid)) (refusedByTwo (i .grid)) (refusedByThree (i .band)) (refusedByFour (i .model)) (refusedByFive (i .grid)) (refusedBySix (i .grid) l) e
+    where
+      all : (b1 b2 b3 b4 b5 b6 : Bool) → firstOf (cause b1 1 ∷ cause b2 2 ∷ cause b3 3 ∷ cause b4 4 ∷ cause b5 5 ∷ cause b6 6 ∷ []) By None ≡ By n → 0 < n
+      all true b2 b3 b4 b5 b6 e = let x : n ≡ 1 = cc in omega arith
+      all false true b3 b4 b5 b6 e = let x : n ≡ 2 = cc in omega arith
+      all false false true b4 b5 b6 e = let x : n ≡ 3 = cc in omega arith
+      all false false false true b5 b6 e = let x : n ≡ 4 = cc in omega arith
+      all false false false false true b6 e = let x : n ≡ 5 = cc in omega arith
+      all false false false false false true e = let x : n ≡ 6 = cc in omega arith
+      all false false false false false false e = let z : _≡_ {A = ℕ} 0 1 = cc in absurd (omega arith)
+
+  -- a refused open
+  pub open-refused : (n : ℕ) → refusalOf (i .grid) (i .band) (i .model) (lent (lengthsOf m)) ≡ By n → called (opens i) r m ≡ refusedBy n r m
+  unfolding called engineCall engineOpen
+  open-refused n e =
+      let above : n ≡ suc (n - 1) = omega (arith, refusal-above n (lent (lengthsOf m)) e) in
+      ap (λ x. byNumber (numberOf x)) e ∙ ap byNumber above ∙ ap (λ k. refusedBy k r m) (sym above)
+
+  -- an accepted open
+  pub open-accepted : sparse .cause (lengthsOf m) i ≡ 0 → called (opens i) r m ≡ acceptedWith (openedRecord i (lengthsOf m)) (openedMemory i (lengthsOf m))
+  unfolding called engineCall engineOpen
+  open-accepted none = ap byNumber none
+
+module _ (n : ℕ) (r : Record) (m : Memory) where
+  abbrev byRecord : Bool → Handed
+  byRecord b = let o = engineStep sparse n (byFlag b r) m in handed r (o .answer) (o .next)
+
+  abbrev byJudgement : Bool → Handed
+  byJudgement b = let o = engineStepJob sparse n (jobIn r) m b in handed r (o .answer) (o .next)
+
+  -- a step without a job
+  pub step-none : r .job ≡ false → called (steps n) r m ≡ refusedBy 7 r m
+  unfolding called engineCall engineStep
+  step-none flag = ap byRecord flag
+
+  -- a step with an impossible record
+  pub step-impossible : r .job ≡ true → impossible sparse (jobIn r) m ≡ true → called (steps n) r m ≡ refusedBy 8 r m
+  unfolding called engineCall engineStep engineStepJob
+  step-impossible flag judged = ap byRecord flag ∙ ap byJudgement judged
+
+  -- an accepted step
+  pub step-accepted : r .job ≡ true → impossible sparse (jobIn r) m ≡ false
+      → called (steps n) r m ≡ acceptedWith (recordOut (steppedEngine n r m .jobRecord)) (steppedEngine n r m .memory)
+  unfolding called engineCall engineStep engineStepJob
+  step-accepted flag judged = ap byRecord flag ∙ ap byJudgement judged
+
+-- a drop
+pub drop-accepted : (r : Record) (m : Memory) → called drops r m ≡ acceptedWith noRecord (zeroMemory (lengthsOf m))
+unfolding called engineCall
+drop-accepted r m = refl
