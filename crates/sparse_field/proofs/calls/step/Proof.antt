@@ -1,70 +1,82 @@
+-- `calls::step` meets its contract: by the flag, and by the judgement of the record.
+use mathlib.Core.Path.{_≡_, refl, sym, ap, _∙_}
+use mathlib.Core.Bool.{Bool, true, false, not}
+use borrow.Author.Tests.{not-false}
+use Rattle.sparse_field.specs.declared.Answer.the-variants.{Accepted}
+use Rattle.sparse_field.proofs.CallLaws.{step-none, step-impossible, step-accepted}
+use Rattle.schedule.specs.Schedule.{Memory}
+use Rattle.sparse_field.specs.Calls.{memoryOf}
 use borrow.Author.Needs.{needs}
 use Rattle.sparse_field.proofs.calls.step.Statement.{statement}
 use Rattle.sparse_field.proofs.calls.step.Tie as tie
-use Rattle.sparse_field.proofs.calls.step.Reads as reads
-use Rattle.sparse_field.proofs.calls.step.Lts as lts
-use Rattle.sparse_field.proofs.calls.stepped.Reads as stepped-reads
-use Rattle.sparse_field.proofs.judging.is_impossible.Reads as is-impossible-reads
 
--- src/calls.rt:147:9
+-- the memory at entry
+abbrev memory : tie.Start → Memory
+memory s = memoryOf (s .args .kinds .now) (s .args .numbers .now) (s .args .places .now) (s .args .store .now) (s .args .corners .now)
+
+not-true : (b : Bool) → not b ≡ true → b ≡ false
+not-true true e = sym e
+not-true false e = refl
+
 returns : tie.Need-returns
-returns c = ?
+returns c =
+    let s = c .before .before .before .before .before .before .before in
+    let a = s .args in
+    let done = step-none (a .budget) (a .found) (memory s) (not-true (a .found .job) (c .if1 .taken)) in
+    (sym (ap (λ h. h .outcome) done), sym (ap (λ h. h .memory) done))
 
--- src/calls.rt:152:8
 is-impossible-requires : tie.Need-is-impossible-requires
 is-impossible-requires c κs = search needs
 
--- src/calls.rt:153:9
 same-length : tie.Need-same-length
 same-length c = search needs
 
--- src/calls.rt:153:9
 same-length-2 : tie.Need-same-length-2
 same-length-2 c = search needs
 
--- src/calls.rt:153:9
 same-length-3 : tie.Need-same-length-3
 same-length-3 c = search needs
 
--- src/calls.rt:153:9
 same-length-4 : tie.Need-same-length-4
 same-length-4 c = search needs
 
--- src/calls.rt:153:9
 same-length-5 : tie.Need-same-length-5
 same-length-5 c = search needs
 
--- src/calls.rt:153:9
 returns-2 : tie.Need-returns-2
-returns-2 c = ?
+returns-2 c =
+    let s = c .before .before .before .before .before .before .before .before .before .before .before .before .before .before in
+    let a = s .args in
+    let done = step-impossible (a .budget) (a .found) (memory s) (not-false (a .found .job) (c .before .before .before .before .before .before .before .if1 .left)) (sym (c .before .is-impossible .ensures) ∙ c .if2 .taken) in
+    (sym (ap (λ h. h .outcome) done), sym (ap (λ h. h .memory) done))
 
--- src/calls.rt:158:9
 stepped-requires : tie.Need-stepped-requires
-stepped-requires c κs = ?
+stepped-requires c κs = sym (c .before .before .before .before .before .before .is-impossible .ensures) ∙ c .before .before .before .before .before .if2 .left
 
--- src/calls.rt:134:1
 same-length-6 : tie.Need-same-length-6
 same-length-6 c = search needs
 
--- src/calls.rt:134:1
 same-length-7 : tie.Need-same-length-7
 same-length-7 c = search needs
 
--- src/calls.rt:134:1
 same-length-8 : tie.Need-same-length-8
 same-length-8 c = search needs
 
--- src/calls.rt:134:1
 same-length-9 : tie.Need-same-length-9
 same-length-9 c = search needs
 
--- src/calls.rt:134:1
 same-length-10 : tie.Need-same-length-10
 same-length-10 c = search needs
 
--- src/calls.rt:134:1
 returns-3 : tie.Need-returns-3
-returns-3 c = ?
+returns-3 c =
+    let s = c .before .before .before .before .before .before .before .before .before .before .before .before .before .before .before .before .before .before .before .before .before .before .before .before .before .before .before .before .before .before in
+    let a = s .args in
+    let done = step-accepted (a .budget) (a .found) (memory s) (not-false (a .found .job) (c .before .before .before .before .before .before .before .before .before .before .before .before .before .before .before .before .before .before .before .before .before .before .before .if1 .left)) (sym (c .before .before .before .before .before .before .before .before .before .before .before .before .before .before .before .before .before .is-impossible .ensures) ∙ c .before .before .before .before .before .before .before .before .before .before .before .before .before .before .before .before .if2 .left) in
+    (
+      ap (λ r. record { answer = Accepted; next = r }) (c .before .before .before .before .before .before .before .before .before .before .stepped .ensures .0) ∙ sym (ap (λ h. h .outcome) done),
+      c .before .before .before .before .before .before .before .before .before .before .stepped .ensures .1 ∙ sym (ap (λ h. h .memory) done),
+    )
 
 pub step-spec : {M : Type 1} → statement M
 step-spec =

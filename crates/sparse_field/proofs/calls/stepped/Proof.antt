@@ -1,50 +1,108 @@
+-- `calls::stepped` meets its contract: a possible record gives the work its start, and the record follows from where it has come to.
+use Prim.Native.Nat.{ℕ, _+_, _-_, _*_, _≤_}
+use mathlib.Core.Path.{_≡_, refl, sym, ap, _∙_}
+use native.Mathlib.Omega.{arith}
+use Rattle.schedule.specs.Totals.{evaluationsBound}
+use Rattle.schedule.specs.PlanLaws.{PlanLaws}
+use Rattle.schedule.specs.Opened.{lengthsOf}
+use Rattle.schedule.specs.Engine.{engineStepJob}
+use Rattle.schedule.specs.Possible.{Possible}
+use Rattle.schedule.proofs.Possible.{possible}
+use Rattle.schedule.proofs.Sums.{up-to-most}
+use Rattle.sparse_field.specs.Plan.{planOf, planWith}
+use Rattle.sparse_field.specs.Progress.{Sized, Lent}
+use Rattle.sparse_field.specs.Records.{sparse, lent, lengthsIn, cursorIn, jobIn, recordOut}
+use Rattle.sparse_field.proofs.Judgement.{NoCause, no-cause, bound-fits}
+use Rattle.sparse_field.proofs.Opening.{sized, lent-memory, valid-startable, active-within, sparse-laws}
+use Rattle.sparse_field.proofs.Results.{left-most, leaves-after, made-most, record-same, engine-after}
+use Rattle.schedule.specs.Schedule.{Memory}
+use Rattle.sparse_field.specs.Calls.{memoryOf}
 use borrow.Author.Needs.{needs}
 use Rattle.sparse_field.proofs.calls.stepped.Statement.{statement}
 use Rattle.sparse_field.proofs.calls.stepped.Tie as tie
-use Rattle.sparse_field.proofs.calls.stepped.Reads as reads
-use Rattle.sparse_field.proofs.calls.stepped.Lts as lts
-use Rattle.sparse_field.proofs.jobs.record_of.Reads as record-of-reads
-use Rattle.sparse_field.proofs.jobs.run_job.Reads as run-job-reads
 
--- src/calls.rt:110:9
+-- the memory at entry
+abbrev memory : tie.Start → Memory
+memory s = memoryOf (s .args .kinds .now) (s .args .numbers .now) (s .args .places .now) (s .args .store .now) (s .args .corners .now)
+
+-- the record is possible
+judged : (s : tie.Start) → Possible sparse (jobIn (s .args .found)) (memory s)
+judged s = possible sparse (jobIn (s .args .found)) (memory s) (s .pre)
+
+-- its input meets no cause
+cause : (s : tie.Start) → NoCause (s .args .found .input .grid) (s .args .found .input .model) (lent (lengthsOf (memory s)))
+cause s = let i = s .args .found .input in no-cause (i .grid) (i .band) (i .model) (lent (lengthsOf (memory s))) (judged s .noCause)
+
+size : (s : tie.Start) → Sized (s .args .found .input .grid)
+size s = sized _ _ _ (cause s)
+
+all : (s : tie.Start) → Lent (planOf (s .args .found .input)) (memory s)
+all s = lent-memory (s .args .found .input) (memory s) (cause s) (judged s .activeKinds)
+
+laws : (s : tie.Start) → PlanLaws (planOf (s .args .found .input))
+laws s = sparse-laws .planLaws (lengthsOf (memory s)) (s .args .found .input) (judged s .noCause)
+
+-- no job has many evaluations
+few : (s : tie.Start) → evaluationsBound (planOf (s .args .found .input)) ≤ 5000000000000
+unfolding evaluationsBound planWith
+few s = bound-fits (s .args .found .input .grid) (cause s .two) (cause s .five) .bound
+
 run-job-requires : tie.Need-run-job-requires
-run-job-requires c κs = ?
+run-job-requires c κs =
+    let s = c .before .before .before .before .before .before .before .before .before .before .before in
+    let r = s .args .found in
+    let p = judged s in
+    ((size s, cause s .four),
+      (all s, valid-startable (planOf (r .input)) (r .cursor) (r .counts .leaves) (p .cursor) (p .atMost) (p .atLeast),
+        omega (arith, p .atMost, up-to-most (planOf (r .input)) (cursorIn (r .cursor)) (p .cursor))))
 
--- src/calls.rt:121:45
 sub-evaluations : tie.Need-sub-evaluations
-sub-evaluations c = ?
+sub-evaluations c =
+    let s = c .before .before .before .before .before .before .before .before .before .before .before .before .before .before .before .before .before .before .before .before .before .before .before in
+    left-most (s .args .found .input) (lengthsOf (memory s)) 0 _ _ _ _ _ _ _ (c .before .before .before .before .before .before .before .before .before .before .before .run-job .ensures)
 
--- src/calls.rt:121:23
 add-evaluations : tie.Need-add-evaluations
-add-evaluations c = ?
+add-evaluations c =
+    let s = c .before .before .before .before .before .before .before .before .before .before .before .before .before .before .before .before .before .before .before .before .before .before .before .before in
+    let p = judged s in
+    omega (arith, p .evaluations, few s, made-most (s .args .found .input) (laws s) _ _ _ _ _ (cursorIn (s .args .found .cursor)) _ (c .before .before .before .before .before .before .before .before .before .before .before .before .run-job .ensures) (p .cursor))
 
--- src/calls.rt:122:5
 record-of-requires : tie.Need-record-of-requires
-record-of-requires c κs = ?
+record-of-requires c κs =
+    let s = c .before .before .before .before .before .before .before .before .before .before .before .before .before .before .before .before .before .before .before .before .before .before .before .before in
+    let p = judged s in
+    (omega (arith, active-within (s .args .found .input) (size s),
+      leaves-after (s .args .found .input) (laws s) _ _ _ _ _ (cursorIn (s .args .found .cursor)) _ (c .before .before .before .before .before .before .before .before .before .before .before .before .run-job .ensures) (p .cursor) (all s .corners) (p .atLeast) (p .atMost)), size s .leafMost)
 
--- src/calls.rt:95:1
 same-length : tie.Need-same-length
-same-length c = ?
+same-length c = c .before .before .before .before .before .before .before .before .before .before .before .before .kinds .given
 
--- src/calls.rt:95:1
 same-length-2 : tie.Need-same-length-2
 same-length-2 c = search needs
 
--- src/calls.rt:95:1
 same-length-3 : tie.Need-same-length-3
 same-length-3 c = search needs
 
--- src/calls.rt:95:1
 same-length-4 : tie.Need-same-length-4
 same-length-4 c = search needs
 
--- src/calls.rt:95:1
 same-length-5 : tie.Need-same-length-5
 same-length-5 c = search needs
 
--- src/calls.rt:95:1
 returns : tie.Need-returns
-returns c = ?
+unfolding engineStepJob
+returns c =
+    let s = c .before .before .before .before .before .before .before .before .before .before .before .before .before .before .before .before .before .before .before .before .before .before .before .before .before in
+    let r = s .args .found in
+    let p = judged s in
+    let work = c .before .before .before .before .before .before .before .before .before .before .before .before .before .run-job in
+    let engine = engine-after (r .input) (lengthsIn (r .lengths)) (r .counts .evaluations) (s .args .budget) (r .counts .leaves) _ (memory s) _ _ (work .result) (work .ensures) in
+    (
+      c .record-of .ensures
+      ∙ record-same (r .input) (work .result) refl (ap (λ x. x .nodes) (p .counts)) (ap (λ x. x .active) (p .counts)) refl
+      ∙ sym (ap (λ e. recordOut (e .jobRecord)) engine),
+      sym (ap (λ e. e .memory) engine),
+    )
 
 pub stepped-spec : {M : Type 1} → statement M
 stepped-spec =
