@@ -69,8 +69,11 @@ pub active-few : (g : Grid) (band : Band) (value : Float → Float → Float →
 unfolding planWith countAll
 active-few g band value sized =
     let P : Plan = planWith g band value in
-    omega (arith, sized .children,
-      sumFrom-most (λ v. countOf (P .active) v (P .children)) (P .children) (λ v. sumBits-most (P .active v) (P .children)) (P .nodes) 0)
+    omega (
+      arith,
+      sized .children,
+      sumFrom-most (λ v. countOf (P .active) v (P .children)) (P .children) (λ v. sumBits-most (P .active v) (P .children)) (P .nodes) 0,
+    )
 
 -- so are the leaves before a child
 pub leaves-few : (g : Grid) (band : Band) (words : List ℕ) (reals : List Float) (parts v c leaves : ℕ) (m : Memory) → Sized g → c < cube (g .inner)

@@ -3,7 +3,7 @@ use Prim.Native.Nat.{ℕ, suc, _+_, _*_, _-_, _≤_, _<_}
 use mathlib.Core.Path.{_≡_, refl, sym, ap, subst, _∙_}
 use mathlib.Core.Bool.{false}
 use mathlib.Core.List.{[]}
-use native.Mathlib.Nat.{mul-pos}
+use native.Mathlib.Nat.{mul-pos, mul-le-mul-right}
 use native.Mathlib.Omega.{arith}
 use Rattle.float.specs.Zero.{plusZero}
 use Rattle.grid.specs.declared.Grid.{Grid}
@@ -16,11 +16,12 @@ use Rattle.grid.proofs.CauseLaws.{inner-block, leaf-block, few-children}
 use Rattle.model.specs.declared.ImplicitModel.{ImplicitModel}
 use Rattle.schedule.specs.Schedule.{Plan, Memory, schedule, split, cursorOf, nodesFrom, nodesLeft, eventsFrom}
 use Rattle.schedule.specs.Totals.{activeAll, activeUpTo}
+use Rattle.schedule.specs.Finished.{LongEnough}
 use Rattle.schedule.specs.Counts.{countsWith}
 use Rattle.schedule.specs.JobRecord.{job}
 use Rattle.schedule.specs.Engine.{openedEngine}
 use Rattle.schedule.proofs.Activity.{opened-active, opened-lengths}
-use Rattle.schedule.proofs.AfterFacts.{after}
+use Rattle.schedule.proofs.AfterFacts.{leavesAll-most, after}
 use Rattle.schedule.proofs.Sums.{up-to-most}
 use Rattle.schedule.proofs.StopFacts.{getD-equal}
 use Rattle.schedule.specs.PlanLaws.{Valid}
@@ -83,6 +84,19 @@ sparse-laws = record {
   enoughCorners = λ l i none. no-cause (i .grid) (i .band) (i .model) (lent l) none .corners;
 }
 
+-- its lent slices hold all its children and all its leaves' points
+pub long-enough : (l : opens.Lengths) (i : Input) → sparse .cause l i ≡ 0 → LongEnough (planOf i) l
+unfolding planWith
+long-enough l i none =
+    let n = no-cause (i .grid) (i .band) (i .model) (lent l) none in
+    let few = mul-le-mul-right (cube (i .grid .leaf)) (leavesAll-most (planOf i)) in
+    record {
+      kinds = n .long;
+      numbers = n .numbers;
+      places = n .places;
+      store = omega (arith, n .store, few, ap (λ k. k * cube (i .grid .leaf)) (active-all i));
+    }
+
 -- there are few active children
 pub active-within : (i : Input) → Sized (i .grid) → activeAll (planOf i) ≤ 16777216
 active-within i size = active-few (i .grid) (i .band) (valueOf (i .model)) size
@@ -134,17 +148,17 @@ module _ (i : Input) (l : opens.Lengths) (none : sparse .cause l i ≡ 0) where
       → Advanced P 0 0 m m₁ (eventsFrom P (cursorIn (Corner 0 0)) (readingIn m)) [] r (activeAll P)
       → openedEngine sparse i l
       ≡ record {
-          jobRecord = job (record { input = i; lengths = l; counts = countsWith P (r .leaves) 0; cursor = cursorIn (cursorAt (r .stop)) });
-          memory = m₁;
-        }
+        jobRecord = job (record { input = i; lengths = l; counts = countsWith P (r .leaves) 0; cursor = cursorIn (cursorAt (r .stop)) });
+        memory = m₁;
+      }
   unfolding opens.opened
   opened-after {m} {m₁} {r} start done =
       let none : 0 + (0 - r .left) ≡ 0 = omega arith in
       engine-after i l 0 0 0 (activeAll P) (startMemory i l) m₁ (schedule P) r (start-done start done)
       ∙ ap (λ k. record {
-          jobRecord = job (record { input = i; lengths = l; counts = countsWith P (r .leaves) k; cursor = cursorIn (cursorAt (r .stop)) });
-          memory = m₁;
-        }) none
+        jobRecord = job (record { input = i; lengths = l; counts = countsWith P (r .leaves) k; cursor = cursorIn (cursorAt (r .stop)) });
+        memory = m₁;
+      }) none
 
   -- its leaves are among the active children
   pub opened-leaves : {m m₁ : Memory} {r : Progress} → m ≡ startMemory i l
@@ -154,5 +168,5 @@ module _ (i : Input) (l : opens.Lengths) (none : sparse .cause l i ≡ 0) where
       let laws = sparse-laws .planLaws l i none in
       let facts = after P laws l (sparse-laws .enoughCorners l i none) 0 in
       let same : opens.stateAt P l 0 .leaves ≡ r .leaves =
-        ap (λ x. x .state .leaves) (final i l 0 0 0 (activeAll P) (startMemory i l) m₁ (schedule P) r (start-done start done)) in
+      ap (λ x. x .state .leaves) (final i l 0 0 0 (activeAll P) (startMemory i l) m₁ (schedule P) r (start-done start done)) in
       omega (arith, same, facts .atMost, up-to-most P (cursorOf (split 0 (schedule P) .rest)) (facts .resumes .valid))

@@ -89,7 +89,7 @@ module _ (i : Input) (laws : PlanLaws (planOf i)) (b leaves most : ℕ) (m m₁ 
       let P : Plan = planOf i in
       let facts = resume-within P laws 1 0 (omega arith) a valid (stateIn m leaves) enough low (omega arith) b in
       let same : applyAll P (split b (eventsFrom P a (readingIn m)) .made) (stateIn m leaves) ≡ stateIn m₁ (r .leaves) =
-        ap (λ x. x .state) (final i (opened.lengthsOf m) 0 b leaves most m m₁ (eventsFrom P a (readingIn m)) r done) in
+      ap (λ x. x .state) (final i (opened.lengthsOf m) 0 b leaves most m m₁ (eventsFrom P a (readingIn m)) r done) in
       omega (arith, ap (λ s. s .leaves) same, facts .below, up-to-most P (cursorOf (split b (eventsFrom P a (readingIn m)) .rest)) (facts .resumes .valid))
 
   -- no more evaluations are made than a job can have

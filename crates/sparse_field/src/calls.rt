@@ -52,9 +52,7 @@ fn opened(
 {
     prepare(input, kinds, numbers, places, store, corners);
     let start = Cursor::Corner(0, 0);
-    let turn = jobs::run_job(
-        input, start, 0, 0, kinds, numbers, places, store, corners,
-    );
+    let turn = jobs::run_job(input, start, 0, 0, kinds, numbers, places, store, corners);
     let nodes = grid::node_total(input.grid) as u64;
     let active = grid::active_children(input.grid);
     jobs::record_of(input, lengths, nodes, active, turn, 0)
@@ -82,9 +80,7 @@ pub fn open(
             next: found,
         };
     }
-    let next = opened(
-        input, lengths, kinds, numbers, places, store, corners,
-    );
+    let next = opened(input, lengths, kinds, numbers, places, store, corners);
     Outcome {
         answer: Answer::Accepted,
         next,
@@ -155,9 +151,7 @@ pub fn step(
             next: found,
         };
     }
-    let next = stepped(
-        found, budget, kinds, numbers, places, store, corners,
-    );
+    let next = stepped(found, budget, kinds, numbers, places, store, corners);
     Outcome {
         answer: Answer::Accepted,
         next,

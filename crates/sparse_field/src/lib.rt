@@ -14,6 +14,11 @@ mod nodes; // nodes.rt: node after node, from a cursor on
 mod points; // points.rt: a leaf's points, evaluated in rows
 mod zeroing; // zeroing.rt: slices set to zero
 
+pub use calls::drop;
+pub use calls::open;
+pub use calls::step;
+pub use judging::is_impossible;
+
 // What a job is made from.
 pub struct Input {
     pub grid: Grid,

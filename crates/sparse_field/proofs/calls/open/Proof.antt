@@ -76,8 +76,7 @@ returns-2 c =
     let s = c .before .before .before .before .before .before .before .before .before .before .before .before .before .before .before .before .before .before .before .before .before .before .before .before .before .before .before .before .before .before in
     let a = s .args in
     let refusal = sym (ap (refusalOf (a .input .grid) (a .input .band) (a .input .model)) (c .before .before .before .before .before .before .before .before .before .before .before .before .before .before .before .before .before .before .before .lengths-of .ensures)) ∙ sym (c .before .before .before .before .before .before .before .before .before .before .before .before .before .before .before .before .before .before .open-refusal .ensures) ∙ c .before .before .before .before .before .before .before .before .before .before .before .before .before .before .before .before .enum-told .given .1 in
-    let done = open-accepted (a .input) (a .found) (memory s) (ap numberOf refusal) in
-    (
+    let done = open-accepted (a .input) (a .found) (memory s) (ap numberOf refusal) in (
       ap (λ r. record { answer = Accepted; next = r }) (c .before .before .before .before .before .before .before .before .before .before .opened .ensures .0) ∙ sym (ap (λ h. h .outcome) done),
       c .before .before .before .before .before .before .before .before .before .before .opened .ensures .1 ∙ sym (ap (λ h. h .memory) done),
     )

@@ -28,9 +28,10 @@ run-job-requires c κs =
     let s = c .before .before .before .before .before .before .before .before .before .before .before .before .before .before .before .before .before .before .before .before .before .before .before .before .before .before in
     let i = s .args .input in
     let l = lengthsOf (memory s) in
-    let none = nothing i l (s .pre .1) in
-    ((sized (i .grid) (i .model) (lent l) none, none .four),
-      (subst (λ m. Lent (planOf i) m) (sym (c .before .before .before .before .before .before .before .before .before .before .before .before .before .before .before .prepare .ensures)) (start-lent i l (s .pre .1)), start-startable i l (s .pre .1), omega arith))
+    let none = nothing i l (s .pre .1) in (
+      (sized (i .grid) (i .model) (lent l) none, none .four),
+      (subst (λ m. Lent (planOf i) m) (sym (c .before .before .before .before .before .before .before .before .before .before .before .before .before .before .before .prepare .ensures)) (start-lent i l (s .pre .1)), start-startable i l (s .pre .1), omega arith),
+    )
 
 node-total-requires : tie.Need-node-total-requires
 node-total-requires c κs =
@@ -74,11 +75,10 @@ returns c =
     let s = c .before .before .before .before .before .before .before .before .before .before .before .before .before .before .before .before .before .before .before .before .before .before .before .before .before .before .before .before .before .before .before .before .before .before .before .before .before .before .before .before in
     let i = s .args .input in
     let l = lengthsOf (memory s) in
-    let engine = opened-after i l (s .pre .1) (c .before .before .before .before .before .before .before .before .before .before .before .before .before .before .before .before .before .before .before .before .before .before .before .before .before .before .before .before .before .prepare .ensures) (c .before .before .before .before .before .before .before .before .before .before .before .before .before .run-job .ensures) in
-    (
+    let engine = opened-after i l (s .pre .1) (c .before .before .before .before .before .before .before .before .before .before .before .before .before .before .before .before .before .before .before .before .before .before .before .before .before .before .before .before .before .prepare .ensures) (c .before .before .before .before .before .before .before .before .before .before .before .before .before .run-job .ensures) in (
       c .record-of .ensures
-      ∙ record-same i (c .before .before .before .before .before .before .before .before .before .before .before .before .before .run-job .result) (s .pre .0) (c .before .before .node-total .ensures) (c .before .active-children .ensures ∙ sym (active-all i)) refl
-      ∙ sym (ap (λ e. recordOut (e .jobRecord)) engine),
+          ∙ record-same i (c .before .before .before .before .before .before .before .before .before .before .before .before .before .run-job .result) (s .pre .0) (c .before .before .node-total .ensures) (c .before .active-children .ensures ∙ sym (active-all i)) refl
+          ∙ sym (ap (λ e. recordOut (e .jobRecord)) engine),
       sym (ap (λ e. e .memory) engine),
     )
 

@@ -51,10 +51,14 @@ run-job-requires : tie.Need-run-job-requires
 run-job-requires c κs =
     let s = c .before .before .before .before .before .before .before .before .before .before .before in
     let r = s .args .found in
-    let p = judged s in
-    ((size s, cause s .four),
-      (all s, valid-startable (planOf (r .input)) (r .cursor) (r .counts .leaves) (p .cursor) (p .atMost) (p .atLeast),
-        omega (arith, p .atMost, up-to-most (planOf (r .input)) (cursorIn (r .cursor)) (p .cursor))))
+    let p = judged s in (
+      (size s, cause s .four),
+      (
+        all s,
+        valid-startable (planOf (r .input)) (r .cursor) (r .counts .leaves) (p .cursor) (p .atMost) (p .atLeast),
+        omega (arith, p .atMost, up-to-most (planOf (r .input)) (cursorIn (r .cursor)) (p .cursor)),
+      ),
+    )
 
 sub-evaluations : tie.Need-sub-evaluations
 sub-evaluations c =
@@ -70,9 +74,14 @@ add-evaluations c =
 record-of-requires : tie.Need-record-of-requires
 record-of-requires c κs =
     let s = c .before .before .before .before .before .before .before .before .before .before .before .before .before .before .before .before .before .before .before .before .before .before .before .before in
-    let p = judged s in
-    (omega (arith, active-within (s .args .found .input) (size s),
-      leaves-after (s .args .found .input) (laws s) _ _ _ _ _ (cursorIn (s .args .found .cursor)) _ (c .before .before .before .before .before .before .before .before .before .before .before .before .run-job .ensures) (p .cursor) (all s .corners) (p .atLeast) (p .atMost)), size s .leafMost)
+    let p = judged s in (
+      omega (
+        arith,
+        active-within (s .args .found .input) (size s),
+        leaves-after (s .args .found .input) (laws s) _ _ _ _ _ (cursorIn (s .args .found .cursor)) _ (c .before .before .before .before .before .before .before .before .before .before .before .before .run-job .ensures) (p .cursor) (all s .corners) (p .atLeast) (p .atMost),
+      ),
+      size s .leafMost,
+    )
 
 same-length : tie.Need-same-length
 same-length c = c .before .before .before .before .before .before .before .before .before .before .before .before .kinds .given
@@ -96,11 +105,10 @@ returns c =
     let r = s .args .found in
     let p = judged s in
     let work = c .before .before .before .before .before .before .before .before .before .before .before .before .before .run-job in
-    let engine = engine-after (r .input) (lengthsIn (r .lengths)) (r .counts .evaluations) (s .args .budget) (r .counts .leaves) _ (memory s) _ _ (work .result) (work .ensures) in
-    (
+    let engine = engine-after (r .input) (lengthsIn (r .lengths)) (r .counts .evaluations) (s .args .budget) (r .counts .leaves) _ (memory s) _ _ (work .result) (work .ensures) in (
       c .record-of .ensures
-      ∙ record-same (r .input) (work .result) refl (ap (λ x. x .nodes) (p .counts)) (ap (λ x. x .active) (p .counts)) refl
-      ∙ sym (ap (λ e. recordOut (e .jobRecord)) engine),
+          ∙ record-same (r .input) (work .result) refl (ap (λ x. x .nodes) (p .counts)) (ap (λ x. x .active) (p .counts)) refl
+          ∙ sym (ap (λ e. recordOut (e .jobRecord)) engine),
       sym (ap (λ e. e .memory) engine),
     )
 
