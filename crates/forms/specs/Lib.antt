@@ -1,0 +1,5 @@
+pub mod Bytes
+pub mod Digits
+pub mod Fronts
+pub mod Forms
+pub mod Answers

@@ -1,0 +1,27 @@
+// Lines of text by their form: bytes, among which the letter H stands for a float's bits and D for a
+// decimal number.
+mod digits; // digits.rt: a digit and its byte
+mod reading; // reading.rt: what a text has at a place
+mod writing; // writing.rt: bytes put into a lent slice
+
+pub use reading::read_form;
+pub use writing::form_length;
+pub use writing::put_form;
+pub use writing::put_hex;
+
+// The numbers of a line, and 0 after them.
+pub struct Numbers {
+    pub values: [u64; 6],
+}
+
+// A number that stands at a place, and where the text goes on.
+pub enum Found {
+    Number(u64, usize),
+    NoNumber,
+}
+
+// A line that stands at a place, and where the text goes on.
+pub enum Read {
+    Line(Numbers, usize),
+    Off,
+}
