@@ -6,7 +6,7 @@ use mathlib.Core.List.{List, [], _∷_, _++_, map}
 use lib.Dec.{eqb}
 use lib.ListN.{getD, drop}
 use Rattle.forms.specs.Digits.{hexOf, decimalOf}
-use Rattle.forms.specs.Fronts.{Front, off, number, hexFront, decimalFront}
+use Rattle.forms.specs.Fronts.{Front, number, hexFront, decimalFront}
 
 pub data Piece : Type 0 where
   hex : Piece

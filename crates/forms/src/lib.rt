@@ -9,19 +9,20 @@ pub use writing::form_length;
 pub use writing::put_form;
 pub use writing::put_hex;
 
-// The numbers of a line, and 0 after them.
-pub struct Numbers {
-    pub values: [u64; 6],
-}
-
 // A number that stands at a place, and where the text goes on.
 pub enum Found {
     Number(u64, usize),
     NoNumber,
 }
 
-// A line that stands at a place, and where the text goes on.
-pub enum Read {
-    Line(Numbers, usize),
+// Where the text goes on after a line, if a line stands at a place.
+pub enum End {
+    At(usize),
     Off,
+}
+
+// A line's numbers, with 0 after them, and its end.
+pub struct Read {
+    pub values: [u64; 6],
+    pub end: End,
 }

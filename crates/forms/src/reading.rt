@@ -1,12 +1,14 @@
 // What a text has at a place: a number, a piece of a line, a whole line.
-ghost use Prim.Native.Nat.{_<_, _≤_};
+ghost use mathlib.Core.Path.{_≡_};
+ghost use mathlib.Core.Bool.{true, cond};
+ghost use Prim.Native.Nat.{_+_, _<_, _≤_};
 ghost use mathlib.Core.List.{map};
-ghost use lib.ListN.{length, drop};
+ghost use lib.ListN.{length, drop, set};
 ghost use Rattle.forms.specs.Answers.{Finds, Reads};
-ghost use Rattle.forms.specs.Forms.{pieceOf, fields, readPiece, readForm};
-ghost use Rattle.forms.specs.Fronts.{hexFront, decimalFront};
+ghost use Rattle.forms.specs.Forms.{byte, pieceOf, isField, fields, readPiece, readForm};
+ghost use Rattle.forms.specs.Fronts.{hexFront, decimalAfter, decimalFront};
+use crate::End;
 use crate::Found;
-use crate::Numbers;
 use crate::Read;
 use crate::digits::digit_of;
 
@@ -112,6 +114,24 @@ pub fn is_field(piece: u8) -> bool
     piece == 72 || piece == 68
 }
 
+// How many numbers there are after a piece, where there are `count` before it.
+pub fn next_field(piece: u8, count: usize) -> usize
+    requires { ⌜ count < 18446744073709551615 ⌝ }
+    ensures { λ r. ⌜ r ≡ cond (isField (pieceOf piece)) (count + 1) count ⌝ }
+{
+    if is_field(piece) { count + 1 } else { count }
+}
+
+// Keeps a piece's number at a place, if it has one.
+fn keep(piece: u8, x: u64, count: usize, values: &mut [u64; 6])
+    requires { ⌜ (isField (pieceOf piece) ≡ true → count < 6) ⌝ }
+    ensures { λ _. ⌜ now (values .exit) ≡ cond (isField (pieceOf piece)) (set (now (values .entry)) count x) (now (values .entry)) ⌝ }
+{
+    if is_field(piece) {
+        values[count] = x;
+    }
+}
+
 // A line of a form with at most six numbers, none of its decimal ones above a limit.
 pub fn read_form(text: &[u8], at: usize, form: &[u8], limit: u64) -> Read
     requires { ⌜ (at ≤ length (now text)) × (fields (map pieceOf (now form)) ≤ 6) × (limit < 1152921504606846976) ⌝ }
@@ -124,14 +144,12 @@ pub fn read_form(text: &[u8], at: usize, form: &[u8], limit: u64) -> Read
     while i < form.len() {
         let piece = form[i];
         let Found::Number(x, next) = read_piece(text, place, piece, limit) else {
-            return Read::Off;
+            return Read { values: [0u64; 6], end: End::Off };
         };
-        if is_field(piece) {
-            values[count] = x;
-            count += 1;
-        }
+        keep(piece, x, count, &mut values);
+        count = next_field(piece, count);
         place = next;
         i += 1;
     }
-    Read::Line(Numbers { values }, place)
+    Read { values, end: End::At(place) }
 }

@@ -2,14 +2,13 @@
 ghost use mathlib.Core.Path.{_≡_};
 ghost use mathlib.Core.List.{map};
 ghost use Prim.Native.Nat.{_+_, _≤_};
-ghost use lib.ListN.{length};
+ghost use lib.ListN.{length, getD};
 ghost use lib.Seq.{sets};
-ghost use Rattle.forms.specs.Digits.{hexOf, decimalOf};
-ghost use Rattle.forms.specs.Forms.{pieceOf, spellPiece, fields, spell};
-use crate::Numbers;
+ghost use Rattle.forms.specs.Digits.{hexOf, digits};
+ghost use Rattle.forms.specs.Forms.{pieceOf, spellPiece, spell};
 use crate::digits::decimal_count;
 use crate::digits::digit_byte;
-use crate::reading::is_field;
+use crate::reading::next_field;
 
 // Puts a number's 16 hexadecimal digits at a place.
 pub fn put_hex(x: u64, at: usize, out: &mut [u8])
