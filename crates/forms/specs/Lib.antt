@@ -3,3 +3,4 @@ pub mod Digits
 pub mod Fronts
 pub mod Forms
 pub mod Answers
+pub mod Fitting
