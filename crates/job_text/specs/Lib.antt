@@ -1,0 +1,9 @@
+pub mod Lines
+pub mod Parts
+pub mod Reading
+pub mod Texts
+pub mod NanBits
+pub mod Values
+pub mod Listing
+pub mod Written
+pub mod Listed

@@ -1,0 +1,101 @@
+-- What a text is read as: the input that it spells with the bits of its constants, or 12 with a line. Document 01: "The line
+-- named is the first off its form, or the one after the last if the text ends early."
+use Prim.Native.Nat.{ℕ, zero, suc, _-_}
+use mathlib.Core.List.{List, [], _∷_, _++_, map}
+use lib.ListN.{length, replicate}
+use Rattle.float.specs.Zero.{plusZero}
+use Rattle.geometry.specs.Values.{vec3, box}
+use Rattle.model.specs.declared.ModelComponent.{ModelComponent}
+use Rattle.model.specs.declared.Part.the-variants.{Constant}
+use Rattle.sparse_field.specs.declared.Input.{Input}
+use Rattle.forms.specs.Forms.{Line, off, line, readForm}
+use Rattle.job_text.specs.declared.Job.{Job}
+use Rattle.job_text.specs.declared.Reading as reading
+use Rattle.job_text.specs.declared.Reading.the-variants as answer
+use Rattle.job_text.specs.Lines.{limit, boundsForm, cellForm, blocksForm, bandForm}
+use Rattle.job_text.specs.Parts.{word, real, partFrom, patternFrom, Spelt, PartLine, none, part, readPart}
+
+-- a job as it is written: the numbers of its four lines, and its part lines
+pub record Written : Type 0 where
+  pub bounds : List ℕ
+  pub cell : List ℕ
+  pub blocks : List ℕ
+  pub band : List ℕ
+  pub parts : List Spelt
+
+-- what a text is read as: off its form at a line, or a job
+pub data Read : Type 0 where
+  offAt : ℕ → Read
+  written : Written → Read
+
+pub data Parts : Type 0 where
+  offAt : ℕ → Parts
+  parts : List Spelt → Parts
+
+-- one part more in front
+unfoldable pub withPart : Spelt → Parts → Parts
+withPart s (Parts.offAt n) = Parts.offAt n
+withPart s (parts ss) = parts (s ∷ ss)
+
+-- a part line with the parts after it, and line n off its form
+unfoldable pub onPart : ℕ → PartLine → (List ℕ → Parts) → Parts
+onPart n none next = Parts.offAt n
+onPart n (part s t) next = withPart s (next t)
+
+-- the part lines of a whole text, r at most, the first of them line n; "a 65th part is 12"
+unfoldable pub readParts : (r n : ℕ) → List ℕ → Parts
+readParts zero n [] = parts []
+readParts zero n (b ∷ t) = Parts.offAt n
+readParts (suc r) n [] = parts []
+readParts (suc r) n (b ∷ t) = onPart n (readPart (b ∷ t)) (readParts r (suc n))
+
+-- a line with what follows from it, and line n off its form
+unfoldable pub onLine : ℕ → Line → (List ℕ → List ℕ → Read) → Read
+onLine n off next = Read.offAt n
+onLine n (line xs t) next = next xs t
+
+unfoldable pub onParts : Parts → (List Spelt → Written) → Read
+onParts (Parts.offAt n) make = Read.offAt n
+onParts (parts ss) make = written (make ss)
+
+-- "Lines stand in the case's order, parts last."
+unfoldable pub readText : List ℕ → Read
+readText text =
+    onLine 1 (readForm limit boundsForm text) (λ bounds t1.
+      onLine 2 (readForm limit cellForm t1) (λ cell t2.
+        onLine 3 (readForm limit blocksForm t2) (λ blocks t3.
+          onLine 4 (readForm limit bandForm t3) (λ band t4.
+            onParts (readParts 64 5 t4) (λ ss. record { bounds = bounds; cell = cell; blocks = blocks; band = band; parts = ss })))))
+
+-- ---- the input that is written
+
+abbrev pub componentOf : Spelt → ModelComponent
+componentOf s = record { part = partFrom (s .kind) (s .numbers) }
+
+-- the parts in their array: those beyond the count are constants +0
+abbrev pub componentsOf : List Spelt → List ModelComponent
+componentsOf ss = map componentOf ss ++ replicate (64 - length ss) (record { part = Constant plusZero })
+
+-- the bits of the constants as they are written, at their parts' places
+abbrev pub patternsOf : List Spelt → List ℕ
+patternsOf ss = map (λ s. patternFrom (s .kind) (s .numbers)) ss ++ replicate (64 - length ss) 0
+
+abbrev pub inputOf : Written → Input
+inputOf w = record {
+  grid = record {
+    bounds = box (vec3 (real (w .bounds) 0) (real (w .bounds) 1) (real (w .bounds) 2)) (vec3 (real (w .bounds) 3) (real (w .bounds) 4) (real (w .bounds) 5));
+    cell = real (w .cell) 0;
+    inner = word (w .blocks) 0;
+    leaf = word (w .blocks) 1;
+  };
+  band = record { min = real (w .band) 0; max = real (w .band) 1 };
+  model = record { parts = componentsOf (w .parts); count = length (w .parts) };
+}
+
+abbrev pub jobOf : Written → Job
+jobOf w = record { input = inputOf w; patterns = patternsOf (w .parts) }
+
+-- the code's answer
+unfoldable pub readingOf : Read → reading.Reading
+readingOf (Read.offAt n) = answer.Off n
+readingOf (written w) = answer.Read (jobOf w)

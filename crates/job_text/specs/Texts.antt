@@ -1,0 +1,55 @@
+-- The text of a job.
+use Prim.Native.Nat.{ℕ}
+use mathlib.Core.List.{List, [], _∷_, _++_, map}
+use lib.ListN.{take}
+use lib.Ieee.{binary64, toBits}
+use Rattle.model.specs.declared.Part.{Part}
+use Rattle.model.specs.declared.Part.the-variants.{Constant, Sphere, Plane, Min, Max, Add, Sub, Neg}
+use Rattle.model.specs.Part.{partIn}
+use Rattle.sparse_field.specs.declared.Input.{Input}
+use Rattle.forms.specs.Forms.{spell}
+use Rattle.job_text.specs.Lines.{boundsForm, cellForm, blocksForm, bandForm, PartKind, const, sphere, plane, min, max, add, sub, neg, partForm}
+use Rattle.job_text.specs.Parts.{Spelt}
+use Rattle.job_text.specs.Reading.{Written}
+
+-- part lines, one after the other
+unfoldable pub partsText : List Spelt → List ℕ
+partsText [] = []
+partsText (s ∷ ss) = spell (partForm (s .kind)) (s .numbers) ++ partsText ss
+
+-- the text of a job as it is written
+unfoldable pub textOf : Written → List ℕ
+textOf w =
+    spell boundsForm (w .bounds)
+    ++ (spell cellForm (w .cell) ++ (spell blocksForm (w .blocks) ++ (spell bandForm (w .band) ++ partsText (w .parts))))
+
+-- ---- the text of an input: floats by their bits
+
+spelt : PartKind → List ℕ → Spelt
+spelt k xs = record { kind = k; numbers = xs }
+
+unfoldable pub speltPart : Part → Spelt
+unfolding spelt
+speltPart (Constant w) = spelt const (toBits binary64 w ∷ [])
+speltPart (Sphere c r) = spelt sphere (toBits binary64 (c .x) ∷ toBits binary64 (c .y) ∷ toBits binary64 (c .z) ∷ toBits binary64 r ∷ [])
+speltPart (Plane n d) = spelt plane (toBits binary64 (n .x) ∷ toBits binary64 (n .y) ∷ toBits binary64 (n .z) ∷ toBits binary64 d ∷ [])
+speltPart (Min a b) = spelt min (a ∷ b ∷ [])
+speltPart (Max a b) = spelt max (a ∷ b ∷ [])
+speltPart (Add a b) = spelt add (a ∷ b ∷ [])
+speltPart (Sub a b) = spelt sub (a ∷ b ∷ [])
+speltPart (Neg a) = spelt neg (a ∷ [])
+
+unfoldable pub writtenInput : Input → Written
+writtenInput i =
+    let g = i .grid in
+    let b = g .bounds in
+    record {
+      bounds = map (toBits binary64) (b .min .x ∷ b .min .y ∷ b .min .z ∷ b .max .x ∷ b .max .y ∷ b .max .z ∷ []);
+      cell = toBits binary64 (g .cell) ∷ [];
+      blocks = g .inner ∷ g .leaf ∷ [];
+      band = toBits binary64 (i .band .min) ∷ toBits binary64 (i .band .max) ∷ [];
+      parts = map speltPart (map partIn (take (i .model .count) (i .model .parts)));
+    }
+
+unfoldable pub inputText : Input → List ℕ
+inputText i = textOf (writtenInput i)

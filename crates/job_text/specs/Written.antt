@@ -1,0 +1,62 @@
+-- What writing a job's listing answers and leaves in the lent bytes: 7 without a job, 8 for an impossible record, "not printable" for an unfinished job or a
+-- leaf's place outside the store, then 6 where the bytes are too few. A refusal writes nothing; what lies past a listing is 0.
+use Prim.Native.Nat.{ℕ, zero, suc, _+_, _-_, _*_}
+use mathlib.Core.Bool.{Bool, true, false, cond, _&&_, _||_, not}
+use mathlib.Core.List.{List, [], _∷_, _++_}
+use lib.Dec.{eqb, leb, ltb}
+use lib.ListN.{length, getD, replicate}
+use Rattle.schedule.specs.Schedule.{Memory}
+use Rattle.schedule.specs.JobRecord.{isFinished}
+use Rattle.schedule.specs.Possible.{impossible}
+use Rattle.sparse_field.specs.declared.Record.{Record}
+use Rattle.sparse_field.specs.Records.{sparse, jobIn, countsIn}
+use Rattle.sparse_field.specs.Plan.{planOf}
+use Rattle.job_text.specs.declared.Listing as answers
+use Rattle.job_text.specs.declared.Listing.the-variants as answer
+use Rattle.job_text.specs.Listing.{listing}
+
+-- ---- lent bytes
+
+-- bytes at the front and 0 after them, where they fit; otherwise the lent bytes as they were
+unfoldable pub putBytes : List ℕ → List ℕ → List ℕ
+putBytes bs out = cond (leb (length bs) (length out)) (bs ++ replicate (length out - length bs) 0) out
+
+-- the answer: how many bytes, or 6
+unfoldable pub putAnswer : List ℕ → List ℕ → answers.Listing
+putAnswer bs out = cond (leb (length bs) (length out)) (answer.Bytes (length bs)) (answer.Refused 6)
+
+-- ---- a record's listing
+
+-- whether the child at place j is no leaf, or has its stretch inside the store
+unfoldable pub placed : (points : ℕ) → Memory → ℕ → Bool
+placed points m j = not (eqb (getD (m .kinds) j 0) 2) || leb ((getD (m .places) j 0 + 1) * points) (length (m .store))
+
+-- whether all r from place j on are
+unfoldable pub allPlaced : (points : ℕ) → Memory → (r j : ℕ) → Bool
+allPlaced points m zero j = true
+allPlaced points m (suc r) j = placed points m j && allPlaced points m r (suc j)
+
+unfoldable pub printable : Record → Memory → Bool
+printable r m =
+    let P = planOf (r .input) in isFinished (jobIn r) && allPlaced (P .leafPoints) m (P .nodes * P .children) 0
+
+unfoldable pub recordListing : Record → ℕ → Memory → List ℕ
+recordListing r nan m =
+    let P = planOf (r .input) in listing (P .nodes) (P .children) (P .leafPoints) nan (countsIn (r .counts)) m
+
+-- what writing does with a listing: an answer, and the bytes after it
+pub record Put : Type 0 where
+  pub answer : answers.Listing
+  pub bytes : List ℕ
+
+abbrev pub refusedPut : answers.Listing → List ℕ → Put
+refusedPut a out = record { answer = a; bytes = out }
+
+abbrev pub putListing : List ℕ → List ℕ → Put
+putListing bs out = record { answer = putAnswer bs out; bytes = putBytes bs out }
+
+unfoldable pub written : Record → ℕ → Memory → List ℕ → Put
+written r nan m out =
+    cond (not (r .job)) (refusedPut (answer.Refused 7) out)
+    (cond (impossible sparse (jobIn r) m) (refusedPut (answer.Refused 8) out)
+    (cond (not (printable r m)) (refusedPut answer.NotPrintable out) (putListing (recordListing r nan m) out)))
