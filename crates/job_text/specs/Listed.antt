@@ -5,22 +5,26 @@ use Rattle.schedule.specs.Opened.{Lengths}
 use Rattle.sparse_field.specs.Records.{sparse}
 use Rattle.sparse_field.specs.Plan.{planOf}
 use Rattle.forms.specs.Forms.{spell}
+use Rattle.job_text.specs.declared.Job.{Job}
 use Rattle.job_text.specs.Lines.{refusedForm, offForm}
-use Rattle.job_text.specs.Reading.{Read, offAt, written, readText, Written, inputOf, jobOf}
+use Rattle.job_text.specs.Reading.{Read, offAt, written, readText, jobOf}
 use Rattle.job_text.specs.NanBits.{jobNan}
 use Rattle.job_text.specs.Listing.{planListing}
 
 abbrev pub programLengths : Lengths
 programLengths = record { kinds = 512; numbers = 512; places = 512; store = 4096; corners = 125 }
 
--- the listing of a job, by the cause that its input meets
-unfoldable pub jobListed : Written → ℕ → List ℕ
-jobListed w zero = planListing (planOf (inputOf w)) (jobNan (jobOf w))
-jobListed w (suc n) = spell refusedForm (suc n ∷ [])
+-- what is printed for a job, by the cause that its input meets
+unfoldable pub listedBy : Job → ℕ → List ℕ
+listedBy j zero = planListing (planOf (j .input)) (jobNan j)
+listedBy j (suc n) = spell refusedForm (suc n ∷ [])
+
+unfoldable pub jobListed : Job → List ℕ
+jobListed j = listedBy j (sparse .cause programLengths (j .input))
 
 unfoldable pub readListed : Read → List ℕ
 readListed (offAt n) = spell offForm (n ∷ [])
-readListed (written w) = jobListed w (sparse .cause programLengths (inputOf w))
+readListed (written w) = jobListed (jobOf w)
 
 unfoldable pub listed : List ℕ → List ℕ
 listed text = readListed (readText text)
