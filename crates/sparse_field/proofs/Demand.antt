@@ -35,7 +35,7 @@ cursor-forth end = refl
 cursor-forth (at (corner v i)) = refl
 cursor-forth (at (point v c p)) = refl
 
-record-forth : (r : JobRecord sparse) → recordIn (recordOut r) ≡ r
+pub record-forth : (r : JobRecord sparse) → recordIn (recordOut r) ≡ r
 record-forth noJob = refl
 record-forth (job j) = λ t. job (record { input = j .input; lengths = j .lengths; counts = j .counts; cursor = cursor-forth (j .cursor) t })
 

@@ -12,6 +12,7 @@ pub mod Results
 pub mod Opening
 pub mod CallLaws
 pub mod Demand
+pub mod WholeJob
 pub mod AroundLaws
 pub mod Searching
 pub mod Writing

@@ -17,6 +17,7 @@ mod zeroing; // zeroing.rt: slices set to zero
 pub use calls::drop;
 pub use calls::open;
 pub use calls::step;
+pub use jobs::no_record;
 pub use judging::is_impossible;
 
 // What a job is made from.

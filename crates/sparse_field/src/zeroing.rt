@@ -5,32 +5,32 @@ ghost use Rattle.float.specs.Zero.{plusZero};
 ghost use Rattle.schedule.specs.Opened.{lengthsOf, zeroMemory};
 ghost use Rattle.sparse_field.specs.Calls.{memoryOf};
 
-pub fn zero_bytes(s: &mut [u8])
-    ensures { λ _. ⌜ now (s .exit) ≡ replicate (length (now (s .entry))) 0 ⌝ }
+pub fn zero_bytes(bytes: &mut [u8])
+    ensures { λ _. ⌜ now (bytes .exit) ≡ replicate (length (now (bytes .entry))) 0 ⌝ }
 {
     let mut i = 0;
-    while i < s.len() {
-        s[i] = 0;
+    while i < bytes.len() {
+        bytes[i] = 0;
         i += 1;
     }
 }
 
-pub fn zero_words(s: &mut [u32])
-    ensures { λ _. ⌜ now (s .exit) ≡ replicate (length (now (s .entry))) 0 ⌝ }
+pub fn zero_words(words: &mut [u32])
+    ensures { λ _. ⌜ now (words .exit) ≡ replicate (length (now (words .entry))) 0 ⌝ }
 {
     let mut i = 0;
-    while i < s.len() {
-        s[i] = 0;
+    while i < words.len() {
+        words[i] = 0;
         i += 1;
     }
 }
 
-pub fn zero_floats(s: &mut [f64])
-    ensures { λ _. ⌜ now (s .exit) ≡ replicate (length (now (s .entry))) plusZero ⌝ }
+pub fn zero_floats(floats: &mut [f64])
+    ensures { λ _. ⌜ now (floats .exit) ≡ replicate (length (now (floats .entry))) plusZero ⌝ }
 {
     let mut i = 0;
-    while i < s.len() {
-        s[i] = 0.0;
+    while i < floats.len() {
+        floats[i] = 0.0;
         i += 1;
     }
 }

@@ -18,8 +18,8 @@ abbrev μ-loop : tie.MeasureT-loop
 loop-holds : tie.Need-loop-holds Inv-loop μ-loop
 loop-holds c = (search needs, search needs, sym (filled-none _ _ _))
 
-slice-write-s : tie.Need-slice-write-s Inv-loop μ-loop
-slice-write-s c = search needs
+slice-write-bytes : tie.Need-slice-write-bytes Inv-loop μ-loop
+slice-write-bytes c = search needs
 
 add-i : tie.Need-add-i Inv-loop μ-loop
 add-i c = search needs
@@ -31,7 +31,7 @@ loop-again : tie.Need-loop-again Inv-loop μ-loop
 loop-again c =
     let l = c .before .loop in
     let a = c .before .before .args in
-    let next = front-store (l .i) (λ q. 0) (a .s .now) (l .inv .2) refl in
+    let next = front-store (l .i) (λ q. 0) (a .bytes .now) (l .inv .2) refl in
     let long = ap length next ∙ filled-length _ _ _ _ in
     (omega (arith, long, l .inv), long, next)
 
@@ -42,7 +42,7 @@ returns : tie.Need-returns Inv-loop μ-loop
 returns c =
     let l = c .before .loop in
     let a = c .before .before .args in
-    filled-done 0 (λ q. 0) (a .s .now) (l .inv .2) (omega (arith, l .inv)) ∙ filled-constant (length (a .s .now)) 0 (a .s .now) refl
+    filled-done 0 (λ q. 0) (a .bytes .now) (l .inv .2) (omega (arith, l .inv)) ∙ filled-constant (length (a .bytes .now)) 0 (a .bytes .now) refl
 
 pub zero-bytes-spec : {M : Type 1} → statement M
 zero-bytes-spec =
@@ -51,7 +51,7 @@ zero-bytes-spec =
     Inv-loop
     μ-loop
     loop-holds
-    slice-write-s
+    slice-write-bytes
     add-i
     loop-less
     loop-again

@@ -19,11 +19,11 @@ abbrev μ-loop : tie.MeasureT-loop
 loop-holds : tie.Need-loop-holds Inv-loop μ-loop
 loop-holds c = (search needs, search needs, sym (filled-none _ _ _))
 
-mul-s : tie.Need-mul-s Inv-loop μ-loop
-mul-s c = search needs
+mul-floats : tie.Need-mul-floats Inv-loop μ-loop
+mul-floats c = search needs
 
-slice-write-s : tie.Need-slice-write-s Inv-loop μ-loop
-slice-write-s c = search needs
+slice-write-floats : tie.Need-slice-write-floats Inv-loop μ-loop
+slice-write-floats c = search needs
 
 add-i : tie.Need-add-i Inv-loop μ-loop
 add-i c = search needs
@@ -35,7 +35,7 @@ loop-again : tie.Need-loop-again Inv-loop μ-loop
 loop-again c =
     let l = c .before .loop in
     let a = c .before .before .args in
-    let next = front-store (l .i) (λ q. plusZero) (a .s .now) (l .inv .2) refl in
+    let next = front-store (l .i) (λ q. plusZero) (a .floats .now) (l .inv .2) refl in
     let long = ap length next ∙ filled-length _ _ _ _ in
     (omega (arith, long, l .inv), long, next)
 
@@ -46,7 +46,7 @@ returns : tie.Need-returns Inv-loop μ-loop
 returns c =
     let l = c .before .loop in
     let a = c .before .before .args in
-    filled-done 0 (λ q. plusZero) (a .s .now) (l .inv .2) (omega (arith, l .inv)) ∙ filled-constant (length (a .s .now)) plusZero (a .s .now) refl
+    filled-done 0 (λ q. plusZero) (a .floats .now) (l .inv .2) (omega (arith, l .inv)) ∙ filled-constant (length (a .floats .now)) plusZero (a .floats .now) refl
 
 pub zero-floats-spec : {M : Type 1} → statement M
 zero-floats-spec =
@@ -55,8 +55,8 @@ zero-floats-spec =
     Inv-loop
     μ-loop
     loop-holds
-    mul-s
-    slice-write-s
+    mul-floats
+    slice-write-floats
     add-i
     loop-less
     loop-again

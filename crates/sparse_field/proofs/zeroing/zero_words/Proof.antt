@@ -18,11 +18,11 @@ abbrev μ-loop : tie.MeasureT-loop
 loop-holds : tie.Need-loop-holds Inv-loop μ-loop
 loop-holds c = (search needs, search needs, sym (filled-none _ _ _))
 
-mul-s : tie.Need-mul-s Inv-loop μ-loop
-mul-s c = search needs
+mul-words : tie.Need-mul-words Inv-loop μ-loop
+mul-words c = search needs
 
-slice-write-s : tie.Need-slice-write-s Inv-loop μ-loop
-slice-write-s c = search needs
+slice-write-words : tie.Need-slice-write-words Inv-loop μ-loop
+slice-write-words c = search needs
 
 add-i : tie.Need-add-i Inv-loop μ-loop
 add-i c = search needs
@@ -34,7 +34,7 @@ loop-again : tie.Need-loop-again Inv-loop μ-loop
 loop-again c =
     let l = c .before .loop in
     let a = c .before .before .args in
-    let next = front-store (l .i) (λ q. 0) (a .s .now) (l .inv .2) refl in
+    let next = front-store (l .i) (λ q. 0) (a .words .now) (l .inv .2) refl in
     let long = ap length next ∙ filled-length _ _ _ _ in
     (omega (arith, long, l .inv), long, next)
 
@@ -45,7 +45,7 @@ returns : tie.Need-returns Inv-loop μ-loop
 returns c =
     let l = c .before .loop in
     let a = c .before .before .args in
-    filled-done 0 (λ q. 0) (a .s .now) (l .inv .2) (omega (arith, l .inv)) ∙ filled-constant (length (a .s .now)) 0 (a .s .now) refl
+    filled-done 0 (λ q. 0) (a .words .now) (l .inv .2) (omega (arith, l .inv)) ∙ filled-constant (length (a .words .now)) 0 (a .words .now) refl
 
 pub zero-words-spec : {M : Type 1} → statement M
 zero-words-spec =
@@ -54,8 +54,8 @@ zero-words-spec =
     Inv-loop
     μ-loop
     loop-holds
-    mul-s
-    slice-write-s
+    mul-words
+    slice-write-words
     add-i
     loop-less
     loop-again
