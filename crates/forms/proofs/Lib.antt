@@ -6,3 +6,4 @@ pub mod Pieces
 pub mod FormLaws
 pub mod CutLaws
 pub mod Turns
+pub mod FormTurns
