@@ -126,3 +126,12 @@ module _ (limit w : ℕ) (some : 0 < w) (small : limit < 10 ^ w) (bound : limit 
   form-cut (p ∷ form) m t apart enough =
       rw (piece-cut limit w m p form t small apart enough)
       (front-cut p form m t enough (λ k s. form-cut form k s (separated-rest p form apart)) (readPiece limit p t) refl)
+
+  module _ (form : List Piece) (m : ℕ) (t : List ℕ) (apart : separated form ≡ true) (enough : mostOf w form ≤ m) where
+    pub off-cut : readForm limit form t ≡ off → readForm limit form (take m t) ≡ off
+    unfolding cutLine
+    off-cut is = form-cut form m t apart enough ∙ ap (cutLine m (length t)) is
+
+    pub line-cut : (xs rest : List ℕ) → readForm limit form t ≡ line xs rest → readForm limit form (take m t) ≡ line xs (take (m + length rest - length t) rest)
+    unfolding cutLine
+    line-cut xs rest is = form-cut form m t apart enough ∙ ap (cutLine m (length t)) is

@@ -7,3 +7,4 @@ pub mod FormLaws
 pub mod CutLaws
 pub mod Turns
 pub mod FormTurns
+pub mod Worked
