@@ -2,5 +2,9 @@ pub mod Cases
 pub mod Stores
 pub mod DigitLaws
 pub mod NumberLaws
+pub mod Pieces
 pub mod FormLaws
 pub mod CutLaws
+pub mod Turns
+pub mod FormTurns
+pub mod Worked
