@@ -51,11 +51,11 @@ decimal-cut-after limit (suc m) v [] within past = rw take-nil
 decimal-cut-after limit (suc m) v (b ∷ t) within past =
     below-or (digitOf b) 10
     (λ digit. below-or limit (v * 10 + digitOf b)
-      (λ above. rw (decimal-past b (take m t) limit v digit above, decimal-past b t limit v digit above))
-      (λ room.
-        let more : limit < (v * 10 + digitOf b) * 10 ^ m = past-more limit m v (digitOf b) past in
-        rw (decimal-digit b (take m t) limit v digit room, decimal-digit b t limit v digit room)
-        (decimal-cut-after limit m (v * 10 + digitOf b) t room more ∙ sym (cut-next m (length t) (decimalAfter limit (v * 10 + digitOf b) t)))))
+    (λ above. rw (decimal-past b (take m t) limit v digit above, decimal-past b t limit v digit above))
+    (λ room.
+    let more : limit < (v * 10 + digitOf b) * 10 ^ m = past-more limit m v (digitOf b) past in
+    rw (decimal-digit b (take m t) limit v digit room, decimal-digit b t limit v digit room)
+    (decimal-cut-after limit m (v * 10 + digitOf b) t room more ∙ sym (cut-next m (length t) (decimalAfter limit (v * 10 + digitOf b) t)))))
     (λ other. rw (decimal-ends b (take m t) limit v other, decimal-ends b t limit v other) (sym (cut-whole (suc m) v (b ∷ t))))
 
 -- a number with more than w digits is above the limit
@@ -67,15 +67,15 @@ decimal-cut limit w (suc m) (b ∷ t) small enough =
     equal-or b 48
     (λ is. rw (decimal-nought b (take m t) limit is, decimal-nought b t limit is) (sym (cut-next m (length t) (fronts.number 0 t) ∙ cut-whole m 0 t)))
     (λ other. below-or (digitOf b) 10
-      (λ digit. below-or limit (digitOf b)
-        (λ past. rw (decimal-large b (take m t) limit other digit past, decimal-large b t limit other digit past))
-        (λ room.
-          let power : 10 ^ w ≤ 10 ^ m = pow-le-pow-right (omega arith) (omega arith) in
-          let some : 1 ≤ digitOf b = digit-some b other digit in
-          let past : limit < digitOf b * 10 ^ m = omega (arith, mul-le-mul-right (10 ^ m) some) in
-          rw (decimal-first b (take m t) limit other digit room, decimal-first b t limit other digit room)
-          (decimal-cut-after limit m (digitOf b) t room past ∙ sym (cut-next m (length t) (decimalAfter limit (digitOf b) t)))))
-      (λ large. rw (decimal-none b (take m t) limit large, decimal-none b t limit large)))
+    (λ digit. below-or limit (digitOf b)
+    (λ past. rw (decimal-large b (take m t) limit other digit past, decimal-large b t limit other digit past))
+    (λ room.
+    let power : 10 ^ w ≤ 10 ^ m = pow-le-pow-right (omega arith) (omega arith) in
+    let some : 1 ≤ digitOf b = digit-some b other digit in
+    let past : limit < digitOf b * 10 ^ m = omega (arith, mul-le-mul-right (10 ^ m) some) in
+    rw (decimal-first b (take m t) limit other digit room, decimal-first b t limit other digit room)
+    (decimal-cut-after limit m (digitOf b) t room past ∙ sym (cut-next m (length t) (decimalAfter limit (digitOf b) t)))))
+    (λ large. rw (decimal-none b (take m t) limit large, decimal-none b t limit large)))
 
 -- ---- a line
 
@@ -126,3 +126,12 @@ module _ (limit w : ℕ) (some : 0 < w) (small : limit < 10 ^ w) (bound : limit 
   form-cut (p ∷ form) m t apart enough =
       rw (piece-cut limit w m p form t small apart enough)
       (front-cut p form m t enough (λ k s. form-cut form k s (separated-rest p form apart)) (readPiece limit p t) refl)
+
+  module _ (form : List Piece) (m : ℕ) (t : List ℕ) (apart : separated form ≡ true) (enough : mostOf w form ≤ m) where
+    pub off-cut : readForm limit form t ≡ off → readForm limit form (take m t) ≡ off
+    unfolding cutLine
+    off-cut is = form-cut form m t apart enough ∙ ap (cutLine m (length t)) is
+
+    pub line-cut : (xs rest : List ℕ) → readForm limit form t ≡ line xs rest → readForm limit form (take m t) ≡ line xs (take (m + length rest - length t) rest)
+    unfolding cutLine
+    line-cut xs rest is = form-cut form m t apart enough ∙ ap (cutLine m (length t)) is

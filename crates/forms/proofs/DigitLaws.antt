@@ -98,6 +98,14 @@ count-most (suc k) (suc (suc w)) x some below =
     (λ small. rw (count-one (suc k) x small) (omega arith))
     (λ large. rw (count-next k x large) (omega (arith, count-most k (suc w) (x / 10) (omega arith) (tenth-below (suc w) x below))))
 
+pub count-limit : (k x : ℕ) → decimalCount k x ≤ suc k
+unfolding decimalCount
+count-limit zero x = omega arith
+count-limit (suc k) x =
+    below-or x 10
+    (λ small. rw (count-one (suc k) x small) (omega arith))
+    (λ large. rw (count-next k x large) (omega (arith, count-limit k (x / 10))))
+
 -- where the digits are few enough, one more to count makes no difference
 pub count-same : (k x : ℕ) → x < 10 ^ suc k → decimalCount (suc k) x ≡ decimalCount k x
 count-same zero x below = count-one 1 x below ∙ sym (count-one 0 x below)

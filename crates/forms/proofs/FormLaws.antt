@@ -98,11 +98,11 @@ form-read limit [] xs t small apart fits enough = refl
 form-read limit (p ∷ form) xs t small apart fits enough =
     let rest : List ℕ = spell form (after p xs) ++ t in
     let front : readPiece limit p (spellPiece p (getD xs 0 0) ++ rest) ≡ fronts.number (kept p (getD xs 0 0)) rest =
-        piece-spelled limit p (getD xs 0 0) rest small (fits .0) (ends-after p form (after p xs) t apart) in
+    piece-spelled limit p (getD xs 0 0) rest small (fits .0) (ends-after p form (after p xs) t apart) in
     rw (append-assoc (spellPiece p (getD xs 0 0)) (spell form (after p xs)) t, front)
     (ap (withNumber (isField p) (kept p (getD xs 0 0)))
-     (form-read limit form (after p xs) t small (separated-rest p form apart) (fits .1) (enough-after p form xs enough))
-     ∙ own-first p form xs t enough)
+    (form-read limit form (after p xs) t small (separated-rest p form apart) (fits .1) (enough-after p form xs enough))
+    ∙ own-first p form xs t enough)
 
 pub form-spelled : (limit : ℕ) (form : List Piece) (xs t : List ℕ) → limit < 10 ^ 20 → separated form ≡ true → Fits limit form xs → length xs ≡ fields form
     → readForm limit form (spell form xs ++ t) ≡ line xs t

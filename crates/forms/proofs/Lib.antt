@@ -6,3 +6,5 @@ pub mod Pieces
 pub mod FormLaws
 pub mod CutLaws
 pub mod Turns
+pub mod FormTurns
+pub mod Worked

@@ -8,12 +8,27 @@ use mathlib.Core.List.{List, [], _∷_, _++_}
 use lib.ListN.{length, getD, drop, set}
 use lib.Seq.{sets, drop-cons, drop-length}
 use Rattle.forms.specs.Digits.{digitByte, digitOf, digits, decimalCount}
-use Rattle.forms.specs.Fronts.{off, number, hexAfter, decimalAfter, decimalFront}
+use Rattle.forms.specs.declared.Found.{Found}
+use Rattle.forms.specs.declared.Found.the-variants.{Number, NoNumber}
+use Rattle.forms.specs.Answers.{Finds}
+use Rattle.forms.specs.Fronts.{Front, off, number, hexAfter, decimalAfter, decimalFront}
 use Rattle.forms.specs.Forms.{byte, readPiece}
 use Rattle.forms.proofs.Stores.{sets-last}
 use Rattle.forms.proofs.DigitLaws.{digits-length, count-next, tenth-below}
 use Rattle.forms.proofs.NumberLaws.{hex-digit, hex-other, decimal-digit, decimal-past, decimal-ends, decimal-first, decimal-large, decimal-none, decimal-nought}
 use Rattle.forms.proofs.FormLaws.{byte-read, byte-other}
+
+-- what stands there may be said in other words
+pub finds-same : (text : List ℕ) (f g : Front) (r : Found) → f ≡ g → Finds text g r → Finds text f r
+finds-same text f g r same finds = rw same finds
+
+pub finds-off : (text : List ℕ) (f : Front) (r : Found) → Finds text f r → r ≡ NoNumber → f ≡ off
+unfolding Finds
+finds-off text f r finds is = rw is at finds
+
+pub finds-number : (text : List ℕ) (f : Front) (r : Found) (x next : ℕ) → Finds text f r → r ≡ Number x next → (f ≡ number x (drop next text)) × (next ≤ length text)
+unfolding Finds
+finds-number text f r x next finds is = rw is at finds
 
 -- ---- the text from a place on
 
@@ -55,6 +70,24 @@ module _ (text : List ℕ) (place d : ℕ) (inside : place < length text) (is : 
 
   pub after-ends : (limit v : ℕ) → 10 ≤ d → decimalAfter limit v (drop place text) ≡ number v (drop place text)
   after-ends limit v other = rw (drop-here text place inside) (decimal-ends (getD text place 0) (drop (place + 1) text) limit v (omega arith))
+
+  pub front-none : (limit : ℕ) → 10 ≤ d → decimalFront limit (drop place text) ≡ off
+  front-none limit other = rw (drop-here text place inside) (decimal-none (getD text place 0) (drop (place + 1) text) limit (omega arith))
+
+  module _ (limit : ℕ) (other : getD text place 0 ≡ 48 → ⊥) (digit : d < 10) where
+    pub front-large : limit < d → decimalFront limit (drop place text) ≡ off
+    front-large past = rw (drop-here text place inside) (decimal-large (getD text place 0) (drop (place + 1) text) limit other (omega arith) (omega arith))
+
+    pub front-first : d ≤ limit → decimalFront limit (drop place text) ≡ decimalAfter limit d (drop (place + 1) text)
+    front-first within =
+        rw (drop-here text place inside, is) (decimal-first (getD text place 0) (drop (place + 1) text) limit other (omega arith) (omega arith))
+
+pub front-ended : (text : List ℕ) (place limit : ℕ) → place ≤ length text → length text ≤ place → decimalFront limit (drop place text) ≡ off
+unfolding decimalFront
+front-ended text place limit within past = rw (drop-end text place within past)
+
+pub front-nought : (text : List ℕ) (place limit : ℕ) → place < length text → getD text place 0 ≡ 48 → decimalFront limit (drop place text) ≡ number 0 (drop (place + 1) text)
+front-nought text place limit inside is = rw (drop-here text place inside) (decimal-nought (getD text place 0) (drop (place + 1) text) limit is)
 
 pub after-all : (text : List ℕ) (place limit v : ℕ) → place ≤ length text → length text ≤ place → decimalAfter limit v (drop place text) ≡ number v (drop place text)
 unfolding decimalAfter

@@ -70,15 +70,19 @@ fn put_piece(piece: u8, x: u64, at: usize, out: &mut [u8]) -> usize
     at + 1
 }
 
-// The number at a place among six, and 0 after them.
-fn number_at(numbers: &[u64; 6], count: usize) -> u64
+// The number at a place, and 0 past the last.
+fn number_at(numbers: &[u64], count: usize) -> u64
     ensures { λ r. ⌜ r ≡ getD (now (numbers .entry)) count 0 ⌝ }
 {
-    if count < 6 { numbers[count] } else { 0 }
+    if count < numbers.len() {
+        numbers[count]
+    } else {
+        0
+    }
 }
 
 // How many bytes a line has.
-pub fn form_length(form: &[u8], numbers: &[u64; 6]) -> usize
+pub fn form_length(form: &[u8], numbers: &[u64]) -> usize
     requires { ⌜ length (now form) ≤ 4096 ⌝ }
     ensures { λ r. ⌜ r ≡ length (spell (map pieceOf (now (form .entry))) (now (numbers .entry))) ⌝ }
 {
@@ -95,7 +99,7 @@ pub fn form_length(form: &[u8], numbers: &[u64; 6]) -> usize
 }
 
 // Puts a line at a place, and answers where it ends.
-pub fn put_form(form: &[u8], numbers: &[u64; 6], at: usize, out: &mut [u8]) -> usize
+pub fn put_form(form: &[u8], numbers: &[u64], at: usize, out: &mut [u8]) -> usize
     requires { ⌜ at + length (spell (map pieceOf (now form)) (now numbers)) ≤ length (now out) ⌝ }
     ensures { λ r. ⌜ r ≡ at + length (spell (map pieceOf (now (form .entry))) (now (numbers .entry))) ⌝ }
     ensures { λ _. ⌜ now (out .exit) ≡ sets (now (out .entry)) at (spell (map pieceOf (now (form .entry))) (now (numbers .entry))) ⌝ }
