@@ -22,6 +22,12 @@ kind-last (suc (suc (suc (suc (suc (suc zero)))))) past = absurd (omega arith)
 kind-last (suc (suc (suc (suc (suc (suc (suc zero))))))) past = refl
 kind-last (suc (suc (suc (suc (suc (suc (suc (suc k)))))))) past = refl
 
+pub past-two : (k : ℕ) → (k ≡ 0 → ⊥) → (k ≡ 1 → ⊥) → (k ≡ 2 → ⊥) → 2 < k
+past-two k none one two = omega arith
+
+pub past-six : (k : ℕ) → 2 < k → (k ≡ 3 → ⊥) → (k ≡ 4 → ⊥) → (k ≡ 5 → ⊥) → (k ≡ 6 → ⊥) → 6 < k
+past-six k past three four five six = omega arith
+
 -- no kind but the first is a constant
 pub pattern-other : (k : ℕ) (xs : List ℕ) → 0 < k → patternFrom (kindOf k) xs ≡ 0
 unfolding patternFrom

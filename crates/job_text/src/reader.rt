@@ -99,8 +99,9 @@ fn read_model(text: &[u8], at: usize, grid: Grid, band: Band) -> Reading
             return off_at(5 + count);
         };
         let part = line.part;
-        parts[count as usize] = ModelComponent { part };
-        patterns[count as usize] = line.pattern;
+        let i = count as usize;
+        parts[i] = ModelComponent { part };
+        patterns[i] = line.pattern;
         count += 1;
         place = next;
     }

@@ -29,7 +29,7 @@ returns-4 c = rw (c .if4 .taken) (cc)
 
 returns-5 : tie.Need-returns-5
 unfolding partFrom
-returns-5 c = rw (kind-last _ (omega arith)) (cc)
+returns-5 c = rw (kind-last (c .before .before .before .before .before .before .args .kind) (omega arith)) (cc)
 
 pub operation-of-spec : {M : Type 1} → statement M
 operation-of-spec =

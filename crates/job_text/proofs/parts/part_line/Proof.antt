@@ -1,59 +1,62 @@
+-- `part_line` meets its contract. The invariant: of the kinds before this one the text has none.
+use mathlib.Core.Path.{refl}
+use Prim.Native.Nat.{_-_, _≤_}
+use native.Mathlib.Omega.{arith}
+use lib.ListN.{drop}
+use borrow.Author.Needs.{needs}
+use Rattle.job_text.specs.Answers.{ReadsPartTo}
+use Rattle.job_text.proofs.PartTurns.{line-off, Among, among-off, among-none, found-fits, found-part}
 use Rattle.job_text.proofs.parts.part_line.Statement.{statement}
 use Rattle.job_text.proofs.parts.part_line.Tie as tie
-use Rattle.job_text.proofs.parts.part_line.Reads as reads
-use Rattle.job_text.proofs.parts.part_line.Lts as lts
-use Rattle.job_text.proofs.parts.part_of.Reads as part-of-reads
-use Rattle.job_text.proofs.parts.pattern_of.Reads as pattern-of-reads
-use Rattle.job_text.proofs.parts.read_kind.Reads as read-kind-reads
 
 abbrev Inv-loop : tie.InvT-loop
-Inv-loop text at kind₀ kind = ?
+Inv-loop text at kind₀ kind = (kind ≤ 8) × Among kind (drop at text)
 
 abbrev μ-loop : tie.MeasureT-loop
-μ-loop text at kind₀ kind = ?
+μ-loop text at kind₀ kind = 8 - kind
 
--- src/parts.rt:128:5
 loop-holds : tie.Need-loop-holds Inv-loop μ-loop
-loop-holds c = ?
+loop-holds c = (omega arith, refl)
 
--- src/parts.rt:129:13
 read-kind-requires : tie.Need-read-kind-requires Inv-loop μ-loop
-read-kind-requires c κs = ?
+read-kind-requires c κs = search needs
 
--- src/parts.rt:132:24
 enum-known-end : tie.Need-enum-known-end Inv-loop μ-loop
-enum-known-end c = ?
+enum-known-end c = search needs
 
--- src/parts.rt:133:17
 part-of-requires : tie.Need-part-of-requires Inv-loop μ-loop
-part-of-requires c κs = ?
+part-of-requires c κs = found-fits _ (c .before .before .before .before .before .read-kind .result .values) (c .before .before .before .before .before .before .before .before .before .args .at) _ _ _ (c .before .before .before .before .before .read-kind .ensures) (c .before .before .end .given .1)
 
--- src/parts.rt:134:17
 pattern-of-requires : tie.Need-pattern-of-requires Inv-loop μ-loop
-pattern-of-requires c κs = ?
+pattern-of-requires c κs = search needs
 
--- src/parts.rt:135:13
 returns : tie.Need-returns Inv-loop μ-loop
-returns c = ?
+unfolding ReadsPartTo
+returns c =
+    rw (c .before .before .part-of .ensures, c .pattern-of .ensures)
+    (found-part _ _ (c .before .before .before .before .before .before .before .before .before .before .before .before .args .at) _ _ _ (c .before .before .before .before .before .before .before .before .read-kind .ensures)
+     (c .before .before .before .before .before .end .given .1)
+     (c .before .before .before .before .before .before .before .before .before .loop-test .taken)
+     (c .before .before .before .before .before .before .before .before .before .before .loop .inv .1))
 
 enum-told : tie.Need-enum-told Inv-loop μ-loop
-enum-told c = ?
+enum-told c = search needs
 
--- src/parts.rt:141:9
 add-kind : tie.Need-add-kind Inv-loop μ-loop
-add-kind c = ?
+add-kind c = search needs
 
--- src/parts.rt:128:5
 loop-less : tie.Need-loop-less Inv-loop μ-loop
-loop-less c = ?
+loop-less c = search needs
 
--- src/parts.rt:128:5
 loop-again : tie.Need-loop-again Inv-loop μ-loop
-loop-again c = ?
+loop-again c =
+    (omega arith,
+     among-off _ _ (c .before .before .before .before .loop-test .taken) (c .before .before .before .before .before .loop .inv .1)
+     (line-off _ _ _ _ _ (c .before .before .before .read-kind .ensures) (c .enum-told .given .1)))
 
--- src/parts.rt:123:1
 returns-2 : tie.Need-returns-2 Inv-loop μ-loop
-returns-2 c = ?
+unfolding ReadsPartTo
+returns-2 c = among-none _ _ (c .before .loop .inv .0) (c .loop-test .left) (c .before .loop .inv .1)
 
 pub part-line-spec : {M : Type 1} → statement M
 part-line-spec =

@@ -1,3 +1,4 @@
+use native.Mathlib.Omega.{arith}
 use Rattle.job_text.specs.Parts.{partFrom}
 use borrow.Author.Needs.{needs}
 use Rattle.job_text.proofs.parts.part_of.Statement.{statement}
@@ -31,7 +32,7 @@ unfolding partFrom
 returns-3 c = rw (c .before .before .if3 .taken) (cc)
 
 operation-of-requires : tie.Need-operation-of-requires
-operation-of-requires c κs = ?
+operation-of-requires c κs = let fits = c .before .before .before .pre (omega arith) in (omega arith, fits .0, fits .1)
 
 returns-4 : tie.Need-returns-4
 returns-4 c = search needs

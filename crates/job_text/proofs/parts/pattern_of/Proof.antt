@@ -11,10 +11,10 @@ element-copy-out-result c = search needs
 
 returns : tie.Need-returns
 unfolding patternFrom
-returns c = rw (c .if1 .taken)
+returns c = rw (c .before .if1 .taken)
 
 returns-2 : tie.Need-returns-2
-returns-2 c = sym (pattern-other _ _ (omega arith))
+returns-2 c = sym (pattern-other (c .before .args .kind) _ (omega arith))
 
 pub pattern-of-spec : {M : Type 1} → statement M
 pattern-of-spec = tie.close (tie.spec element-copy-out-result returns returns-2)
