@@ -94,10 +94,10 @@ module _ (text : List ℕ) (at : ℕ) (components : List ModelComponent) (patter
   gathered-done grid band past =
       let ended : drop place text ≡ [] = drop-end text place (g .within) past in
       let whole : readParts 64 5 (drop at text) ≡ parts (g .spelts) =
-          g .left
-          ∙ ap (withParts (g .spelts)) (ap (readParts (64 - count) (5 + count)) ended ∙ parts-end (64 - count) (5 + count))
-          ∙ with-all (g .spelts) []
-          ∙ ap parts (append-nil (g .spelts)) in
+      g .left
+      ∙ ap (withParts (g .spelts)) (ap (readParts (64 - count) (5 + count)) ended ∙ parts-end (64 - count) (5 + count))
+      ∙ with-all (g .spelts) []
+      ∙ ap parts (append-nil (g .spelts)) in
       rw (whole, g .parts, g .bits, ← g .number)
 
   module _ (more : place < length text) where
@@ -137,7 +137,7 @@ module _ (text : List ℕ) (at : ℕ) (components : List ModelComponent) (patter
           let s = is .spelt in
           let below : length ss < 64 = omega (arith, g .number) in
           let turned : readParts (64 - count) (5 + count) (drop place text) ≡ withPart s (readParts (64 - (count + 1)) (5 + (count + 1)) (drop next text)) =
-              left-turn ∙ ap (λ (l : PartLine). onPart (5 + count) l (readParts (64 - (count + 1)) (5 + (count + 1)))) (is .line) in
+          left-turn ∙ ap (λ (l : PartLine). onPart (5 + count) l (readParts (64 - (count + 1)) (5 + (count + 1)))) (is .line) in
           record {
             spelts = ss ++ (s ∷ []);
             number = omega (arith, length-append ss (s ∷ []), g .number);

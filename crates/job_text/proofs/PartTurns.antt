@@ -55,9 +55,13 @@ one-fits bs xs rest fits =
     let none : word xs 1 ≡ 0 = sym (getD-drop 1 xs 0 0) ∙ ap (λ (l : List ℕ). getD l 0 0) rest in
     (rw (getD-take 1 xs 0 0 (omega arith)) at (past .0), omega arith)
 
-pub blocks-fit : (xs : List ℕ) → Fits limit blocksForm (take 2 xs) → (word xs 0 ≤ limit) × (word xs 1 ≤ limit)
-unfolding pieceOf
-blocks-fit xs fits = two-fit (bytes "(blocks ") xs fits
+-- the block sizes that are read
+pub blocks-read-fit : (text t xs : List ℕ) (e : End) → ReadsTo text (fields blocksForm) (readForm limit blocksForm t) xs e → (next : ℕ) → e ≡ At next
+    → (word xs 0 ≤ limit) × (word xs 1 ≤ limit)
+unfolding fields isField pieceOf
+blocks-read-fit text t xs e reads next is =
+    let found = line-at text _ _ xs e reads next is in
+    two-fit (bytes "(blocks ") xs (form-sound limit blocksForm t _ _ (omega arith) (found .0) .fits)
 
 -- the inputs of an operation
 pub words-fit : (k : ℕ) (xs : List ℕ) → drop (fields (partForm (kindOf k))) xs ≡ replicate (6 - fields (partForm (kindOf k))) 0

@@ -65,10 +65,10 @@ onParts (parts ss) make = written (make ss)
 unfoldable pub readText : List ℕ → Read
 readText text =
     onLine 1 (readForm limit boundsForm text) (λ bounds t1.
-      onLine 2 (readForm limit cellForm t1) (λ cell t2.
-        onLine 3 (readForm limit blocksForm t2) (λ blocks t3.
-          onLine 4 (readForm limit bandForm t3) (λ band t4.
-            onParts (readParts 64 5 t4) (λ ss. record { bounds = bounds; cell = cell; blocks = blocks; band = band; parts = ss })))))
+    onLine 2 (readForm limit cellForm t1) (λ cell t2.
+    onLine 3 (readForm limit blocksForm t2) (λ blocks t3.
+    onLine 4 (readForm limit bandForm t3) (λ band t4.
+    onParts (readParts 64 5 t4) (λ ss. record { bounds = bounds; cell = cell; blocks = blocks; band = band; parts = ss })))))
 
 -- ---- the input that is written
 

@@ -35,9 +35,9 @@ unfolding ReadsPartTo
 returns c =
     rw (c .before .before .part-of .ensures, c .pattern-of .ensures)
     (found-part _ _ (c .before .before .before .before .before .before .before .before .before .before .before .before .args .at) _ _ _ (c .before .before .before .before .before .before .before .before .read-kind .ensures)
-     (c .before .before .before .before .before .end .given .1)
-     (c .before .before .before .before .before .before .before .before .before .loop-test .taken)
-     (c .before .before .before .before .before .before .before .before .before .before .loop .inv .1))
+    (c .before .before .before .before .before .end .given .1)
+    (c .before .before .before .before .before .before .before .before .before .loop-test .taken)
+    (c .before .before .before .before .before .before .before .before .before .before .loop .inv .1))
 
 enum-told : tie.Need-enum-told Inv-loop μ-loop
 enum-told c = search needs
@@ -49,10 +49,11 @@ loop-less : tie.Need-loop-less Inv-loop μ-loop
 loop-less c = search needs
 
 loop-again : tie.Need-loop-again Inv-loop μ-loop
-loop-again c =
-    (omega arith,
-     among-off _ _ (c .before .before .before .before .loop-test .taken) (c .before .before .before .before .before .loop .inv .1)
-     (line-off _ _ _ _ _ (c .before .before .before .read-kind .ensures) (c .enum-told .given .1)))
+loop-again c = (
+  omega arith,
+  among-off _ _ (c .before .before .before .before .loop-test .taken) (c .before .before .before .before .before .loop .inv .1)
+      (line-off _ _ _ _ _ (c .before .before .before .read-kind .ensures) (c .enum-told .given .1)),
+)
 
 returns-2 : tie.Need-returns-2 Inv-loop μ-loop
 unfolding ReadsPartTo

@@ -21,7 +21,7 @@ off-at-requires : tie.Need-off-at-requires Inv-loop μ-loop
 off-at-requires c κs = search needs
 
 returns : tie.Need-returns Inv-loop μ-loop
-returns c = 
+returns c =
     let g = c .before .before .before .loop .inv in
     let more = c .before .before .loop-test .taken in
     c .off-at .ensures ∙ sym (gathered-off _ _ _ _ _ _ g more 69 (left-full _ _ _ _ _ _ g more (c .before .if1 .taken)) _ _)
@@ -42,7 +42,7 @@ off-at-requires-2 : tie.Need-off-at-requires-2 Inv-loop μ-loop
 off-at-requires-2 c κs = search needs
 
 returns-2 : tie.Need-returns-2 Inv-loop μ-loop
-returns-2 c = 
+returns-2 c =
     let g = c .before .before .before .before .before .before .loop .inv in
     let more = c .before .before .before .before .before .loop-test .taken in
     let none = part-off _ _ _ _ _ (c .before .before .before .part-line .ensures) (c .before .enum-told .given .1) in
@@ -70,7 +70,7 @@ loop-less : tie.Need-loop-less Inv-loop μ-loop
 loop-less c = search needs
 
 loop-again : tie.Need-loop-again Inv-loop μ-loop
-loop-again c = 
+loop-again c =
     let line = part-at _ _ _ _ _ (c .before .before .before .part-line .ensures) _ (c .before .end .given .1) in
     gathered-turn _ _ _ _ _ _ (c .before .before .before .before .before .before .loop .inv) (c .before .before .before .before .before .loop-test .taken) (c .before .before .before .before .if1 .left) _ _ _ line
 
