@@ -1,6 +1,7 @@
 pub mod Lines
 pub mod Parts
 pub mod Reading
+pub mod Answers
 pub mod Texts
 pub mod NanBits
 pub mod Values

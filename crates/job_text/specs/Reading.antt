@@ -1,17 +1,20 @@
 -- What a text is read as: the input that it spells with the bits of its constants, or 12 with a line. Document 01: "The line
 -- named is the first off its form, or the one after the last if the text ends early."
-use Prim.Native.Nat.{ℕ, zero, suc, _-_}
+use Prim.Native.Nat.{ℕ, zero, suc, _+_, _-_}
 use mathlib.Core.List.{List, [], _∷_, _++_, map}
 use lib.ListN.{length, replicate}
 use Rattle.float.specs.Zero.{plusZero}
+use Rattle.geometry.specs.declared.Vec3.{Vec3}
 use Rattle.geometry.specs.Values.{vec3, box}
+use Rattle.grid.specs.declared.Band.{Band}
+use Rattle.grid.specs.declared.Grid.{Grid}
 use Rattle.model.specs.declared.ModelComponent.{ModelComponent}
 use Rattle.model.specs.declared.Part.the-variants.{Constant}
 use Rattle.sparse_field.specs.declared.Input.{Input}
 use Rattle.forms.specs.Forms.{Line, off, line, readForm}
 use Rattle.job_text.specs.declared.Job.{Job}
-use Rattle.job_text.specs.declared.Reading as reading
-use Rattle.job_text.specs.declared.Reading.the-variants as answer
+use Rattle.job_text.specs.declared.Judgement.the-variants as judgement
+use Rattle.job_text.specs.declared.Reading.{Reading}
 use Rattle.job_text.specs.Lines.{limit, boundsForm, cellForm, blocksForm, bandForm}
 use Rattle.job_text.specs.Parts.{word, real, partFrom, patternFrom, Spelt, PartLine, none, part, readPart}
 
@@ -62,10 +65,10 @@ onParts (parts ss) make = written (make ss)
 unfoldable pub readText : List ℕ → Read
 readText text =
     onLine 1 (readForm limit boundsForm text) (λ bounds t1.
-      onLine 2 (readForm limit cellForm t1) (λ cell t2.
-        onLine 3 (readForm limit blocksForm t2) (λ blocks t3.
-          onLine 4 (readForm limit bandForm t3) (λ band t4.
-            onParts (readParts 64 5 t4) (λ ss. record { bounds = bounds; cell = cell; blocks = blocks; band = band; parts = ss })))))
+    onLine 2 (readForm limit cellForm t1) (λ cell t2.
+    onLine 3 (readForm limit blocksForm t2) (λ blocks t3.
+    onLine 4 (readForm limit bandForm t3) (λ band t4.
+    onParts (readParts 64 5 t4) (λ ss. record { bounds = bounds; cell = cell; blocks = blocks; band = band; parts = ss })))))
 
 -- ---- the input that is written
 
@@ -80,22 +83,46 @@ componentsOf ss = map componentOf ss ++ replicate (64 - length ss) (record { par
 abbrev pub patternsOf : List Spelt → List ℕ
 patternsOf ss = map (λ s. patternFrom (s .kind) (s .numbers)) ss ++ replicate (64 - length ss) 0
 
-abbrev pub inputOf : Written → Input
-inputOf w = record {
-  grid = record {
-    bounds = box (vec3 (real (w .bounds) 0) (real (w .bounds) 1) (real (w .bounds) 2)) (vec3 (real (w .bounds) 3) (real (w .bounds) 4) (real (w .bounds) 5));
-    cell = real (w .cell) 0;
-    inner = word (w .blocks) 0;
-    leaf = word (w .blocks) 1;
-  };
-  band = record { min = real (w .band) 0; max = real (w .band) 1 };
-  model = record { parts = componentsOf (w .parts); count = length (w .parts) };
+-- three floats of a line, from a place on
+abbrev pub pointOf : List ℕ → ℕ → Vec3
+pointOf xs i = vec3 (real xs i) (real xs (i + 1)) (real xs (i + 2))
+
+-- the numbers of the first three lines
+abbrev pub gridOf : (bounds cell blocks : List ℕ) → Grid
+gridOf bounds cell blocks = record {
+  bounds = box (pointOf bounds 0) (pointOf bounds 3);
+  cell = real cell 0;
+  inner = word blocks 0;
+  leaf = word blocks 1;
 }
 
+abbrev pub bandOf : List ℕ → Band
+bandOf xs = record { min = real xs 0; max = real xs 1 }
+
+-- an input with these part lines, and the bits of its constants
+abbrev pub inputWith : Grid → Band → List Spelt → Input
+inputWith g b ss = record { grid = g; band = b; model = record { parts = componentsOf ss; count = length ss } }
+
+abbrev pub jobWith : Grid → Band → List Spelt → Job
+jobWith g b ss = record { input = inputWith g b ss; patterns = patternsOf ss }
+
+abbrev pub inputOf : Written → Input
+inputOf w = inputWith (gridOf (w .bounds) (w .cell) (w .blocks)) (bandOf (w .band)) (w .parts)
+
 abbrev pub jobOf : Written → Job
-jobOf w = record { input = inputOf w; patterns = patternsOf (w .parts) }
+jobOf w = jobWith (gridOf (w .bounds) (w .cell) (w .blocks)) (bandOf (w .band)) (w .parts)
+
+-- a job with nothing written
+abbrev pub noJob : Job
+noJob = jobOf (record { bounds = []; cell = []; blocks = []; band = []; parts = [] })
+
+abbrev pub readJob : Job → Reading
+readJob j = record { judgement = judgement.OnForm; job = j }
+
+abbrev pub offReading : ℕ → Reading
+offReading n = record { judgement = judgement.OffAt n; job = noJob }
 
 -- the code's answer
-unfoldable pub readingOf : Read → reading.Reading
-readingOf (Read.offAt n) = answer.Off n
-readingOf (written w) = answer.Read (jobOf w)
+unfoldable pub readingOf : Read → Reading
+readingOf (Read.offAt n) = offReading n
+readingOf (written w) = readJob (jobOf w)

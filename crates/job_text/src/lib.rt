@@ -1,6 +1,16 @@
 // The text of a job, read into an input, and the listing of a finished job, written. Both over lent
 // bytes.
+use forms::End;
+use model::Part;
 use sparse_field::Input;
+
+mod parts; // parts.rt: a part line
+mod reader; // reader.rt: a job's text, line by line
+
+pub use reader::read_job;
+
+// The most that a decimal number of a text may be.
+pub const LIMIT: u64 = 4294967295;
 
 // The input that a text spells, and the bits of each constant as they are written.
 pub struct Job {
@@ -8,10 +18,16 @@ pub struct Job {
     pub patterns: [u64; 64],
 }
 
-// What a text is read as: a job, or off its form at a line.
-pub enum Reading {
-    Read(Job),
-    Off(u32),
+// Whether a text is on its form, or the first line that is off it.
+pub enum Judgement {
+    OnForm,
+    OffAt(u32),
+}
+
+// What a text is read as: a job, which is empty where the text is off its form.
+pub struct Reading {
+    pub judgement: Judgement,
+    pub job: Job,
 }
 
 // What writing a listing answers: how many bytes it has, the number of a refusal, or that the job is
@@ -20,4 +36,11 @@ pub enum Listing {
     Bytes(usize),
     Refused(u32),
     NotPrintable,
+}
+
+// A part line: the part that it spells, its bits where it is a constant, and where the text goes on.
+pub struct PartLine {
+    pub part: Part,
+    pub pattern: u64,
+    pub end: End,
 }

@@ -1,11 +1,12 @@
 // A part line, read into a part of a model.
 ghost use mathlib.Core.Path.{_≡_};
-ghost use Prim.Native.Nat.{_<_, _≤_};
+ghost use Prim.Native.Nat.{_+_, _<_, _≤_};
 ghost use lib.ListN.{length, drop};
+ghost use Rattle.geometry.specs.Values.{vec3};
 ghost use Rattle.forms.specs.Answers.{Reads};
 ghost use Rattle.forms.specs.Forms.{fields, readForm};
 ghost use Rattle.job_text.specs.Lines.{limit, partForm, kindOf};
-ghost use Rattle.job_text.specs.Parts.{real, partFrom, patternFrom, readPart};
+ghost use Rattle.job_text.specs.Parts.{word, real, partFrom, patternFrom, readPart};
 ghost use Rattle.job_text.specs.Answers.{FitsWords, ReadsPart};
 use crate::LIMIT;
 use crate::PartLine;

@@ -1,0 +1,4 @@
+pub mod PartLaws
+pub mod PartTurns
+pub mod Gathering
+pub mod TextLines
