@@ -128,26 +128,30 @@ byte-sound limit b x (c ∷ t) rest same =
     (λ is. rw (is, rest-same (sym (byte-read limit b c t is) ∙ same)))
     (λ other. off-number (sym (byte-other limit b c t other) ∙ same))
 
+-- what is read as a piece is the piece with its number
+piece-sound : (limit : ℕ) (p : Piece) (t : List ℕ) (x : ℕ) (rest : List ℕ) → limit < 10 ^ 19 → readPiece limit p t ≡ fronts.number x rest
+    → (t ≡ spellPiece p x ++ rest) × FitsPiece limit p x
+unfolding readPiece spellPiece FitsPiece
+piece-sound limit hex t x rest small same = hex-sound t x rest same
+piece-sound limit decimal t x rest small same = decimal-sound limit t x rest small same
+piece-sound limit (byte b) t x rest small same = (byte-sound limit b x t rest same, tt)
+
+joined : (front l rest : List ℕ) {t next : List ℕ} → t ≡ front ++ next → next ≡ l ++ rest → t ≡ (front ++ l) ++ rest
+joined front l rest first second = first ∙ ap (λ (s : List ℕ). front ++ s) second ∙ sym (append-assoc front l rest)
+
 -- a piece read before a line that was spelled
 piece-before : (limit : ℕ) (p : Piece) (form : List Piece) (t : List ℕ) (x : ℕ) (next ys rest : List ℕ) → limit < 10 ^ 19
     → readPiece limit p t ≡ fronts.number x next → Spells limit form ys next rest → Spells limit (p ∷ form) (cond (isField p) (x ∷ ys) ys) t rest
-unfolding readPiece isField spell spellPiece after Fits FitsPiece fields
+unfolding isField spell spellPiece after Fits FitsPiece fields
 piece-before limit hex form t x next ys rest small same s =
-    let read : (t ≡ hexOf x ++ next) × (x < 2 ^ 64) = hex-sound t x next same in
-    record {
-      text = rw (read .0, s .text, append-assoc (hexOf x) (spell form ys) rest);
-      fits = (read .1, s .fits);
-      count = rw (s .count) (omega arith);
-    }
+    let read : (t ≡ hexOf x ++ next) × (x < 2 ^ 64) = piece-sound limit hex t x next small same in
+    record { text = joined (hexOf x) (spell form ys) rest (read .0) (s .text); fits = (read .1, s .fits); count = omega (arith, s .count) }
 piece-before limit decimal form t x next ys rest small same s =
-    let read : (t ≡ decimalOf x ++ next) × (x ≤ limit) = decimal-sound limit t x next small same in
-    record {
-      text = rw (read .0, s .text, append-assoc (decimalOf x) (spell form ys) rest);
-      fits = (read .1, s .fits);
-      count = rw (s .count) (omega arith);
-    }
+    let read : (t ≡ decimalOf x ++ next) × (x ≤ limit) = piece-sound limit decimal t x next small same in
+    record { text = joined (decimalOf x) (spell form ys) rest (read .0) (s .text); fits = (read .1, s .fits); count = omega (arith, s .count) }
 piece-before limit (byte b) form t x next ys rest small same s =
-    record { text = rw (byte-sound limit b x t next same, s .text); fits = (tt, s .fits); count = s .count }
+    let read : (t ≡ (b ∷ []) ++ next) × Unit {0} = piece-sound limit (byte b) t x next small same in
+    record { text = joined (b ∷ []) (spell form ys) rest (read .0) (s .text); fits = (tt, s .fits); count = s .count }
 
 with-number : (b : Bool) (x : ℕ) (xs t : List ℕ) → withNumber b x (line xs t) ≡ line (cond b (x ∷ xs) xs) t
 unfolding withNumber
@@ -187,8 +191,9 @@ piece-most limit w (byte b) x some small fits = omega arith
 -- a piece that is read has no more bytes than it may have
 pub front-most : (limit w : ℕ) (p : Piece) (t : List ℕ) (x : ℕ) (rest : List ℕ) → 0 < w → limit < 10 ^ w → limit < 10 ^ 19
     → readPiece limit p t ≡ fronts.number x rest → length t ≤ length rest + mostPiece w p
-unfolding spell Fits
-front-most limit w p t x rest some small bound same = ?
+front-most limit w p t x rest some small bound same =
+    let read : (t ≡ spellPiece p x ++ rest) × FitsPiece limit p x = piece-sound limit p t x rest bound same in
+    omega (arith, ap length (read .0), length-append (spellPiece p x) rest, piece-most limit w p x some small (read .1))
 
 pub spell-length : (limit w : ℕ) (form : List Piece) (xs : List ℕ) → 0 < w → limit < 10 ^ w → Fits limit form xs → length (spell form xs) ≤ mostOf w form
 unfolding spell Fits mostOf

@@ -1,33 +1,33 @@
+-- `decimal_count` meets its contract. The invariant: with the digits that are left to count, the whole count.
+use mathlib.Core.Path.{refl}
+use Prim.Native.Nat.{_-_}
+use Rattle.forms.proofs.DigitLaws.{count-one}
+use Rattle.forms.proofs.Turns.{Counted, count-turn}
+use borrow.Author.Needs.{needs}
+use native.Mathlib.Omega.{arith}
 use Rattle.forms.proofs.digits.decimal_count.Statement.{statement}
 use Rattle.forms.proofs.digits.decimal_count.Tie as tie
-use Rattle.forms.proofs.digits.decimal_count.Reads as reads
-use Rattle.forms.proofs.digits.decimal_count.Lts as lts
 
 abbrev Inv-loop : tie.InvT-loop
-Inv-loop x rest₀ count₀ rest count = ?
+Inv-loop x rest₀ count₀ rest count = Counted x rest count
 
 abbrev μ-loop : tie.MeasureT-loop
-μ-loop x rest₀ count₀ rest count = ?
+μ-loop x rest₀ count₀ rest count = rest
 
--- src/digits.rt:46:5
 loop-holds : tie.Need-loop-holds Inv-loop μ-loop
-loop-holds c = ?
+loop-holds c = record { most = omega arith; below = omega arith; whole = refl }
 
--- src/digits.rt:48:9
 add-count : tie.Need-add-count Inv-loop μ-loop
-add-count c = ?
+add-count c = omega (arith, c .before .loop .inv .most)
 
--- src/digits.rt:46:5
 loop-less : tie.Need-loop-less Inv-loop μ-loop
-loop-less c = ?
+loop-less c = search needs
 
--- src/digits.rt:46:5
 loop-again : tie.Need-loop-again Inv-loop μ-loop
-loop-again c = ?
+loop-again c = count-turn _ _ _ (c .loop-test .taken) (c .before .loop .inv)
 
--- src/digits.rt:41:1
 returns : tie.Need-returns Inv-loop μ-loop
-returns c = ?
+returns c = omega (arith, c .before .loop .inv .whole, count-one (20 - c .before .loop .count) (c .before .loop .rest) (c .loop-test .left))
 
 pub decimal-count-spec : {M : Type 1} → statement M
 decimal-count-spec =

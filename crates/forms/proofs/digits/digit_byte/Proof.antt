@@ -1,32 +1,27 @@
+-- `digit_byte` meets its contract.
+use mathlib.Core.Path.{sym}
+use Rattle.forms.proofs.DigitLaws.{byte-number, byte-letter}
 use borrow.Author.Needs.{needs}
 use Rattle.forms.proofs.digits.digit_byte.Statement.{statement}
 use Rattle.forms.proofs.digits.digit_byte.Tie as tie
-use Rattle.forms.proofs.digits.digit_byte.Reads as reads
-use Rattle.forms.proofs.digits.digit_byte.Lts as lts
 
--- src/digits.rt:37:22
 cast-result : tie.Need-cast-result
 cast-result c = search needs
 
--- src/digits.rt:37:17
 add-result : tie.Need-add-result
 add-result c = search needs
 
--- src/digits.rt:37:44
 cast-result-2 : tie.Need-cast-result-2
 cast-result-2 c = search needs
 
--- src/digits.rt:37:39
 add-result-2 : tie.Need-add-result-2
 add-result-2 c = search needs
 
--- src/digits.rt:33:1
 returns : tie.Need-returns
-returns c = ?
+returns c = sym (byte-number _ (c .if1 .taken))
 
--- src/digits.rt:33:1
 returns-2 : tie.Need-returns-2
-returns-2 c = ?
+returns-2 c = sym (byte-letter _ (c .if1 .left))
 
 pub digit-byte-spec : {M : Type 1} → statement M
 digit-byte-spec =

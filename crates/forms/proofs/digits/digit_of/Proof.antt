@@ -1,37 +1,32 @@
+-- `digit_of` meets its contract: one law for each range of bytes.
+use mathlib.Core.Path.{_≡_, sym, ap, _∙_}
+use Rattle.forms.specs.Digits.{digitOf}
+use Rattle.forms.proofs.DigitLaws.{digit-below, digit-number, digit-between, digit-letter, digit-above}
 use borrow.Author.Needs.{needs}
+use native.Mathlib.Omega.{arith}
 use Rattle.forms.proofs.digits.digit_of.Statement.{statement}
 use Rattle.forms.proofs.digits.digit_of.Tie as tie
-use Rattle.forms.proofs.digits.digit_of.Reads as reads
-use Rattle.forms.proofs.digits.digit_of.Lts as lts
-use Rattle.forms.proofs.digits.wide.Reads as wide-reads
 
--- src/digits.rt:16:9
 wide-requires : tie.Need-wide-requires
 wide-requires c κs = search needs
 
--- src/digits.rt:18:9
 returns : tie.Need-returns
-returns c = ?
+returns c = sym (digit-below _ (omega arith))
 
--- src/digits.rt:21:9
 returns-2 : tie.Need-returns-2
-returns-2 c = ?
+returns-2 c = omega (arith, digit-number (c .before .before .before .args .b) (omega arith) (omega arith))
 
--- src/digits.rt:24:9
 returns-3 : tie.Need-returns-3
-returns-3 c = ?
+returns-3 c = sym (digit-between _ (omega arith) (omega arith))
 
--- src/digits.rt:27:16
 sub-result : tie.Need-sub-result
 sub-result c = search needs
 
--- src/digits.rt:27:9
 returns-4 : tie.Need-returns-4
-returns-4 c = ?
+returns-4 c = omega (arith, digit-letter (c .before .before .before .before .before .args .b) (omega arith) (omega arith))
 
--- src/digits.rt:13:1
 returns-5 : tie.Need-returns-5
-returns-5 c = ?
+returns-5 c = sym (digit-above _ (omega arith))
 
 pub digit-of-spec : {M : Type 1} → statement M
 digit-of-spec =

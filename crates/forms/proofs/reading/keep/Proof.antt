@@ -1,29 +1,25 @@
+-- `keep` meets its contract.
+use mathlib.Core.Path.{sym, _∙_}
+use Rattle.forms.proofs.Pieces.{cond-true, cond-false}
 use borrow.Author.Needs.{needs}
+use native.Mathlib.Omega.{arith}
 use Rattle.forms.proofs.reading.keep.Statement.{statement}
 use Rattle.forms.proofs.reading.keep.Tie as tie
-use Rattle.forms.proofs.reading.keep.Reads as reads
-use Rattle.forms.proofs.reading.keep.Lts as lts
-use Rattle.forms.proofs.reading.is_field.Reads as is-field-reads
 
--- src/reading.rt:130:8
 is-field-requires : tie.Need-is-field-requires
 is-field-requires c κs = search needs
 
--- src/reading.rt:131:9
 mul-values : tie.Need-mul-values
-mul-values c = ?
+mul-values c = omega (arith, c .before .before .pre (sym (c .before .is-field .ensures) ∙ c .if1 .taken))
 
--- src/reading.rt:131:9
 element-write-values : tie.Need-element-write-values
-element-write-values c = ?
+element-write-values c = c .before .before .pre (sym (c .before .is-field .ensures) ∙ c .if1 .taken)
 
--- src/reading.rt:126:1
 returns : tie.Need-returns
-returns c = ?
+returns c = cond-true _ _ _ (sym (c .before .is-field .ensures) ∙ c .if1 .taken)
 
--- src/reading.rt:126:1
 returns-2 : tie.Need-returns-2
-returns-2 c = ?
+returns-2 c = cond-false _ _ _ (sym (c .before .is-field .ensures) ∙ c .if1 .left)
 
 pub keep-spec : {M : Type 1} → statement M
 keep-spec =
