@@ -2,6 +2,13 @@
 // bytes.
 use sparse_field::Input;
 
+mod lines; // lines.rt: one line of a listing
+mod writing; // writing.rt: a job's whole listing
+
+pub use writing::write_listing;
+pub use writing::write_off;
+pub use writing::write_refusal;
+
 // The input that a text spells, and the bits of each constant as they are written.
 pub struct Job {
     pub input: Input,
