@@ -1,10 +1,10 @@
 -- One turn of each loop: what is left after it gives what was left before it.
-use mathlib.Core.Path.{_≡_, refl, sym, ap, _∙_}
+use mathlib.Core.Path.{_≡_, refl, sym}
 use Prim.Native.Nat.{ℕ, zero, suc, _+_, _-_, _*_, _/_, _%_, _^_, _≤_, _<_}
 use native.Mathlib.Nat.{one-le-pow, pow-succ', mul-le-mul-right, mul-le-mul-left}
 use native.Mathlib.Numerals.{add-one}
 use native.Mathlib.Omega.{arith}
-use mathlib.Core.List.{List, [], _∷_, _++_}
+use mathlib.Core.List.{List, [], _∷_}
 use lib.ListN.{length, getD, drop, set}
 use lib.Seq.{sets, drop-cons, drop-length}
 use Rattle.forms.specs.Digits.{digitByte, digitOf, digits, decimalCount}

@@ -1,6 +1,6 @@
 -- `put_decimal` meets its contract. The invariant: the digits that are left to put give what all digits give.
-use mathlib.Core.Path.{_≡_, refl, sym, ap, _∙_}
-use Prim.Native.Nat.{_+_, _≤_}
+use mathlib.Core.Path.{_≡_, refl, _∙_}
+use Prim.Native.Nat.{_≤_}
 use lib.ListN.{length, length-set}
 use lib.Seq.{sets}
 use Rattle.forms.specs.Digits.{digits}

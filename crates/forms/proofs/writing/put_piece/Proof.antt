@@ -1,5 +1,5 @@
 -- `put_piece` meets its contract: a piece is one of three.
-use mathlib.Core.Path.{_≡_, sym, ap, _∙_}
+use mathlib.Core.Path.{sym, ap, _∙_}
 use Prim.Native.Nat.{ℕ}
 use Rattle.forms.specs.Digits.{digits}
 use Rattle.forms.proofs.Pieces.{spell-hex, spell-decimal, spell-byte, hex-length, decimal-length, byte-length}
