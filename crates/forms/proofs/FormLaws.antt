@@ -11,7 +11,7 @@ use Rattle.forms.specs.Digits.{hexOf, decimalCount, decimalOf}
 use Rattle.forms.specs.Fronts as fronts
 use Rattle.forms.specs.Forms.{Piece, hex, decimal, byte, spellPiece, isField, after, spell, fields, Line, off, line, readPiece, withNumber, onFront, readForm}
 use Rattle.forms.specs.Fitting.{endsNumber, endsDecimal, separated, FitsPiece, Fits, Spells, mostPiece, mostOf}
-use Rattle.forms.proofs.Cases.{equal-or}
+use Rattle.forms.proofs.Cases.{equal-or, never}
 use Rattle.forms.proofs.DigitLaws.{digits-length, count-most}
 use Rattle.forms.proofs.NumberLaws.{off-number, rest-same, hex-spelled, hex-sound, decimal-spelled, decimal-sound}
 
@@ -50,7 +50,7 @@ and-left false b both = both
 
 and-right : (a b : Bool) → (a && b) ≡ true → b ≡ true
 and-right true b both = both
-and-right false b both = let none : _≡_ {A = ℕ} 0 1 = cc in absurd (omega arith)
+and-right false b both = never both
 
 pub separated-rest : (p : Piece) (form : List Piece) → separated (p ∷ form) ≡ true → separated form ≡ true
 unfolding separated
@@ -60,9 +60,9 @@ separated-rest (byte b) form apart = apart
 
 ends-spelled : (form : List Piece) (xs t : List ℕ) → endsDecimal form ≡ true → endsNumber (spell form xs ++ t) ≡ true
 unfolding endsDecimal endsNumber spell spellPiece
-ends-spelled [] xs t ends = let none : _≡_ {A = ℕ} 0 1 = cc in absurd (omega arith)
-ends-spelled (hex ∷ form) xs t ends = let none : _≡_ {A = ℕ} 0 1 = cc in absurd (omega arith)
-ends-spelled (decimal ∷ form) xs t ends = let none : _≡_ {A = ℕ} 0 1 = cc in absurd (omega arith)
+ends-spelled [] xs t ends = never ends
+ends-spelled (hex ∷ form) xs t ends = never ends
+ends-spelled (decimal ∷ form) xs t ends = never ends
 ends-spelled (byte b ∷ form) xs t ends = ends
 
 ends-after : (p : Piece) (form : List Piece) (xs t : List ℕ) → separated (p ∷ form) ≡ true → EndsAfter p (spell form xs ++ t)

@@ -19,7 +19,8 @@ same-length : tie.Need-same-length
 same-length c = search needs
 
 returns : tie.Need-returns
-returns c = let a = c .before .before .before .before .before .before .args in
+returns c =
+    let a = c .before .before .before .before .before .before .args in
     let is = c .before .before .before .before .if1 .taken in
     (omega (arith, hex-length (a .piece) (a .x) is), c .before .before .put-hex .ensures ∙ sets-same _ _ (spell-hex _ _ is))
 
@@ -36,7 +37,8 @@ same-length-2 : tie.Need-same-length-2
 same-length-2 c = search needs
 
 returns-2 : tie.Need-returns-2
-returns-2 c = let a = c .before .before .before .before .before .before .before .before .args in
+returns-2 c =
+    let a = c .before .before .before .before .before .before .before .before .args in
     let is = c .before .before .before .before .before .if2 .taken in
     let count = c .before .before .before .before .decimal-count .ensures in (
       omega (arith, count, decimal-length (a .piece) (a .x) is),
@@ -53,7 +55,8 @@ same-length-3 : tie.Need-same-length-3
 same-length-3 c = search needs
 
 returns-3 : tie.Need-returns-3
-returns-3 c = let a = c .before .before .before .args in
+returns-3 c =
+    let a = c .before .before .before .args in
     (omega (arith, byte-length (a .piece) (a .x) (c .before .if1 .left) (c .if2 .left)), sets-same _ _ (spell-byte _ _ (c .before .if1 .left) (c .if2 .left)))
 
 pub put-piece-spec : {M : Type 1} → statement M
