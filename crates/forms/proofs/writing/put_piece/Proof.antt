@@ -27,8 +27,8 @@ returns c =
 decimal-count-requires : tie.Need-decimal-count-requires
 decimal-count-requires c κs = search needs
 
-put-decimal-requires : tie.Need-put-decimal-requires
-put-decimal-requires c κs = let a = c .before .before .before .before .before .args in omega (arith, c .before .decimal-count .ensures, decimal-length (a .piece) (a .x) (c .before .before .if2 .taken))
+put-digits-requires : tie.Need-put-digits-requires
+put-digits-requires c κs = let a = c .before .before .before .before .before .args in (omega arith, omega arith, omega (arith, c .before .decimal-count .ensures, decimal-length (a .piece) (a .x) (c .before .before .if2 .taken)))
 
 add-result-2 : tie.Need-add-result-2
 add-result-2 c = let a = c .before .before .before .before .before .before .before .before .args in omega (arith, c .before .before .before .before .decimal-count .ensures, decimal-length (a .piece) (a .x) (c .before .before .before .before .before .if2 .taken))
@@ -42,7 +42,7 @@ returns-2 c =
     let is = c .before .before .before .before .before .if2 .taken in
     let count = c .before .before .before .before .decimal-count .ensures in (
       omega (arith, count, decimal-length (a .piece) (a .x) is),
-      c .before .before .put-decimal .ensures ∙ sets-same _ _ (spell-decimal _ _ is ∙ ap (λ (k : ℕ). digits 10 k (a .x)) (sym count)),
+      c .before .before .put-digits .ensures ∙ sets-same _ _ (spell-decimal _ _ is ∙ ap (λ (k : ℕ). digits 10 k (a .x)) (sym count)),
     )
 
 slice-write-out : tie.Need-slice-write-out
@@ -68,7 +68,7 @@ put-piece-spec =
     same-length
     returns
     decimal-count-requires
-    put-decimal-requires
+    put-digits-requires
     add-result-2
     same-length-2
     returns-2
