@@ -1,8 +1,10 @@
 -- What the code's answers say, once their case is known.
-use mathlib.Core.Path.{_≡_}
+use mathlib.Core.Path.{_≡_, _∙_}
 use Prim.Native.Nat.{ℕ, _-_, _≤_}
-use mathlib.Core.List.{List}
-use lib.ListN.{length, take, drop, replicate}
+use native.Mathlib.Omega.{arith}
+use mathlib.Core.List.{List, [], _∷_}
+use lib.ListN.{length, getD, take, drop, replicate, drop-of-length-le}
+use lib.Seq.{drop-cons}
 use Rattle.forms.specs.declared.Found.{Found}
 use Rattle.forms.specs.declared.Found.the-variants.{Number, NoNumber}
 use Rattle.forms.specs.declared.End.{End}
@@ -29,6 +31,15 @@ module _ (text : List ℕ) (count : ℕ) (l : forms.Line) (xs : List ℕ) (e : E
   reads-off is = rw is at reads
 
   pub reads-line : (next : ℕ) → e ≡ At next
-      → (l ≡ forms.line (take count xs) (drop next text)) × (drop count xs ≡ replicate (6 - count) 0) × (next ≤ length text)
+      → (l ≡ forms.line (take count xs) (drop next text)) × (drop count xs ≡ replicate (6 - count) 0) × (next ≤ length text) × (length xs ≡ 6)
   unfolding ReadsTo
   reads-line next is = rw is at reads
+
+-- six numbers, one by one
+pub six-numbers : (xs : List ℕ) → length xs ≡ 6 → xs ≡ getD xs 0 0 ∷ getD xs 1 0 ∷ getD xs 2 0 ∷ getD xs 3 0 ∷ getD xs 4 0 ∷ getD xs 5 0 ∷ []
+six-numbers xs six =
+    drop-cons xs 0 0 (omega arith)
+    ∙ rw (drop-cons xs 1 0 (omega arith), drop-cons xs 2 0 (omega arith), drop-cons xs 3 0 (omega arith), drop-cons xs 4 0 (omega arith), drop-cons xs 5 0 (omega arith), drop-of-length-le xs none)
+  where
+    none : length xs ≤ 6
+    none = omega arith
