@@ -35,6 +35,9 @@ module _ (text : List ℕ) (count : ℕ) (l : forms.Line) (xs : List ℕ) (e : E
   unfolding ReadsTo
   reads-line next is = rw is at reads
 
+pub line-same : (t : List ℕ) {xs ys : List ℕ} → xs ≡ ys → forms.line xs t ≡ forms.line ys t
+line-same t same = rw same
+
 -- six numbers, one by one
 pub six-numbers : (xs : List ℕ) → length xs ≡ 6 → xs ≡ getD xs 0 0 ∷ getD xs 1 0 ∷ getD xs 2 0 ∷ getD xs 3 0 ∷ getD xs 4 0 ∷ getD xs 5 0 ∷ []
 six-numbers xs six =
