@@ -12,7 +12,7 @@ use Rattle.forms.specs.Fronts as fronts
 use Rattle.forms.specs.Fronts.{hexAfter, decimalAfter, decimalFront}
 use Rattle.forms.specs.Forms.{Piece, hex, decimal, byte, isField, Line, off, line, readPiece, withNumber, onFront, readForm}
 use Rattle.forms.specs.Fitting.{endsDecimal, separated, mostPiece, mostOf, cutFront, cutLine}
-use Rattle.forms.proofs.Cases.{below-or, equal-or}
+use Rattle.forms.proofs.Cases.{below-or, equal-or, never}
 use Rattle.forms.proofs.NumberLaws.{hex-digit, hex-other, decimal-digit, decimal-past, decimal-ends, decimal-first, decimal-large, decimal-none, decimal-nought, digit-some}
 use Rattle.forms.proofs.FormLaws.{byte-read, byte-other, front-most, and-left, separated-rest}
 
@@ -51,11 +51,11 @@ decimal-cut-after limit (suc m) v [] within past = rw take-nil
 decimal-cut-after limit (suc m) v (b ∷ t) within past =
     below-or (digitOf b) 10
     (λ digit. below-or limit (v * 10 + digitOf b)
-      (λ above. rw (decimal-past b (take m t) limit v digit above, decimal-past b t limit v digit above))
-      (λ room.
-        let more : limit < (v * 10 + digitOf b) * 10 ^ m = past-more limit m v (digitOf b) past in
-        rw (decimal-digit b (take m t) limit v digit room, decimal-digit b t limit v digit room)
-        (decimal-cut-after limit m (v * 10 + digitOf b) t room more ∙ sym (cut-next m (length t) (decimalAfter limit (v * 10 + digitOf b) t)))))
+    (λ above. rw (decimal-past b (take m t) limit v digit above, decimal-past b t limit v digit above))
+    (λ room.
+    let more : limit < (v * 10 + digitOf b) * 10 ^ m = past-more limit m v (digitOf b) past in
+    rw (decimal-digit b (take m t) limit v digit room, decimal-digit b t limit v digit room)
+    (decimal-cut-after limit m (v * 10 + digitOf b) t room more ∙ sym (cut-next m (length t) (decimalAfter limit (v * 10 + digitOf b) t)))))
     (λ other. rw (decimal-ends b (take m t) limit v other, decimal-ends b t limit v other) (sym (cut-whole (suc m) v (b ∷ t))))
 
 -- a number with more than w digits is above the limit
@@ -67,15 +67,15 @@ decimal-cut limit w (suc m) (b ∷ t) small enough =
     equal-or b 48
     (λ is. rw (decimal-nought b (take m t) limit is, decimal-nought b t limit is) (sym (cut-next m (length t) (fronts.number 0 t) ∙ cut-whole m 0 t)))
     (λ other. below-or (digitOf b) 10
-      (λ digit. below-or limit (digitOf b)
-        (λ past. rw (decimal-large b (take m t) limit other digit past, decimal-large b t limit other digit past))
-        (λ room.
-          let power : 10 ^ w ≤ 10 ^ m = pow-le-pow-right (omega arith) (omega arith) in
-          let some : 1 ≤ digitOf b = digit-some b other digit in
-          let past : limit < digitOf b * 10 ^ m = omega (arith, mul-le-mul-right (10 ^ m) some) in
-          rw (decimal-first b (take m t) limit other digit room, decimal-first b t limit other digit room)
-          (decimal-cut-after limit m (digitOf b) t room past ∙ sym (cut-next m (length t) (decimalAfter limit (digitOf b) t)))))
-      (λ large. rw (decimal-none b (take m t) limit large, decimal-none b t limit large)))
+    (λ digit. below-or limit (digitOf b)
+    (λ past. rw (decimal-large b (take m t) limit other digit past, decimal-large b t limit other digit past))
+    (λ room.
+    let power : 10 ^ w ≤ 10 ^ m = pow-le-pow-right (omega arith) (omega arith) in
+    let some : 1 ≤ digitOf b = digit-some b other digit in
+    let past : limit < digitOf b * 10 ^ m = omega (arith, mul-le-mul-right (10 ^ m) some) in
+    rw (decimal-first b (take m t) limit other digit room, decimal-first b t limit other digit room)
+    (decimal-cut-after limit m (digitOf b) t room past ∙ sym (cut-next m (length t) (decimalAfter limit (digitOf b) t)))))
+    (λ large. rw (decimal-none b (take m t) limit large, decimal-none b t limit large)))
 
 -- ---- a line
 
@@ -90,9 +90,9 @@ byte-cut limit b (suc m) (c ∷ t) some =
 
 ends-some : (w : ℕ) (form : List Piece) → endsDecimal form ≡ true → 0 < mostOf w form
 unfolding endsDecimal mostOf mostPiece
-ends-some w [] ends = let none : _≡_ {A = ℕ} 0 1 = cc in absurd (omega arith)
+ends-some w [] ends = never ends
 ends-some w (hex ∷ form) ends = omega arith
-ends-some w (decimal ∷ form) ends = let none : _≡_ {A = ℕ} 0 1 = cc in absurd (omega arith)
+ends-some w (decimal ∷ form) ends = never ends
 ends-some w (byte b ∷ form) ends = omega arith
 
 piece-cut : (limit w m : ℕ) (p : Piece) (form : List Piece) (t : List ℕ) → limit < 10 ^ w → separated (p ∷ form) ≡ true → mostOf w (p ∷ form) ≤ m
@@ -126,3 +126,12 @@ module _ (limit w : ℕ) (some : 0 < w) (small : limit < 10 ^ w) (bound : limit 
   form-cut (p ∷ form) m t apart enough =
       rw (piece-cut limit w m p form t small apart enough)
       (front-cut p form m t enough (λ k s. form-cut form k s (separated-rest p form apart)) (readPiece limit p t) refl)
+
+  module _ (form : List Piece) (m : ℕ) (t : List ℕ) (apart : separated form ≡ true) (enough : mostOf w form ≤ m) where
+    pub off-cut : readForm limit form t ≡ off → readForm limit form (take m t) ≡ off
+    unfolding cutLine
+    off-cut is = form-cut form m t apart enough ∙ ap (cutLine m (length t)) is
+
+    pub line-cut : (xs rest : List ℕ) → readForm limit form t ≡ line xs rest → readForm limit form (take m t) ≡ line xs (take (m + length rest - length t) rest)
+    unfolding cutLine
+    line-cut xs rest is = form-cut form m t apart enough ∙ ap (cutLine m (length t)) is

@@ -1,10 +1,10 @@
 -- A digit and its byte; how many digits a number has.
 use mathlib.Core.Path.{_≡_, refl, sym, ap, _∙_}
 use Prim.Native.Nat.{ℕ, zero, suc, _+_, _-_, _*_, _/_, _%_, _^_, _≤_, _<_}
-use native.Mathlib.Nat.{pow-succ', add-zero, zero-add, div-eq-of-lt, mod-eq-of-lt, mul-add-div-right, mul-add-mod-self-right}
+use native.Mathlib.Nat.{pow-succ', add-zero, div-eq-of-lt, mod-eq-of-lt, mul-add-div-right, mul-add-mod-self-right}
 use native.Mathlib.Numerals.{add-one}
 use native.Mathlib.Omega.{arith}
-use mathlib.Core.List.{List, [], _∷_, _++_}
+use mathlib.Core.List.{[], _∷_, _++_}
 use borrow.Author.Tests.{lt-ltb, le-ltb, le-leb, lt-leb}
 use lib.ListN.{length, length-append}
 use Rattle.forms.specs.Digits.{digitByte, digitOf, digits, decimalCount, decimalOf}
@@ -97,6 +97,14 @@ count-most (suc k) (suc (suc w)) x some below =
     below-or x 10
     (λ small. rw (count-one (suc k) x small) (omega arith))
     (λ large. rw (count-next k x large) (omega (arith, count-most k (suc w) (x / 10) (omega arith) (tenth-below (suc w) x below))))
+
+pub count-limit : (k x : ℕ) → decimalCount k x ≤ suc k
+unfolding decimalCount
+count-limit zero x = omega arith
+count-limit (suc k) x =
+    below-or x 10
+    (λ small. rw (count-one (suc k) x small) (omega arith))
+    (λ large. rw (count-next k x large) (omega (arith, count-limit k (x / 10))))
 
 -- where the digits are few enough, one more to count makes no difference
 pub count-same : (k x : ℕ) → x < 10 ^ suc k → decimalCount (suc k) x ≡ decimalCount k x

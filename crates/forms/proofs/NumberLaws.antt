@@ -1,5 +1,5 @@
 -- A number's digits are read as the number, and what is read as a number is the number's digits.
-use mathlib.Core.Path.{_≡_, refl, sym, ap, subst, _∙_}
+use mathlib.Core.Path.{_≡_, refl, sym, ap, _∙_}
 use Prim.Native.Nat.{ℕ, zero, suc, _+_, _*_, _/_, _%_, _^_, _≤_, _<_}
 use native.Mathlib.Nat.{pow-succ', add-zero, zero-add, suc-add, add-suc, mod-eq-of-lt}
 use native.Mathlib.Omega.{arith}
@@ -15,7 +15,7 @@ use Rattle.forms.proofs.DigitLaws.{digit-of-byte, byte-of-digit, digits
 pub off-number : {A : Type 0} {x : ℕ} {t : List ℕ} → off ≡ number x t → A
 off-number same = let none : _≡_ {A = ℕ} 0 1 = cc in absurd (omega arith)
 
-pub value-same : {x y : ℕ} {s t : List ℕ} → number x s ≡ number y t → x ≡ y
+value-same : {x y : ℕ} {s t : List ℕ} → number x s ≡ number y t → x ≡ y
 value-same same = cc
 
 pub rest-same : {x y : ℕ} {s t : List ℕ} → number x s ≡ number y t → s ≡ t
@@ -83,8 +83,8 @@ hex-so-far (suc j) k x t below =
     let whole : x / 16 * 16 + x % 16 ≡ x = omega arith in
     rw (append-assoc (digits 16 j (x / 16)) (digitByte (x % 16) ∷ []) t, suc-add j k, ← add-suc j k)
     (hex-so-far j (suc k) (x / 16) (digitByte (x % 16) ∷ t) (omega arith)
-     ∙ hex-digit (digitByte (x % 16)) t k (x / 16) (omega arith)
-     ∙ ap (λ (n : ℕ). hexAfter k n t) (ap (λ (d : ℕ). x / 16 * 16 + d) digit ∙ whole))
+    ∙ hex-digit (digitByte (x % 16)) t k (x / 16) (omega arith)
+    ∙ ap (λ (n : ℕ). hexAfter k n t) (ap (λ (d : ℕ). x / 16 * 16 + d) digit ∙ whole))
 
 pub hex-spelled : (x : ℕ) (t : List ℕ) → x < 2 ^ 64 → hexFront (hexOf x ++ t) ≡ number x t
 unfolding hexAfter
@@ -100,11 +100,11 @@ hex-kept all [] j (suc k) v x rest is below same = off-number same
 hex-kept all (b ∷ t) j (suc k) v x rest is below same =
     below-or (digitOf b) 16
     (λ small.
-      let power : 16 ^ suc j ≡ 16 * 16 ^ j = pow-succ' 16 j in
-      let next : digits 16 j v ++ (b ∷ t) ≡ digits 16 (suc j) (v * 16 + digitOf b) ++ t =
-          rw (digits-more 16 j v (digitOf b) small, byte-of-digit b small, append-assoc (digits 16 j v) (b ∷ []) t) in
-      rw (add-suc j k, ← suc-add j k)
-      (hex-kept all t (suc j) k (v * 16 + digitOf b) x rest (is ∙ next) (omega arith) (sym (hex-digit b t k v small) ∙ same)))
+    let power : 16 ^ suc j ≡ 16 * 16 ^ j = pow-succ' 16 j in
+    let next : digits 16 j v ++ (b ∷ t) ≡ digits 16 (suc j) (v * 16 + digitOf b) ++ t =
+    rw (digits-more 16 j v (digitOf b) small, byte-of-digit b small, append-assoc (digits 16 j v) (b ∷ []) t) in
+    rw (add-suc j k, ← suc-add j k)
+    (hex-kept all t (suc j) k (v * 16 + digitOf b) x rest (is ∙ next) (omega arith) (sym (hex-digit b t k v small) ∙ same)))
     (λ large. off-number (sym (hex-other b t k v large) ∙ same))
 
 pub hex-sound : (t : List ℕ) (x : ℕ) (rest : List ℕ) → hexFront t ≡ number x rest → (t ≡ hexOf x ++ rest) × (x < 2 ^ 64)
@@ -130,12 +130,12 @@ decimal-so-far limit (suc k) x t some below within =
     below-or x 10
     (λ small. decimal-one-read limit (suc k) x t some small within)
     (λ large.
-      let digit : digitOf (digitByte (x % 10)) ≡ x % 10 = digit-of-byte (x % 10) (omega arith) in
-      let whole : x / 10 * 10 + x % 10 ≡ x = omega arith in
-      rw (count-next k x large, append-assoc (digits 10 (decimalCount k (x / 10)) (x / 10)) (digitByte (x % 10) ∷ []) t)
-      (decimal-so-far limit k (x / 10) (digitByte (x % 10) ∷ t) (omega arith) (tenth-below (suc k) x below) (omega arith)
-       ∙ decimal-digit (digitByte (x % 10)) t limit (x / 10) (omega arith) (omega arith)
-       ∙ ap (λ (n : ℕ). decimalAfter limit n t) (ap (λ (d : ℕ). x / 10 * 10 + d) digit ∙ whole)))
+    let digit : digitOf (digitByte (x % 10)) ≡ x % 10 = digit-of-byte (x % 10) (omega arith) in
+    let whole : x / 10 * 10 + x % 10 ≡ x = omega arith in
+    rw (count-next k x large, append-assoc (digits 10 (decimalCount k (x / 10)) (x / 10)) (digitByte (x % 10) ∷ []) t)
+    (decimal-so-far limit k (x / 10) (digitByte (x % 10) ∷ t) (omega arith) (tenth-below (suc k) x below) (omega arith)
+    ∙ decimal-digit (digitByte (x % 10)) t limit (x / 10) (omega arith) (omega arith)
+    ∙ ap (λ (n : ℕ). decimalAfter limit n t) (ap (λ (d : ℕ). x / 10 * 10 + d) digit ∙ whole)))
 
 decimal-stops : (limit x : ℕ) (t : List ℕ) → endsNumber t ≡ true → decimalAfter limit x t ≡ number x t
 unfolding endsNumber decimalAfter
@@ -156,14 +156,14 @@ decimal-kept limit all [] v x rest small some within is same = rw (← value-sam
 decimal-kept limit all (b ∷ t) v x rest small some within is same =
     below-or (digitOf b) 10
     (λ digit. below-or limit (v * 10 + digitOf b)
-      (λ past. off-number (sym (decimal-past b t limit v digit past) ∙ same))
-      (λ room.
-        let next : decimalOf v ++ (b ∷ t) ≡ decimalOf (v * 10 + digitOf b) ++ t =
-            rw (decimal-more v (digitOf b) some (omega arith) digit, byte-of-digit b (omega arith), append-assoc (decimalOf v) (b ∷ []) t) in
-        decimal-kept limit all t (v * 10 + digitOf b) x rest small (omega arith) room (is ∙ next) (sym (decimal-digit b t limit v digit room) ∙ same)))
+    (λ past. off-number (sym (decimal-past b t limit v digit past) ∙ same))
+    (λ room.
+    let next : decimalOf v ++ (b ∷ t) ≡ decimalOf (v * 10 + digitOf b) ++ t =
+    rw (decimal-more v (digitOf b) some (omega arith) digit, byte-of-digit b (omega arith), append-assoc (decimalOf v) (b ∷ []) t) in
+    decimal-kept limit all t (v * 10 + digitOf b) x rest small (omega arith) room (is ∙ next) (sym (decimal-digit b t limit v digit room) ∙ same)))
     (λ large.
-      let stops : number v (b ∷ t) ≡ number x rest = sym (decimal-ends b t limit v large) ∙ same in
-      rw (← value-same stops, ← rest-same stops) (is, within))
+    let stops : number v (b ∷ t) ≡ number x rest = sym (decimal-ends b t limit v large) ∙ same in
+    rw (← value-same stops, ← rest-same stops) (is, within))
 
 pub decimal-sound : (limit : ℕ) (t : List ℕ) (x : ℕ) (rest : List ℕ) → limit < 10 ^ 19 → decimalFront limit t ≡ number x rest → (t ≡ decimalOf x ++ rest) × (x ≤ limit)
 unfolding decimalFront
@@ -171,13 +171,13 @@ decimal-sound limit [] x rest small same = off-number same
 decimal-sound limit (b ∷ t) x rest small same =
     equal-or b 48
     (λ is.
-      let read : number 0 t ≡ number x rest = sym (decimal-nought b t limit is) ∙ same in
-      rw (← value-same read, ← rest-same read, is, zero-decimal) (refl, omega arith))
+    let read : number 0 t ≡ number x rest = sym (decimal-nought b t limit is) ∙ same in
+    rw (← value-same read, ← rest-same read, is, zero-decimal) (refl, omega arith))
     (λ other. below-or (digitOf b) 10
-      (λ digit. below-or limit (digitOf b)
-        (λ past. off-number (sym (decimal-large b t limit other digit past) ∙ same))
-        (λ room.
-          let byte : digitByte (digitOf b) ≡ b = byte-of-digit b (omega arith) in
-          let first : b ∷ t ≡ decimalOf (digitOf b) ++ t = rw (decimal-one (digitOf b) digit, byte) in
-          decimal-kept limit (b ∷ t) t (digitOf b) x rest small (digit-some b other digit) room first (sym (decimal-first b t limit other digit room) ∙ same)))
-      (λ large. off-number (sym (decimal-none b t limit large) ∙ same)))
+    (λ digit. below-or limit (digitOf b)
+    (λ past. off-number (sym (decimal-large b t limit other digit past) ∙ same))
+    (λ room.
+    let byte : digitByte (digitOf b) ≡ b = byte-of-digit b (omega arith) in
+    let first : b ∷ t ≡ decimalOf (digitOf b) ++ t = rw (decimal-one (digitOf b) digit, byte) in
+    decimal-kept limit (b ∷ t) t (digitOf b) x rest small (digit-some b other digit) room first (sym (decimal-first b t limit other digit room) ∙ same)))
+    (λ large. off-number (sym (decimal-none b t limit large) ∙ same)))

@@ -1,5 +1,5 @@
 -- Bytes put one after another: two runs of stores are one run, and the last of a run may be stored first.
-use mathlib.Core.Path.{_≡_, refl}
+use mathlib.Core.Path.{_≡_}
 use Prim.Native.Nat.{ℕ, suc, _+_}
 use native.Mathlib.Nat.{add-zero, add-suc, suc-add}
 use native.Mathlib.Omega.{arith}
@@ -15,3 +15,6 @@ pub sets-last : (l : List ℕ) (i : ℕ) (vs : List ℕ) (b : ℕ) → sets l i 
 sets-last l i [] b = rw (add-zero i)
 sets-last l i (a ∷ vs) b =
     rw (sets-last (set l i a) (suc i) vs b, add-suc i (length vs), suc-add i (length vs), set-comm l i (suc (i + length vs)) a b (omega arith))
+
+pub sets-same : (l : List ℕ) (i : ℕ) {vs ws : List ℕ} → vs ≡ ws → sets l i ws ≡ sets l i vs
+sets-same l i same = rw same

@@ -1,10 +1,10 @@
 -- One turn of each loop: what is left after it gives what was left before it.
-use mathlib.Core.Path.{_≡_, refl, sym, ap, _∙_}
+use mathlib.Core.Path.{_≡_, refl, sym}
 use Prim.Native.Nat.{ℕ, zero, suc, _+_, _-_, _*_, _/_, _%_, _^_, _≤_, _<_}
 use native.Mathlib.Nat.{one-le-pow, pow-succ', mul-le-mul-right, mul-le-mul-left}
 use native.Mathlib.Numerals.{add-one}
 use native.Mathlib.Omega.{arith}
-use mathlib.Core.List.{List, [], _∷_, _++_}
+use mathlib.Core.List.{List, [], _∷_}
 use lib.ListN.{length, getD, drop, set}
 use lib.Seq.{sets, drop-cons, drop-length}
 use Rattle.forms.specs.Digits.{digitByte, digitOf, digits, decimalCount}
@@ -55,6 +55,24 @@ module _ (text : List ℕ) (place d : ℕ) (inside : place < length text) (is : 
 
   pub after-ends : (limit v : ℕ) → 10 ≤ d → decimalAfter limit v (drop place text) ≡ number v (drop place text)
   after-ends limit v other = rw (drop-here text place inside) (decimal-ends (getD text place 0) (drop (place + 1) text) limit v (omega arith))
+
+  pub front-none : (limit : ℕ) → 10 ≤ d → decimalFront limit (drop place text) ≡ off
+  front-none limit other = rw (drop-here text place inside) (decimal-none (getD text place 0) (drop (place + 1) text) limit (omega arith))
+
+  module _ (limit : ℕ) (other : getD text place 0 ≡ 48 → ⊥) (digit : d < 10) where
+    pub front-large : limit < d → decimalFront limit (drop place text) ≡ off
+    front-large past = rw (drop-here text place inside) (decimal-large (getD text place 0) (drop (place + 1) text) limit other (omega arith) (omega arith))
+
+    pub front-first : d ≤ limit → decimalFront limit (drop place text) ≡ decimalAfter limit d (drop (place + 1) text)
+    front-first within =
+        rw (drop-here text place inside, is) (decimal-first (getD text place 0) (drop (place + 1) text) limit other (omega arith) (omega arith))
+
+pub front-ended : (text : List ℕ) (place limit : ℕ) → place ≤ length text → length text ≤ place → decimalFront limit (drop place text) ≡ off
+unfolding decimalFront
+front-ended text place limit within past = rw (drop-end text place within past)
+
+pub front-nought : (text : List ℕ) (place limit : ℕ) → place < length text → getD text place 0 ≡ 48 → decimalFront limit (drop place text) ≡ number 0 (drop (place + 1) text)
+front-nought text place limit inside is = rw (drop-here text place inside) (decimal-nought (getD text place 0) (drop (place + 1) text) limit is)
 
 pub after-all : (text : List ℕ) (place limit v : ℕ) → place ≤ length text → length text ≤ place → decimalAfter limit v (drop place text) ≡ number v (drop place text)
 unfolding decimalAfter

@@ -144,12 +144,18 @@ pub fn read_form(text: &[u8], at: usize, form: &[u8], limit: u64) -> Read
     while i < form.len() {
         let piece = form[i];
         let Found::Number(x, next) = read_piece(text, place, piece, limit) else {
-            return Read { values: [0u64; 6], end: End::Off };
+            return Read {
+                values: [0u64; 6],
+                end: End::Off,
+            };
         };
         keep(piece, x, count, &mut values);
         count = next_field(piece, count);
         place = next;
         i += 1;
     }
-    Read { values, end: End::At(place) }
+    Read {
+        values,
+        end: End::At(place),
+    }
 }

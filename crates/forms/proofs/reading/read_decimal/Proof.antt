@@ -1,50 +1,45 @@
+-- `read_decimal` meets its contract: one law for each way out.
+use Rattle.forms.specs.Answers.{Finds}
+use Rattle.forms.proofs.AnswerLaws.{finds-same}
+use Rattle.forms.proofs.Turns.{front-ended, front-nought, front-none, front-large, front-first}
 use borrow.Author.Needs.{needs}
+use native.Mathlib.Omega.{arith}
 use Rattle.forms.proofs.reading.read_decimal.Statement.{statement}
 use Rattle.forms.proofs.reading.read_decimal.Tie as tie
-use Rattle.forms.proofs.reading.read_decimal.Reads as reads
-use Rattle.forms.proofs.reading.read_decimal.Lts as lts
-use Rattle.forms.proofs.digits.digit_of.Reads as digit-of-reads
-use Rattle.forms.proofs.reading.digits_after.Reads as digits-after-reads
 
--- src/reading.rt:66:9
 returns : tie.Need-returns
-returns c = ?
+unfolding Finds
+returns c = front-ended _ _ _ (c .before .before .pre .0) (c .if1 .taken)
 
--- src/reading.rt:68:13
 shared-slice-read-b : tie.Need-shared-slice-read-b
 shared-slice-read-b c = search needs
 
--- src/reading.rt:70:33
 add-t10 : tie.Need-add-t10
 add-t10 c = search needs
 
--- src/reading.rt:70:9
 returns-2 : tie.Need-returns-2
-returns-2 c = ?
+unfolding Finds
+returns-2 c = (front-nought _ _ _ (c .before .before .if1 .left) (c .if2 .taken), omega arith)
 
--- src/reading.rt:72:9
 digit-of-requires : tie.Need-digit-of-requires
 digit-of-requires c κs = search needs
 
--- src/reading.rt:74:9
 returns-3 : tie.Need-returns-3
-returns-3 c = ?
+unfolding Finds
+returns-3 c = front-none _ _ _ (c .before .before .before .before .if1 .left) (c .before .digit-of .ensures) _ (c .if3 .taken)
 
--- src/reading.rt:77:9
 returns-4 : tie.Need-returns-4
-returns-4 c = ?
+unfolding Finds
+returns-4 c = front-large _ _ _ (c .before .before .before .before .before .if1 .left) (c .before .before .digit-of .ensures) _ (c .before .before .before .if2 .left) (omega arith) (c .if4 .taken)
 
--- src/reading.rt:79:24
 add-digits-after : tie.Need-add-digits-after
 add-digits-after c = search needs
 
--- src/reading.rt:79:5
 digits-after-requires : tie.Need-digits-after-requires
 digits-after-requires c κs = search needs
 
--- src/reading.rt:61:1
 returns-5 : tie.Need-returns-5
-returns-5 c = ?
+returns-5 c = finds-same _ _ _ (c .digits-after .ensures) _ (front-first _ _ _ (c .before .before .before .before .before .before .if1 .left) (c .before .before .before .digit-of .ensures) _ (c .before .before .before .before .if2 .left) (omega arith) (c .before .if4 .left))
 
 pub read-decimal-spec : {M : Type 1} → statement M
 read-decimal-spec =

@@ -50,10 +50,10 @@ loop-less c = search needs
 
 loop-again : tie.Need-loop-again Inv-loop μ-loop
 loop-again c = let digit : c .before .digit-of .result < 16 = omega arith in (
-      hex-turn _ _ _ (c .before .before .before .if1 .left) (c .before .digit-of .ensures) _ _ (c .before .before .before .before .loop-test .taken) digit ∙ c .before .before .before .before .before .loop .inv .0,
-      room-turn _ _ _ (c .before .before .before .before .loop-test .taken) digit (c .before .before .before .before .before .loop .inv .1),
-      omega arith,
-    )
+  hex-turn _ _ _ (c .before .before .before .if1 .left) (c .before .digit-of .ensures) _ _ (c .before .before .before .before .loop-test .taken) digit ∙ c .before .before .before .before .before .loop .inv .0,
+  room-turn _ _ _ (c .before .before .before .before .loop-test .taken) digit (c .before .before .before .before .before .loop .inv .1),
+  omega arith,
+)
 
 returns-3 : tie.Need-returns-3 Inv-loop μ-loop
 unfolding Finds

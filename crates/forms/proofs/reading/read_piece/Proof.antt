@@ -1,35 +1,27 @@
+-- `read_piece` meets its contract: a piece is one of three.
+use Rattle.forms.proofs.AnswerLaws.{finds-same}
+use Rattle.forms.proofs.Pieces.{as-hex, as-decimal, as-byte}
 use borrow.Author.Needs.{needs}
 use Rattle.forms.proofs.reading.read_piece.Statement.{statement}
 use Rattle.forms.proofs.reading.read_piece.Tie as tie
-use Rattle.forms.proofs.reading.read_piece.Reads as reads
-use Rattle.forms.proofs.reading.read_piece.Lts as lts
-use Rattle.forms.proofs.reading.read_byte.Reads as read-byte-reads
-use Rattle.forms.proofs.reading.read_decimal.Reads as read-decimal-reads
-use Rattle.forms.proofs.reading.read_hex.Reads as read-hex-reads
 
--- src/reading.rt:102:9
 read-hex-requires : tie.Need-read-hex-requires
 read-hex-requires c κs = search needs
 
--- src/reading.rt:102:9
 returns : tie.Need-returns
-returns c = ?
+returns c = finds-same _ _ _ (c .read-hex .ensures) _ (as-hex _ _ _ (c .before .if1 .taken))
 
--- src/reading.rt:105:9
 read-decimal-requires : tie.Need-read-decimal-requires
 read-decimal-requires c κs = search needs
 
--- src/reading.rt:105:9
 returns-2 : tie.Need-returns-2
-returns-2 c = ?
+returns-2 c = finds-same _ _ _ (c .read-decimal .ensures) _ (as-decimal _ _ _ (c .before .if2 .taken))
 
--- src/reading.rt:107:5
 read-byte-requires : tie.Need-read-byte-requires
 read-byte-requires c κs = search needs
 
--- src/reading.rt:97:1
 returns-3 : tie.Need-returns-3
-returns-3 c = ?
+returns-3 c = finds-same _ _ _ (c .read-byte .ensures) _ (as-byte _ _ _ (c .before .before .if1 .left) (c .before .if2 .left))
 
 pub read-piece-spec : {M : Type 1} → statement M
 read-piece-spec =

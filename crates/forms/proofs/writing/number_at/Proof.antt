@@ -1,24 +1,21 @@
+-- `number_at` meets its contract.
+use mathlib.Core.Path.{sym}
+use lib.ListN.{List·getD-eq-default}
 use borrow.Author.Needs.{needs}
 use Rattle.forms.proofs.writing.number_at.Statement.{statement}
 use Rattle.forms.proofs.writing.number_at.Tie as tie
-use Rattle.forms.proofs.writing.number_at.Reads as reads
-use Rattle.forms.proofs.writing.number_at.Lts as lts
 
--- src/writing.rt:77:20
 mul-result : tie.Need-mul-result
 mul-result c = search needs
 
--- src/writing.rt:77:20
-element-copy-out-result : tie.Need-element-copy-out-result
-element-copy-out-result c = search needs
+shared-slice-read-result : tie.Need-shared-slice-read-result
+shared-slice-read-result c = search needs
 
--- src/writing.rt:74:1
 returns : tie.Need-returns
 returns c = search needs
 
--- src/writing.rt:74:1
 returns-2 : tie.Need-returns-2
-returns-2 c = ?
+returns-2 c = sym (List·getD-eq-default (c .before .args .numbers .now) 0 (c .if1 .left))
 
 pub number-at-spec : {M : Type 1} → statement M
-number-at-spec = tie.close (tie.spec mul-result element-copy-out-result returns returns-2)
+number-at-spec = tie.close (tie.spec mul-result shared-slice-read-result returns returns-2)

@@ -1,63 +1,63 @@
+-- `put_piece` meets its contract: a piece is one of three.
+use mathlib.Core.Path.{sym, ap, _∙_}
+use Prim.Native.Nat.{ℕ}
+use Rattle.forms.specs.Digits.{digits}
+use Rattle.forms.proofs.Pieces.{spell-hex, spell-decimal, spell-byte, hex-length, decimal-length, byte-length}
+use Rattle.forms.proofs.Stores.{sets-same}
 use borrow.Author.Needs.{needs}
+use native.Mathlib.Omega.{arith}
 use Rattle.forms.proofs.writing.put_piece.Statement.{statement}
 use Rattle.forms.proofs.writing.put_piece.Tie as tie
-use Rattle.forms.proofs.writing.put_piece.Reads as reads
-use Rattle.forms.proofs.writing.put_piece.Lts as lts
-use Rattle.forms.proofs.digits.decimal_count.Reads as decimal-count-reads
-use Rattle.forms.proofs.writing.put_decimal.Reads as put-decimal-reads
-use Rattle.forms.proofs.writing.put_hex.Reads as put-hex-reads
 
--- src/writing.rt:61:9
 put-hex-requires : tie.Need-put-hex-requires
-put-hex-requires c κs = ?
+put-hex-requires c κs = let a = c .before .before .before .args in omega (arith, hex-length (a .piece) (a .x) (c .before .if1 .taken))
 
--- src/writing.rt:62:16
 add-result : tie.Need-add-result
 add-result c = search needs
 
--- src/writing.rt:62:9
 same-length : tie.Need-same-length
 same-length c = search needs
 
--- src/writing.rt:62:9
 returns : tie.Need-returns
-returns c = ?
+returns c =
+    let a = c .before .before .before .before .before .before .args in
+    let is = c .before .before .before .before .if1 .taken in
+    (omega (arith, hex-length (a .piece) (a .x) is), c .before .before .put-hex .ensures ∙ sets-same _ _ (spell-hex _ _ is))
 
--- src/writing.rt:65:13
 decimal-count-requires : tie.Need-decimal-count-requires
 decimal-count-requires c κs = search needs
 
--- src/writing.rt:66:9
-put-decimal-requires : tie.Need-put-decimal-requires
-put-decimal-requires c κs = ?
+put-digits-requires : tie.Need-put-digits-requires
+put-digits-requires c κs = let a = c .before .before .before .before .before .args in (omega arith, omega arith, omega (arith, c .before .decimal-count .ensures, decimal-length (a .piece) (a .x) (c .before .before .if2 .taken)))
 
--- src/writing.rt:67:16
 add-result-2 : tie.Need-add-result-2
-add-result-2 c = ?
+add-result-2 c = let a = c .before .before .before .before .before .before .before .before .args in omega (arith, c .before .before .before .before .decimal-count .ensures, decimal-length (a .piece) (a .x) (c .before .before .before .before .before .if2 .taken))
 
--- src/writing.rt:67:9
 same-length-2 : tie.Need-same-length-2
 same-length-2 c = search needs
 
--- src/writing.rt:67:9
 returns-2 : tie.Need-returns-2
-returns-2 c = ?
+returns-2 c =
+    let a = c .before .before .before .before .before .before .before .before .args in
+    let is = c .before .before .before .before .before .if2 .taken in
+    let count = c .before .before .before .before .decimal-count .ensures in (
+      omega (arith, count, decimal-length (a .piece) (a .x) is),
+      c .before .before .put-digits .ensures ∙ sets-same _ _ (spell-decimal _ _ is ∙ ap (λ (k : ℕ). digits 10 k (a .x)) (sym count)),
+    )
 
--- src/writing.rt:69:5
 slice-write-out : tie.Need-slice-write-out
-slice-write-out c = ?
+slice-write-out c = let a = c .before .before .before .args in omega (arith, byte-length (a .piece) (a .x) (c .before .if1 .left) (c .if2 .left))
 
--- src/writing.rt:70:5
 add-result-3 : tie.Need-add-result-3
 add-result-3 c = search needs
 
--- src/writing.rt:55:1
 same-length-3 : tie.Need-same-length-3
 same-length-3 c = search needs
 
--- src/writing.rt:55:1
 returns-3 : tie.Need-returns-3
-returns-3 c = ?
+returns-3 c =
+    let a = c .before .before .before .args in
+    (omega (arith, byte-length (a .piece) (a .x) (c .before .if1 .left) (c .if2 .left)), sets-same _ _ (spell-byte _ _ (c .before .if1 .left) (c .if2 .left)))
 
 pub put-piece-spec : {M : Type 1} → statement M
 put-piece-spec =
@@ -68,7 +68,7 @@ put-piece-spec =
     same-length
     returns
     decimal-count-requires
-    put-decimal-requires
+    put-digits-requires
     add-result-2
     same-length-2
     returns-2
