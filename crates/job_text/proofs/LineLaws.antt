@@ -13,11 +13,11 @@ use lib.Ieee.{Float, binary64, toBits}
 use Rattle.float.specs.Zero.{plusZero}
 use Rattle.lists.specs.Tabulate.{tabulate}
 use Rattle.lists.proofs.Tables.{length-tabulate, getD-tabulate}
-use Rattle.forms.specs.Digits.{digits, decimalCount, hexOf, decimalOf}
+use Rattle.forms.specs.Digits.{decimalCount, hexOf, decimalOf}
 use Rattle.forms.specs.Forms.{spell, spellPiece, pieceOf, isField, after}
 use Rattle.forms.proofs.DigitLaws.{digits-length}
 use Rattle.forms.proofs.Stores.{sets-append}
-use Rattle.job_text.specs.Lines.{doneForm, leafForm, leafEnd, constantForm}
+use Rattle.job_text.specs.Lines.{leafForm, leafEnd, constantForm}
 use Rattle.job_text.specs.Listing.{bitsIn, valuesText, leafLine, constantLine, leafValues, kindLine}
 use Rattle.job_text.specs.Lengths.{leafLength, constantLength, kindLength}
 use Rattle.job_text.specs.Written.{placed}
@@ -55,19 +55,9 @@ stretch-values points place store within =
     ext-getD plusZero (take points (drop (place * points) store)) (tabulate points (λ p. getD store (place * points + p) plusZero))
     (long ∙ sym (length-tabulate points _))
     (λ i below.
-        getD-take points (drop (place * points) store) i plusZero (omega (arith, long))
-            ∙ getD-drop (place * points) store i plusZero
-            ∙ sym (getD-tabulate points (λ p. getD store (place * points + p) plusZero) i plusZero (omega (arith, long))))
-
--- ---- lines with numbers to spare
-
-pub leaf-spelled : (v c : ℕ) → spell leafForm (v ∷ c ∷ 0 ∷ 0 ∷ 0 ∷ 0 ∷ []) ≡ spell leafForm (v ∷ c ∷ [])
-unfolding spell spellPiece pieceOf isField after
-leaf-spelled v c = refl
-
-pub constant-spelled : (v c x : ℕ) → spell constantForm (v ∷ c ∷ x ∷ 0 ∷ 0 ∷ 0 ∷ []) ≡ spell constantForm (v ∷ c ∷ x ∷ [])
-unfolding spell spellPiece pieceOf isField after
-constant-spelled v c x = refl
+    getD-take points (drop (place * points) store) i plusZero (omega (arith, long))
+    ∙ getD-drop (place * points) store i plusZero
+    ∙ sym (getD-tabulate points (λ p. getD store (place * points + p) plusZero) i plusZero (omega (arith, long))))
 
 -- ---- lengths
 
@@ -187,24 +177,21 @@ value-put nan at i xs l d {place} {b} {x} {y} below here so-far bits put =
 
 -- a leaf's line, in three
 module _ (nan v c at : ℕ) (values : List Float) (l : List ℕ) where
-  pub leaf-split : length (leafLine nan v c values) ≡ length (spell leafForm (v ∷ c ∷ 0 ∷ 0 ∷ 0 ∷ 0 ∷ [])) + (length (valuesText nan values) + 2)
+  pub leaf-split : length (leafLine nan v c values) ≡ length (spell leafForm (v ∷ c ∷ [])) + (length (valuesText nan values) + 2)
   unfolding leafLine
   leaf-split =
-      length-append (spell leafForm (v ∷ c ∷ [])) (valuesText nan values ++ leafEnd)
-      ∙ omega (arith, ap length (leaf-spelled v c), length-append (valuesText nan values) leafEnd)
+      omega (arith, length-append (spell leafForm (v ∷ c ∷ [])) (valuesText nan values ++ leafEnd), length-append (valuesText nan values) leafEnd)
 
-  pub leaf-put : {r₁ r₂ r₃ : ℕ} {l₁ l₂ l₃ : List ℕ} → r₁ ≡ at + length (spell leafForm (v ∷ c ∷ 0 ∷ 0 ∷ 0 ∷ 0 ∷ []))
-      → l₁ ≡ sets l at (spell leafForm (v ∷ c ∷ 0 ∷ 0 ∷ 0 ∷ 0 ∷ [])) → r₂ ≡ r₁ + length (valuesText nan values) → l₂ ≡ sets l₁ r₁ (valuesText nan values)
+  pub leaf-put : {r₁ r₂ r₃ : ℕ} {l₁ l₂ l₃ : List ℕ} → r₁ ≡ at + length (spell leafForm (v ∷ c ∷ []))
+      → l₁ ≡ sets l at (spell leafForm (v ∷ c ∷ [])) → r₂ ≡ r₁ + length (valuesText nan values) → l₂ ≡ sets l₁ r₁ (valuesText nan values)
       → r₃ ≡ r₂ + length leafEnd → l₃ ≡ sets l₂ r₂ leafEnd
       → (r₃ ≡ at + length (leafLine nan v c values)) × (l₃ ≡ sets l at (leafLine nan v c values))
   unfolding leafLine
   leaf-put end₁ put₁ end₂ put₂ end₃ put₃ =
       let xs = spell leafForm (v ∷ c ∷ []) in
       let bs = valuesText nan values in
-      let first = end₁ ∙ ap (λ (t : List ℕ). at + length t) (leaf-spelled v c) in
-      let front = put₁ ∙ ap (sets l at) (leaf-spelled v c) in
-      let middle = both-end l at xs bs first front end₂ put₂ in
-      let most = both-put l at xs bs first front end₂ put₂ in (
+      let middle = both-end l at xs bs end₁ put₁ end₂ put₂ in
+      let most = both-put l at xs bs end₁ put₁ end₂ put₂ in (
         both-end l at (xs ++ bs) leafEnd middle most end₃ put₃ ∙ ap (λ (t : List ℕ). at + length t) (append-assoc xs bs leafEnd),
         both-put l at (xs ++ bs) leafEnd middle most end₃ put₃ ∙ ap (sets l at) (append-assoc xs bs leafEnd),
       )
@@ -223,6 +210,6 @@ lent-values points place store within =
     ap (λ n. take n (drop (place * points) store)) size ∙ stretch-values points place store within
 
 -- a constant's line, by its number's bits
-pub constant-put : (v c : ℕ) (x : Float) {b : ℕ} → b ≡ toBits binary64 x → spell constantForm (v ∷ c ∷ b ∷ 0 ∷ 0 ∷ 0 ∷ []) ≡ constantLine v c x
+pub constant-put : (v c : ℕ) (x : Float) {b : ℕ} → b ≡ toBits binary64 x → spell constantForm (v ∷ c ∷ b ∷ []) ≡ constantLine v c x
 unfolding constantLine
-constant-put v c x {b} bits = constant-spelled v c b ∙ ap (λ n. spell constantForm (v ∷ c ∷ n ∷ [])) bits
+constant-put v c x {b} bits = ap (λ n. spell constantForm (v ∷ c ∷ n ∷ [])) bits

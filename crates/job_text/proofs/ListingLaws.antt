@@ -1,17 +1,15 @@
 -- A listing's lines one after the other, their bytes in all, and a listing put into lent bytes.
-use Prim.Native.Nat.{ℕ, zero, suc, _+_, _-_, _*_, _/_, _%_, _≤_, _<_}
+use Prim.Native.Nat.{ℕ, zero, suc, _+_, _-_, _/_, _%_, _≤_, _<_}
 use mathlib.Core.Path.{_≡_, refl, sym, ap, ap₂, _∙_}
-use mathlib.Core.Bool.{Bool, true, false, cond, _&&_}
+use mathlib.Core.Bool.{Bool, true, false, _&&_}
 use mathlib.Core.List.{List, [], _∷_, _++_, append-assoc, append-nil}
-use native.Mathlib.Nat.{zero-add, add-zero, add-suc, suc-add, mul-le-mul}
+use native.Mathlib.Nat.{zero-add, add-zero, add-suc, suc-add}
 use native.Mathlib.Numerals.{add-one}
 use native.Mathlib.Omega.{arith}
 use borrow.Author.Tests.{le-leb, lt-leb}
-use lib.Dec.{leb}
 use lib.Ieee.{Float}
 use lib.ListN.{length, getD, take, drop, replicate, length-append, length-replicate}
 use lib.Seq.{sets, sets-eq, take-all, take-at, length-sets}
-use Rattle.lists.specs.Tabulate.{tabulate}
 use Rattle.lists.specs.Filled.{filled}
 use Rattle.lists.proofs.Lists.{getD-any}
 use Rattle.lists.proofs.Tests.{and-left, and-right}
@@ -20,13 +18,13 @@ use Rattle.float.specs.Zero.{plusZero}
 use Rattle.schedule.specs.Schedule.{Memory}
 use Rattle.schedule.specs.Totals.{sumFrom, sumBelow}
 use Rattle.schedule.specs.Counts.{Counts}
-use Rattle.schedule.proofs.Sums.{sumBelow-snoc, sumFrom-most}
+use Rattle.schedule.proofs.Sums.{sumFrom-most}
 use Rattle.forms.specs.Digits.{decimalOf}
 use Rattle.forms.specs.Forms.{spell, spellPiece, pieceOf, isField, after}
 use Rattle.job_text.specs.declared.Listing.the-variants.{Bytes, Refused}
 use Rattle.job_text.specs.Lines.{doneForm}
 use Rattle.job_text.specs.Listing.{doneLine, linesFrom, kindLine, lineAt}
-use Rattle.job_text.specs.Lengths.{kindLength, lengthAt, Sizes}
+use Rattle.job_text.specs.Lengths.{lengthAt, Sizes}
 use Rattle.job_text.specs.Written.{placed, allPlaced, putBytes, putAnswer}
 use Rattle.job_text.proofs.LineLaws.{line-measured, kind-most, decimal-length}
 
@@ -134,16 +132,12 @@ listing-measured total children points nan k m =
     length-append (doneLine k) (linesFrom (lineAt children points nan m) total 0)
     ∙ ap (λ n. length (doneLine k) + n) (lines-measured (lineAt children points nan m) (lengthAt children points (m .kinds)) (line-length children points nan m) total 0)
 
-done-spelled : (a b c d e : ℕ) → spell doneForm (a ∷ b ∷ c ∷ d ∷ e ∷ 0 ∷ []) ≡ spell doneForm (a ∷ b ∷ c ∷ d ∷ e ∷ [])
-unfolding spell spellPiece pieceOf isField after
-done-spelled a b c d e = refl
-
--- the first line, from the six numbers that hold its counts
-pub done-spelling : (k : Counts) {xs : List ℕ} → xs ≡ k .nodes ∷ k .active ∷ k .leaves ∷ k .sampled ∷ k .evaluations ∷ 0 ∷ [] → spell doneForm xs ≡ doneLine k
+-- the first line, from its counts
+pub done-spelling : (k : Counts) {xs : List ℕ} → xs ≡ k .nodes ∷ k .active ∷ k .leaves ∷ k .sampled ∷ k .evaluations ∷ [] → spell doneForm xs ≡ doneLine k
 unfolding doneLine
-done-spelling k numbers = ap (spell doneForm) numbers ∙ done-spelled (k .nodes) (k .active) (k .leaves) (k .sampled) (k .evaluations)
+done-spelling k numbers = ap (spell doneForm) numbers
 
-pub done-length : (k : Counts) {xs : List ℕ} → xs ≡ k .nodes ∷ k .active ∷ k .leaves ∷ k .sampled ∷ k .evaluations ∷ 0 ∷ [] → length (spell doneForm xs) ≡ length (doneLine k)
+pub done-length : (k : Counts) {xs : List ℕ} → xs ≡ k .nodes ∷ k .active ∷ k .leaves ∷ k .sampled ∷ k .evaluations ∷ [] → length (spell doneForm xs) ≡ length (doneLine k)
 done-length k numbers = ap length (done-spelling k numbers)
 
 number-most : (x n : ℕ) (t : List ℕ) → length t ≤ n → length (decimalOf x ++ t) ≤ 20 + n

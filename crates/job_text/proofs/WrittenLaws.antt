@@ -1,7 +1,7 @@
 -- What writing a record's listing answers, case by case, and the sizes that a possible record gives.
-use Prim.Native.Nat.{ℕ, _+_, _*_, _≤_, _<_}
-use mathlib.Core.Path.{_≡_, refl, sym, ap, _∙_}
-use mathlib.Core.Bool.{Bool, true, false, cond, not, _&&_}
+use Prim.Native.Nat.{ℕ, _+_, _*_, _≤_}
+use mathlib.Core.Path.{_≡_, sym, _∙_}
+use mathlib.Core.Bool.{true, false}
 use mathlib.Core.List.{List, [], _++_}
 use native.Mathlib.Omega.{arith}
 use lib.ListN.{length}
@@ -18,9 +18,9 @@ use Rattle.schedule.specs.Possible.{impossible}
 use Rattle.schedule.proofs.Possible.{possible}
 use Rattle.sparse_field.specs.declared.Record.{Record}
 use Rattle.sparse_field.specs.Calls.{memoryOf}
-use Rattle.sparse_field.specs.Plan.{planWith, planOf}
+use Rattle.sparse_field.specs.Plan.{planWith}
 use Rattle.sparse_field.specs.Records.{sparse, lent, jobIn, countsIn, cursorIn}
-use Rattle.sparse_field.proofs.Judgement.{NoCause, no-cause, bound-fits}
+use Rattle.sparse_field.proofs.Judgement.{no-cause, bound-fits}
 use Rattle.job_text.specs.declared.Listing.the-variants.{Refused, NotPrintable}
 use Rattle.job_text.specs.Lengths.{Sizes}
 use Rattle.job_text.specs.Listing.{doneLine, linesFrom, lineAt, listing}
@@ -96,7 +96,7 @@ module _ (r : Record) (nan : ℕ) (m : Memory) (out : List ℕ) where
         let all : printable r m ≡ true = rw (end, holds) in
         rw (all, listing-as)
 
--- ---- any record
+  -- ---- any record
 
   pub no-job : r .job ≡ false → written r nan m out ≡ refusedPut (Refused 7) out
   unfolding written

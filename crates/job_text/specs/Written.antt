@@ -1,9 +1,9 @@
 -- What writing a job's listing answers and leaves in the lent bytes: 7 without a job, 8 for an impossible record, "not printable" for an unfinished job or a
 -- leaf's place outside the store, then 6 where the bytes are too few. A refusal writes nothing; what lies past a listing is 0.
 use Prim.Native.Nat.{ℕ, zero, suc, _+_, _-_, _*_}
-use mathlib.Core.Bool.{Bool, true, false, cond, _&&_, _||_, not}
-use mathlib.Core.List.{List, [], _∷_, _++_}
-use lib.Dec.{eqb, leb, ltb}
+use mathlib.Core.Bool.{Bool, true, cond, _&&_, _||_, not}
+use mathlib.Core.List.{List, _++_}
+use lib.Dec.{eqb, leb}
 use lib.ListN.{length, getD, replicate}
 use Rattle.schedule.specs.Schedule.{Memory}
 use Rattle.schedule.specs.JobRecord.{isFinished}

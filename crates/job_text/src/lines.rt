@@ -12,7 +12,11 @@ ghost use Rattle.job_text.specs.Written.{placed};
 fn bits_in(nan: u64, x: f64) -> u64
     ensures { λ r. ⌜ r ≡ bitsIn nan x ⌝ }
 {
-    if float::is_nan(x) { nan } else { float::to_bits(x) }
+    if float::is_nan(x) {
+        nan
+    } else {
+        float::to_bits(x)
+    }
 }
 
 // Puts values, each after a space, and answers where they end.
@@ -38,7 +42,7 @@ fn put_leaf(nan: u64, v: u64, c: u64, values: &[f64], at: usize, out: &mut [u8])
     ensures { λ r. ⌜ r ≡ at + length (leafLine nan v c (now (values .entry))) ⌝ }
     ensures { λ _. ⌜ now (out .exit) ≡ sets (now (out .entry)) at (leafLine nan v c (now (values .entry))) ⌝ }
 {
-    let numbers = [v, c, 0, 0, 0, 0];
+    let numbers = [v, c];
     let first = forms::put_form(b"(leaf D D", &numbers, at, out);
     let last = put_values(nan, values, first, out);
     forms::put_form(b")\n", &numbers, last, out)
@@ -51,7 +55,7 @@ fn put_constant(v: u64, c: u64, x: f64, at: usize, out: &mut [u8]) -> usize
     ensures { λ _. ⌜ now (out .exit) ≡ sets (now (out .entry)) at (constantLine v c x) ⌝ }
 {
     let bits = float::to_bits(x);
-    let numbers = [v, c, bits, 0, 0, 0];
+    let numbers = [v, c, bits];
     forms::put_form(b"(constant D D H)\n", &numbers, at, out)
 }
 
@@ -90,7 +94,7 @@ fn leaf_length(points: usize, v: u64, c: u64) -> usize
     requires { ⌜ points ≤ 262144 ⌝ }
     ensures { λ r. ⌜ r ≡ leafLength points v c ⌝ }
 {
-    let numbers = [v, c, 0, 0, 0, 0];
+    let numbers = [v, c];
     forms::form_length(b"(leaf D D", &numbers) + 17 * points + 2
 }
 
@@ -105,7 +109,7 @@ pub fn child_length(points: usize, v: u64, c: u64, kind: u8) -> usize
     if kind == 2 {
         return leaf_length(points, v, c);
     }
-    let numbers = [v, c, 0, 0, 0, 0];
+    let numbers = [v, c, 0];
     forms::form_length(b"(constant D D H)\n", &numbers)
 }
 

@@ -78,7 +78,18 @@ fn put_lines(
     while j < total {
         let v = (j / children) as u64;
         let c = (j % children) as u64;
-        end = put_child(points, nan, v, c, kinds[j], numbers[j], places[j], store, end, out);
+        end = put_child(
+            points,
+            nan,
+            v,
+            c,
+            kinds[j],
+            numbers[j],
+            places[j],
+            store,
+            end,
+            out,
+        );
         j += 1;
     }
     end
@@ -97,19 +108,32 @@ fn zero_rest(at: usize, out: &mut [u8])
 }
 
 // The numbers of the line that ends a job: its counts.
-fn done_numbers(counts: Counts) -> [u64; 6]
-    ensures { λ r. ⌜ r ≡ counts .nodes ∷ counts .active ∷ counts .leaves ∷ counts .sampled ∷ counts .evaluations ∷ 0 ∷ [] ⌝ }
+fn done_numbers(counts: Counts) -> [u64; 5]
+    ensures { λ r. ⌜ r ≡ counts .nodes ∷ counts .active ∷ counts .leaves ∷ counts .sampled ∷ counts .evaluations ∷ [] ⌝ }
 {
-    [counts.nodes, counts.active, counts.leaves, counts.sampled, counts.evaluations, 0]
+    [
+        counts.nodes,
+        counts.active,
+        counts.leaves,
+        counts.sampled,
+        counts.evaluations,
+    ]
 }
 
 // How many bytes a listing has.
-fn listing_length(counts: Counts, total: usize, children: usize, points: usize, kinds: &[u8]) -> usize
+fn listing_length(
+    counts: Counts,
+    total: usize,
+    children: usize,
+    points: usize,
+    kinds: &[u8],
+) -> usize
     requires { ⌜ Sizes total children points × (total ≤ length (now kinds)) ⌝ }
     ensures { λ r. ⌜ r ≡ length (doneLine (countsIn counts)) + sumBelow (lengthAt children points (now (kinds .entry))) total ⌝ }
 {
     let numbers = done_numbers(counts);
-    forms::form_length(b"(done D D D D D)\n", &numbers) + lines_length(total, children, points, kinds)
+    forms::form_length(b"(done D D D D D)\n", &numbers)
+        + lines_length(total, children, points, kinds)
 }
 
 // Puts a listing at the front of bytes that it fits, and 0 after it.
@@ -132,7 +156,18 @@ fn put_listing(
 {
     let done = done_numbers(counts);
     let first = forms::put_form(b"(done D D D D D)\n", &done, 0, out);
-    let last = put_lines(total, children, points, nan, kinds, numbers, places, store, first, out);
+    let last = put_lines(
+        total,
+        children,
+        points,
+        nan,
+        kinds,
+        numbers,
+        places,
+        store,
+        first,
+        out,
+    );
     zero_rest(last, out);
 }
 
@@ -158,7 +193,18 @@ fn write_placed(
     if length > out.len() {
         return Listing::Refused(6);
     }
-    put_listing(counts, total, children, points, nan, kinds, numbers, places, store, out);
+    put_listing(
+        counts,
+        total,
+        children,
+        points,
+        nan,
+        kinds,
+        numbers,
+        places,
+        store,
+        out,
+    );
     Listing::Bytes(length)
 }
 
@@ -199,7 +245,18 @@ fn write_possible(
         return Listing::NotPrintable;
     }
     let counts = record.counts;
-    write_placed(counts, total, children, points, nan, kinds, numbers, places, store, out)
+    write_placed(
+        counts,
+        total,
+        children,
+        points,
+        nan,
+        kinds,
+        numbers,
+        places,
+        store,
+        out,
+    )
 }
 
 // Writes the listing of a record's job, in which a NaN leaf value has the given bits. Refused by 7
@@ -228,7 +285,7 @@ pub fn write_listing(
 }
 
 // Writes one line, if the bytes lent are enough, and 0 after it.
-fn write_line(form: &[u8], numbers: &[u64; 6], out: &mut [u8]) -> Listing
+fn write_line(form: &[u8], numbers: &[u64], out: &mut [u8]) -> Listing
     requires { ⌜ length (now form) ≤ 4096 ⌝ }
     ensures { λ r. ⌜ r ≡ putAnswer (spell (map pieceOf (now (form .entry))) (now (numbers .entry))) (now (out .entry)) ⌝ }
     ensures { λ _. ⌜ now (out .exit) ≡ putBytes (spell (map pieceOf (now (form .entry))) (now (numbers .entry))) (now (out .entry)) ⌝ }
@@ -247,7 +304,7 @@ pub fn write_refusal(number: u32, out: &mut [u8]) -> Listing
     ensures { λ r. ⌜ r ≡ putAnswer (spell refusedForm (number ∷ [])) (now (out .entry)) ⌝ }
     ensures { λ _. ⌜ now (out .exit) ≡ putBytes (spell refusedForm (number ∷ [])) (now (out .entry)) ⌝ }
 {
-    let numbers = [number as u64, 0, 0, 0, 0, 0];
+    let numbers = [number as u64];
     write_line(b"(refused D)\n", &numbers, out)
 }
 
@@ -256,6 +313,6 @@ pub fn write_off(line: u32, out: &mut [u8]) -> Listing
     ensures { λ r. ⌜ r ≡ putAnswer (spell offForm (line ∷ [])) (now (out .entry)) ⌝ }
     ensures { λ _. ⌜ now (out .exit) ≡ putBytes (spell offForm (line ∷ [])) (now (out .entry)) ⌝ }
 {
-    let numbers = [line as u64, 0, 0, 0, 0, 0];
+    let numbers = [line as u64];
     write_line(b"(refused 12 D)\n", &numbers, out)
 }

@@ -6,28 +6,20 @@ use Rattle.job_text.specs.Listing.{bitsIn}
 use borrow.Author.Needs.{needs}
 use Rattle.job_text.proofs.lines.bits_in.Statement.{statement}
 use Rattle.job_text.proofs.lines.bits_in.Tie as tie
-use Rattle.job_text.proofs.lines.bits_in.Reads as reads
-use Rattle.job_text.proofs.lines.bits_in.Lts as lts
-use Rattle.float.proofs.is_nan.Reads as is-nan-reads
-use Rattle.float.proofs.to_bits.Reads as to-bits-reads
 
--- src/lines.rt:15:8
 is-nan-requires : tie.Need-is-nan-requires
 is-nan-requires c κs = search needs
 
--- src/lines.rt:15:40
 to-bits-requires : tie.Need-to-bits-requires
 to-bits-requires c κs = search needs
 
--- src/lines.rt:12:1
 returns : tie.Need-returns
 unfolding bitsIn
 returns c = let is : isNan (c .before .before .args .x) ≡ true = sym (c .before .is-nan .ensures) ∙ c .if1 .taken in rw is
 
--- src/lines.rt:12:1
 returns-2 : tie.Need-returns-2
 unfolding bitsIn
-returns-2 c = 
+returns-2 c =
     let is : isNan (c .before .before .before .args .x) ≡ false = sym (c .before .before .is-nan .ensures) ∙ c .before .if1 .left in
     rw is (c .to-bits .ensures)
 

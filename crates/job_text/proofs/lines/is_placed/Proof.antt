@@ -7,23 +7,17 @@ use Rattle.job_text.specs.Written.{placed}
 use borrow.Author.Needs.{needs}
 use Rattle.job_text.proofs.lines.is_placed.Statement.{statement}
 use Rattle.job_text.proofs.lines.is_placed.Tie as tie
-use Rattle.job_text.proofs.lines.is_placed.Reads as reads
-use Rattle.job_text.proofs.lines.is_placed.Lts as lts
 
--- src/lines.rt:118:9
 returns : tie.Need-returns
 unfolding placed
 returns c = let a = c .before .args in rw (ne-eqb (a .kind) 2 (c .if1 .taken))
 
--- src/lines.rt:120:6
 add-result : tie.Need-add-result
 add-result c = search needs
 
--- src/lines.rt:120:5
 mul-result : tie.Need-mul-result
 mul-result c = let a = c .before .args in omega (arith, mul-le-mul-left (a .place + 1) (c .before .pre))
 
--- src/lines.rt:113:1
 returns-2 : tie.Need-returns-2
 unfolding placed
 returns-2 c = let a = c .before .args in rw (eq-eqb (a .kind) 2 (c .if1 .left))

@@ -12,10 +12,6 @@ use Rattle.job_text.proofs.LineLaws.{no-line, leaf-line, constant-line,
 use borrow.Author.Needs.{needs}
 use Rattle.job_text.proofs.lines.put_child.Statement.{statement}
 use Rattle.job_text.proofs.lines.put_child.Tie as tie
-use Rattle.job_text.proofs.lines.put_child.Reads as reads
-use Rattle.job_text.proofs.lines.put_child.Lts as lts
-use Rattle.job_text.proofs.lines.put_constant.Reads as put-constant-reads
-use Rattle.job_text.proofs.lines.put_leaf.Reads as put-leaf-reads
 
 -- the leaf's stretch lies within the store
 leaf-within : (c : tie.Then2) → (c .before .before .before .before .args .place + 1) * c .before .before .before .before .args .points ≤ length (c .before .before .before .before .args .store .now)
@@ -23,56 +19,46 @@ leaf-within c =
     let a = c .before .before .before .before .args in
     placed-leaf (a .points) (length (a .store .now)) (a .kind) (a .place) (c .if2 .taken) (c .before .before .before .before .pre .0 .1)
 
--- src/lines.rt:78:9
 returns : tie.Need-returns
-returns c = 
+returns c =
     let a = c .before .before .before .args in
     let none = no-line (a .points) (a .v) (a .c) (a .kind) (a .nan) (a .x) (a .place) (a .store .now) (c .if1 .taken) in
     (omega (arith, ap length none), ap (sets (a .out .now) (a .at)) (sym none))
 
--- src/lines.rt:81:20
 mul-from : tie.Need-mul-from
 mul-from c = let a = c .before .before .before .before .args in omega (arith, mul-le-mul-left (a .place) (c .before .before .before .before .pre .0 .0))
 
--- src/lines.rt:82:18
 add-to : tie.Need-add-to
 add-to c = let a = c .before .before .before .before .args in omega (arith, c .before .before .before .before .pre .0 .0, mul-le-mul-left (a .place) (c .before .before .before .before .pre .0 .0))
 
--- src/lines.rt:83:36
 mul-put-leaf : tie.Need-mul-put-leaf
 mul-put-leaf c = let a = c .before .before .before .before .args in omega (arith, mul-le-mul-left (a .place) (c .before .before .before .before .pre .0 .0))
 
--- src/lines.rt:83:36
 sub-put-leaf : tie.Need-sub-put-leaf
 sub-put-leaf c = search needs
 
--- src/lines.rt:83:36
 part-put-leaf-start : tie.Need-part-put-leaf-start
 part-put-leaf-start c = search needs
 
--- src/lines.rt:83:36
 part-put-leaf-end : tie.Need-part-put-leaf-end
-part-put-leaf-end c = 
+part-put-leaf-end c =
     let a = c .before .before .before .before .args in
     let within : a .place * a .points + a .points ≤ length (a .store .now) = omega (arith, leaf-within c) in
     let size : a .place * a .points + a .points - a .place * a .points ≡ a .points = omega arith in
     search needs
 
--- src/lines.rt:83:9
 put-leaf-requires : tie.Need-put-leaf-requires
-put-leaf-requires c κs = 
+put-leaf-requires c κs =
     let a = c .before .before .before .before .before .before .args in
     let line = leaf-line (a .points) (a .v) (a .c) (a .kind) (a .nan) (a .x) (a .place) (a .store .now) (c .before .before .before .if1 .left) (c .before .before .if2 .taken) in
     let values = lent-values (a .points) (a .place) (a .store .now) (leaf-within (c .before .before)) in
     omega (arith, c .before .before .before .before .before .before .pre .1, ap length line, ap (λ (xs : List Float). length (leafLine (a .nan) (a .v) (a .c) xs)) values)
 
--- src/lines.rt:83:9
 same-length : tie.Need-same-length
 same-length c = search needs
 
--- src/lines.rt:83:9
 returns-2 : tie.Need-returns-2
-returns-2 c = 
+returns-2 c =
     let a = c .before .before .before .before .before .before .before .before .before .args in
     let line = leaf-line (a .points) (a .v) (a .c) (a .kind) (a .nan) (a .x) (a .place) (a .store .now) (c .before .before .before .before .before .before .if1 .left) (c .before .before .before .before .before .if2 .taken) in
     let values = lent-values (a .points) (a .place) (a .store .now) (leaf-within (c .before .before .before .before .before)) in
@@ -80,20 +66,17 @@ returns-2 c =
     let put = c .before .before .put-leaf .ensures in
     (put .0 ∙ ap (λ (t : List ℕ). a .at + length t) same, put .1 ∙ ap (sets (a .out .now) (a .at)) same)
 
--- src/lines.rt:85:5
 put-constant-requires : tie.Need-put-constant-requires
-put-constant-requires c κs = 
+put-constant-requires c κs =
     let a = c .before .before .before .before .before .args in
     let line = constant-line (a .points) (a .v) (a .c) (a .kind) (a .nan) (a .x) (a .place) (a .store .now) (c .before .before .if1 .left) (c .before .if2 .left) in
     omega (arith, c .before .before .before .before .before .pre .1, ap length line)
 
--- src/lines.rt:60:1
 same-length-2 : tie.Need-same-length-2
 same-length-2 c = search needs
 
--- src/lines.rt:60:1
 returns-3 : tie.Need-returns-3
-returns-3 c = 
+returns-3 c =
     let a = c .before .before .before .before .before .before .before .before .args in
     let line = constant-line (a .points) (a .v) (a .c) (a .kind) (a .nan) (a .x) (a .place) (a .store .now) (c .before .before .before .before .before .if1 .left) (c .before .before .before .before .if2 .left) in
     let put = c .before .before .put-constant .ensures in

@@ -9,13 +9,9 @@ use Rattle.job_text.specs.Listing.{valuesText}
 use Rattle.job_text.proofs.LineLaws.{values-length, value-put, put-long}
 use Rattle.job_text.proofs.lines.put_values.Statement.{statement}
 use Rattle.job_text.proofs.lines.put_values.Tie as tie
-use Rattle.job_text.proofs.lines.put_values.Reads as reads
-use Rattle.job_text.proofs.lines.put_values.Lts as lts
-use Rattle.forms.proofs.put_hex.Reads as put-hex-reads
-use Rattle.job_text.proofs.lines.bits_in.Reads as bits-in-reads
 
 abbrev Inv-loop : tie.InvT-loop
-Inv-loop nan values at out₀ place₀ i₀ out place i = 
+Inv-loop nan values at out₀ place₀ i₀ out place i =
     (i ≤ length values)
     × (place ≡ at + 17 * i)
     × (length out ≡ length out₀)
@@ -24,77 +20,64 @@ Inv-loop nan values at out₀ place₀ i₀ out place i =
 abbrev μ-loop : tie.MeasureT-loop
 μ-loop nan values at out₀ place₀ i₀ out place i = length values - i
 
--- src/lines.rt:26:5
 loop-holds : tie.Need-loop-holds Inv-loop μ-loop
 unfolding valuesText
 loop-holds c = (omega arith, omega arith, refl, refl)
 
--- src/lines.rt:27:9
 slice-write-out : tie.Need-slice-write-out Inv-loop μ-loop
-slice-write-out c = 
+slice-write-out c =
     let l = c .before .loop in
     let a = c .before .before .before .before .args in
     omega (arith, l .inv, c .loop-test .taken, c .before .before .before .before .pre, values-length (a .nan) (a .values .now))
 
--- src/lines.rt:28:37
 mul-bits-in : tie.Need-mul-bits-in Inv-loop μ-loop
 mul-bits-in c = search needs
 
--- src/lines.rt:28:37
 shared-slice-read-bits-in : tie.Need-shared-slice-read-bits-in Inv-loop μ-loop
 shared-slice-read-bits-in c = search needs
 
--- src/lines.rt:28:24
 bits-in-requires : tie.Need-bits-in-requires Inv-loop μ-loop
 bits-in-requires c κs = search needs
 
--- src/lines.rt:28:49
 add-put-hex : tie.Need-add-put-hex Inv-loop μ-loop
-add-put-hex c = 
+add-put-hex c =
     let l = c .before .before .before .loop in
     let a = c .before .before .before .before .before .before .args in
     omega (arith, l .inv, c .before .before .loop-test .taken, c .before .before .before .before .before .before .pre, values-length (a .nan) (a .values .now))
 
--- src/lines.rt:28:9
 put-hex-requires : tie.Need-put-hex-requires Inv-loop μ-loop
-put-hex-requires c κs = 
+put-hex-requires c κs =
     let l = c .before .before .before .before .loop in
     let a = c .before .before .before .before .before .before .before .args in
     let ok : l .place + 1 + 16 ≤ length (set (l .out) (l .place) 32) =
     omega (arith, length-set (l .out) (l .place) 32, l .inv, c .before .before .before .loop-test .taken, c .before .before .before .before .before .before .before .pre, values-length (a .nan) (a .values .now)) in
     ok
 
--- src/lines.rt:29:9
 add-place : tie.Need-add-place Inv-loop μ-loop
-add-place c = 
+add-place c =
     let l = c .before .before .before .before .before .before .before .loop in
     let a = c .before .before .before .before .before .before .before .before .before .before .args in
     omega (arith, l .inv, c .before .before .before .before .before .before .loop-test .taken, c .before .before .before .before .before .before .before .before .before .before .pre, values-length (a .nan) (a .values .now))
 
--- src/lines.rt:30:9
 add-i : tie.Need-add-i Inv-loop μ-loop
 add-i c = search needs
 
--- src/lines.rt:26:5
 loop-less : tie.Need-loop-less Inv-loop μ-loop
 loop-less c = omega (arith, c .before .before .before .before .before .before .loop-test .taken)
 
--- src/lines.rt:26:5
 loop-again : tie.Need-loop-again Inv-loop μ-loop
-loop-again c = 
+loop-again c =
     let l = c .before .before .before .before .before .before .before .loop in
     let a = c .before .before .before .before .before .before .before .before .before .before .args in
     let below : l .i < length (a .values .now) = c .before .before .before .before .before .before .loop-test .taken in
     let next = value-put (a .nan) (a .at) (l .i) (a .values .now) (a .out .now) _ below (l .inv .1) (l .inv .3) (c .before .before .before .before .bits-in .ensures) (c .before .before .put-hex .ensures) in
     (omega arith, omega (arith, l .inv .1), put-long (a .out .now) (a .at) (valuesText (a .nan) (take (l .i + 1) (a .values .now))) next, next)
 
--- src/lines.rt:19:1
 same-length : tie.Need-same-length Inv-loop μ-loop
 same-length c = search needs
 
--- src/lines.rt:19:1
 returns : tie.Need-returns Inv-loop μ-loop
-returns c = 
+returns c =
     let l = c .before .loop in
     let a = c .before .before .before .before .args in
     let all : take (l .i) (a .values .now) ≡ a .values .now = take-all (l .i) (a .values .now) (omega (arith, c .loop-test .left)) in

@@ -10,59 +10,47 @@ use Rattle.job_text.specs.Lengths.{lengthAt}
 use Rattle.job_text.proofs.ListingLaws.{length-most}
 use Rattle.job_text.proofs.writing.lines_length.Statement.{statement}
 use Rattle.job_text.proofs.writing.lines_length.Tie as tie
-use Rattle.job_text.proofs.writing.lines_length.Reads as reads
-use Rattle.job_text.proofs.writing.lines_length.Lts as lts
-use Rattle.job_text.proofs.lines.child_length.Reads as child-length-reads
 
 abbrev Inv-loop : tie.InvT-loop
-Inv-loop total children points kinds sum₀ j₀ sum j = 
+Inv-loop total children points kinds sum₀ j₀ sum j =
     (j ≤ total) × (sum ≡ sumBelow (lengthAt children points kinds) j) × (sum ≤ j * 4456519)
 
 abbrev μ-loop : tie.MeasureT-loop
 μ-loop total children points kinds sum₀ j₀ sum j = total - j
 
--- src/writing.rt:48:5
 loop-holds : tie.Need-loop-holds Inv-loop μ-loop
 unfolding sumFrom
 loop-holds c = (omega arith, refl, omega arith)
 
--- src/writing.rt:49:18
 div-v : tie.Need-div-v Inv-loop μ-loop
 div-v c = search needs
 
--- src/writing.rt:50:18
 rem-c : tie.Need-rem-c Inv-loop μ-loop
 rem-c c = search needs
 
--- src/writing.rt:51:43
 shared-slice-read-child-length : tie.Need-shared-slice-read-child-length Inv-loop μ-loop
 shared-slice-read-child-length c = search needs
 
--- src/writing.rt:51:16
 child-length-requires : tie.Need-child-length-requires Inv-loop μ-loop
 child-length-requires c κs = c .before .before .before .before .pre .0 .size
 
--- src/writing.rt:51:9
 add-sum : tie.Need-add-sum Inv-loop μ-loop
 unfolding lengthAt
-add-sum c = 
+add-sum c =
     let a = c .before .before .before .before .before .args in
     let l = c .before .before .before .loop in
     let most = length-most (a .children) (a .points) (a .kinds .now) (l .j) (c .before .before .before .before .before .pre .0 .size) in
     omega (arith, c .child-length .ensures, most, l .inv, c .before .before .loop-test .taken, c .before .before .before .before .before .pre .0 .few)
 
--- src/writing.rt:52:9
 add-j : tie.Need-add-j Inv-loop μ-loop
 add-j c = search needs
 
--- src/writing.rt:48:5
 loop-less : tie.Need-loop-less Inv-loop μ-loop
 loop-less c = search needs
 
--- src/writing.rt:48:5
 loop-again : tie.Need-loop-again Inv-loop μ-loop
 unfolding lengthAt
-loop-again c = 
+loop-again c =
     let a = c .before .before .before .before .before .args in
     let l = c .before .before .before .loop in
     let f = lengthAt (a .children) (a .points) (a .kinds .now) in
@@ -70,9 +58,8 @@ loop-again c =
     let next : sumBelow f (l .j + 1) ≡ sumBelow f (l .j) + f (l .j) = ap (sumBelow f) (add-one (l .j)) ∙ sumBelow-snoc f (l .j) in
     (omega (arith, c .before .before .loop-test .taken), omega (arith, next, l .inv .1, c .child-length .ensures), omega (arith, c .child-length .ensures, most, l .inv .2))
 
--- src/writing.rt:42:1
 returns : tie.Need-returns Inv-loop μ-loop
-returns c = 
+returns c =
     let a = c .before .before .before .args in
     let l = c .before .loop in
     let last : l .j ≡ a .total = omega (arith, l .inv .0, c .loop-test .left) in

@@ -13,54 +13,42 @@ use Rattle.job_text.proofs.LineLaws.{both-end, both-put, put-long}
 use Rattle.job_text.proofs.ListingLaws.{placed-at, lines-next, line-within, line-read}
 use Rattle.job_text.proofs.writing.put_lines.Statement.{statement}
 use Rattle.job_text.proofs.writing.put_lines.Tie as tie
-use Rattle.job_text.proofs.writing.put_lines.Reads as reads
-use Rattle.job_text.proofs.writing.put_lines.Lts as lts
-use Rattle.job_text.proofs.lines.put_child.Reads as put-child-reads
 
 abbrev Inv-loop : tie.InvT-loop
-Inv-loop total children points nan kinds numbers places store at out₀ end₀ j₀ out end j = 
+Inv-loop total children points nan kinds numbers places store at out₀ end₀ j₀ out end j =
     let f = lineAt children points nan (memoryOf kinds numbers places store []) in
     (j ≤ total) × (end ≡ at + length (linesFrom f j 0)) × (length out ≡ length out₀) × (out ≡ sets out₀ at (linesFrom f j 0))
 
 abbrev μ-loop : tie.MeasureT-loop
 μ-loop total children points nan kinds numbers places store at out₀ end₀ j₀ out end j = total - j
 
--- src/writing.rt:78:5
 loop-holds : tie.Need-loop-holds Inv-loop μ-loop
 unfolding linesFrom
 loop-holds c = (omega arith, omega arith, refl, refl)
 
--- src/writing.rt:79:18
 div-v : tie.Need-div-v Inv-loop μ-loop
 div-v c = search needs
 
--- src/writing.rt:80:18
 rem-c : tie.Need-rem-c Inv-loop μ-loop
 rem-c c = search needs
 
--- src/writing.rt:81:44
 shared-slice-read-put-child : tie.Need-shared-slice-read-put-child Inv-loop μ-loop
 shared-slice-read-put-child c = search needs
 
--- src/writing.rt:81:54
 mul-put-child : tie.Need-mul-put-child Inv-loop μ-loop
 mul-put-child c = search needs
 
--- src/writing.rt:81:54
 shared-slice-read-put-child-2 : tie.Need-shared-slice-read-put-child-2 Inv-loop μ-loop
 shared-slice-read-put-child-2 c = search needs
 
--- src/writing.rt:81:66
 mul-put-child-2 : tie.Need-mul-put-child-2 Inv-loop μ-loop
 mul-put-child-2 c = search needs
 
--- src/writing.rt:81:66
 shared-slice-read-put-child-3 : tie.Need-shared-slice-read-put-child-3 Inv-loop μ-loop
 shared-slice-read-put-child-3 c = search needs
 
--- src/writing.rt:81:9
 put-child-requires : tie.Need-put-child-requires Inv-loop μ-loop
-put-child-requires c κs = 
+put-child-requires c κs =
     let s = c .before .before .before .before .before .before .before .before .before .before .before in
     let a = s .args in
     let l = c .before .before .before .before .before .loop in
@@ -72,17 +60,14 @@ put-child-requires c κs =
       omega (arith, within, ap length line, l .inv, s .pre .1 .1),
     )
 
--- src/writing.rt:82:9
 add-j : tie.Need-add-j Inv-loop μ-loop
 add-j c = search needs
 
--- src/writing.rt:78:5
 loop-less : tie.Need-loop-less Inv-loop μ-loop
 loop-less c = search needs
 
--- src/writing.rt:78:5
 loop-again : tie.Need-loop-again Inv-loop μ-loop
-loop-again c = 
+loop-again c =
     let a = c .before .before .before .before .before .before .before .before .before .before .before .before .before .before .args in
     let l = c .before .before .before .before .before .before .before .before .loop in
     let m = memoryOf (a .kinds .now) (a .numbers .now) (a .places .now) (a .store .now) [] in
@@ -101,13 +86,11 @@ loop-again c =
       bytes ∙ ap (sets (a .out .now) (a .at)) next,
     )
 
--- src/writing.rt:58:1
 same-length : tie.Need-same-length Inv-loop μ-loop
 same-length c = search needs
 
--- src/writing.rt:58:1
 returns : tie.Need-returns Inv-loop μ-loop
-returns c = 
+returns c =
     let a = c .before .before .before .before .before .before .before .args in
     let l = c .before .loop in
     let m = memoryOf (a .kinds .now) (a .numbers .now) (a .places .now) (a .store .now) [] in

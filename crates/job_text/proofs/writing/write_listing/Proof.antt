@@ -7,46 +7,36 @@ use Rattle.job_text.proofs.WrittenLaws.{no-job, judged-impossible, judg
 use borrow.Author.Needs.{needs}
 use Rattle.job_text.proofs.writing.write_listing.Statement.{statement}
 use Rattle.job_text.proofs.writing.write_listing.Tie as tie
-use Rattle.job_text.proofs.writing.write_listing.Reads as reads
-use Rattle.job_text.proofs.writing.write_listing.Lts as lts
-use Rattle.job_text.proofs.writing.write_possible.Reads as write-possible-reads
-use Rattle.sparse_field.proofs.is_impossible.Reads as is-impossible-reads
 
 -- the memory at entry
 abbrev memory : tie.Start → Memory
 memory s = let a = s .args in memoryOf (a .kinds .now) (a .numbers .now) (a .places .now) (a .store .now) (a .corners .now)
 
--- src/writing.rt:222:9
 returns : tie.Need-returns
-returns c = 
+returns c =
     let s = c .before .before .before .before .before .before .before .before in
     let a = s .args in
     let is = no-job (a .«record») (a .nan) (memory s) (a .out .now) (not-true _ (c .if1 .taken)) in
     (sym (ap (λ p. p .answer) is), sym (ap (λ p. p .bytes) is))
 
--- src/writing.rt:224:8
 is-impossible-requires : tie.Need-is-impossible-requires
 is-impossible-requires c κs = search needs
 
--- src/writing.rt:225:9
 returns-2 : tie.Need-returns-2
-returns-2 c = 
+returns-2 c =
     let s = c .before .before .before .before .before .before .before .before .before .before in
     let a = s .args in
     let is = judged-impossible (a .«record») (a .nan) (memory s) (a .out .now) (not-false _ (c .before .before .if1 .left)) (sym (c .before .is-impossible .ensures) ∙ c .if2 .taken) in
     (sym (ap (λ p. p .answer) is), sym (ap (λ p. p .bytes) is))
 
--- src/writing.rt:227:5
 write-possible-requires : tie.Need-write-possible-requires
 write-possible-requires c κs = sym (c .before .before .is-impossible .ensures) ∙ c .before .if2 .left
 
--- src/writing.rt:208:1
 same-length : tie.Need-same-length
 same-length c = search needs
 
--- src/writing.rt:208:1
 returns-3 : tie.Need-returns-3
-returns-3 c = 
+returns-3 c =
     let s = c .before .before .before .before .before .before .before .before .before .before .before .before .before .before in
     let a = s .args in
     let is = judged-possible (a .«record») (a .nan) (memory s) (a .out .now) (not-false _ (c .before .before .before .before .before .before .if1 .left)) (sym (c .before .before .before .before .before .is-impossible .ensures) ∙ c .before .before .before .before .if2 .left) in

@@ -14,10 +14,6 @@ use Rattle.job_text.proofs.ListingLaws.{listing-measured, refused-answe
 use borrow.Author.Needs.{needs}
 use Rattle.job_text.proofs.writing.write_placed.Statement.{statement}
 use Rattle.job_text.proofs.writing.write_placed.Tie as tie
-use Rattle.job_text.proofs.writing.write_placed.Reads as reads
-use Rattle.job_text.proofs.writing.write_placed.Lts as lts
-use Rattle.job_text.proofs.writing.listing_length.Reads as listing-length-reads
-use Rattle.job_text.proofs.writing.put_listing.Reads as put-listing-reads
 
 -- the memory, without its corners
 abbrev memory : tie.Start → Memory
@@ -33,31 +29,26 @@ measured : (s : tie.Start) → length (bytesOf s)
     ≡ length (doneLine (countsIn (s .args .counts))) + sumBelow (lengthAt (s .args .children) (s .args .points) (s .args .kinds .now)) (s .args .total)
 measured s = let a = s .args in listing-measured (a .total) (a .children) (a .points) (a .nan) (countsIn (a .counts)) (memory s)
 
--- src/writing.rt:157:9
 listing-length-requires : tie.Need-listing-length-requires
 listing-length-requires c κs = search needs
 
--- src/writing.rt:159:9
 returns : tie.Need-returns
-returns c = 
+returns c =
     let s = c .before .before .before .before .before .before .before in
     let a = s .args in
     let short : length (a .out .now) < length (bytesOf s) = omega (arith, c .if1 .taken, c .before .listing-length .ensures, measured s) in
     (refused-answer (bytesOf s) (a .out .now) short, refused-bytes (bytesOf s) (a .out .now) short)
 
--- src/writing.rt:161:5
 put-listing-requires : tie.Need-put-listing-requires
-put-listing-requires c κs = 
+put-listing-requires c κs =
     let s = c .before .before .before .before .before .before .before .before in
     (s .pre .0, (s .pre .1, omega (arith, c .before .if1 .left, c .before .before .listing-length .ensures, measured s)))
 
--- src/writing.rt:140:1
 same-length : tie.Need-same-length
 same-length c = search needs
 
--- src/writing.rt:140:1
 returns-2 : tie.Need-returns-2
-returns-2 c = 
+returns-2 c =
     let s = c .before .before .before .before .before .before .before .before .before .before .before in
     let a = s .args in
     let length-is = c .before .before .before .before .before .listing-length .ensures in

@@ -1,5 +1,5 @@
 -- `writing::write_possible` meets its contract: by the cursor, by the leaves' places, and by whether the listing fits.
-use Prim.Native.Nat.{ℕ, _*_, _≤_}
+use Prim.Native.Nat.{ℕ, _*_}
 use mathlib.Core.Path.{_≡_, sym, ap, ap₂, _∙_}
 use native.Mathlib.Omega.{arith}
 use borrow.Author.Tests.{not-true, not-false}
@@ -8,18 +8,10 @@ use Rattle.grid.specs.Blocks.{cube}
 use Rattle.grid.specs.Nodes.{nodesOf}
 use Rattle.schedule.specs.Schedule.{Memory}
 use Rattle.sparse_field.specs.Calls.{memoryOf}
-use Rattle.job_text.specs.Lengths.{Sizes}
 use Rattle.job_text.proofs.WrittenLaws.{Ready, ready, unfinished, unplaced, printed}
 use borrow.Author.Needs.{needs}
 use Rattle.job_text.proofs.writing.write_possible.Statement.{statement}
 use Rattle.job_text.proofs.writing.write_possible.Tie as tie
-use Rattle.job_text.proofs.writing.write_possible.Reads as reads
-use Rattle.job_text.proofs.writing.write_possible.Lts as lts
-use Rattle.grid.proofs.cube_of.Reads as cube-of-reads
-use Rattle.grid.proofs.node_total.Reads as node-total-reads
-use Rattle.job_text.proofs.writing.all_placed.Reads as all-placed-reads
-use Rattle.job_text.proofs.writing.at_end.Reads as at-end-reads
-use Rattle.job_text.proofs.writing.write_placed.Reads as write-placed-reads
 
 -- the memory at entry
 abbrev memory : tie.Start → Memory
@@ -34,64 +26,53 @@ total-is : (s : tie.Start) {n k : ℕ} → n ≡ nodesOf (s .args .«record» .i
     → n * k ≡ nodesOf (s .args .«record» .input .grid) * cube (s .args .«record» .input .grid .inner)
 total-is s nodes children = ap₂ (λ (a b : ℕ). a * b) nodes children
 
--- src/writing.rt:191:9
 at-end-requires : tie.Need-at-end-requires
 at-end-requires c κs = search needs
 
--- src/writing.rt:192:9
 returns : tie.Need-returns
-returns c = 
+returns c =
     let s = c .before .before .before .before .before .before .before .before in
     let a = s .args in
     let is = unfinished (a .«record») (a .nan) (memory s) (a .out .now) (sym (c .before .at-end .ensures) ∙ not-true _ (c .if1 .taken)) in
     (sym (ap (λ p. p .answer) is), sym (ap (λ p. p .bytes) is))
 
--- src/writing.rt:195:34
 cast-cube-of : tie.Need-cast-cube-of
 cast-cube-of c = search needs
 
--- src/writing.rt:195:9
 cube-of-requires : tie.Need-cube-of-requires
 cube-of-requires c κs = sized (c .before .before .before .before .before .before .before .before .before .before) .inner
 
--- src/writing.rt:196:32
 cast-cube-of-2 : tie.Need-cast-cube-of-2
 cast-cube-of-2 c = search needs
 
--- src/writing.rt:196:9
 cube-of-requires-2 : tie.Need-cube-of-requires-2
 cube-of-requires-2 c κs = sized (c .before .before .before .before .before .before .before .before .before .before .before .before) .leaf
 
--- src/writing.rt:197:17
 node-total-requires : tie.Need-node-total-requires
 node-total-requires c κs = omega (arith, sized (c .before .before .before .before .before .before .before .before .before .before .before .before .before) .nodes)
 
--- src/writing.rt:197:17
 mul-total : tie.Need-mul-total
-mul-total c = 
+mul-total c =
     let s = c .before .before .before .before .before .before .before .before .before .before .before .before .before .before in
     let total = total-is s (c .node-total .ensures) (c .before .before .before .cube-of .ensures) in
     omega (arith, total, sized s .sizes .few)
 
--- src/writing.rt:198:9
 all-placed-requires : tie.Need-all-placed-requires
-all-placed-requires c κs = 
+all-placed-requires c κs =
     let s = c .before .before .before .before .before .before .before .before .before .before .before .before .before .before in
     let total = total-is s (c .node-total .ensures) (c .before .before .before .cube-of .ensures) in
     (omega (arith, c .before .cube-of2 .ensures, sized s .sizes .size), omega (arith, total, sized s .enoughKinds), omega (arith, total, sized s .enoughPlaces))
 
--- src/writing.rt:199:9
 returns-2 : tie.Need-returns-2
-returns-2 c = 
+returns-2 c =
     let s = c .before .before .before .before .before .before .before .before .before .before .before .before .before .before .before .before in
     let a = s .args in
     let end = sym (c .before .before .before .before .before .before .before .before .before .at-end .ensures) ∙ not-false _ (c .before .before .before .before .before .before .before .before .if1 .left) in
     let is = unplaced (a .«record») (a .nan) (memory s) (a .out .now) (c .before .before .node-total .ensures) (c .before .before .before .before .before .cube-of .ensures) (c .before .before .before .cube-of2 .ensures) end (sym (c .before .all-placed .ensures) ∙ not-true _ (c .if2 .taken)) in
     (sym (ap (λ p. p .answer) is), sym (ap (λ p. p .bytes) is))
 
--- src/writing.rt:202:5
 write-placed-requires : tie.Need-write-placed-requires
-write-placed-requires c κs = 
+write-placed-requires c κs =
     let s = c .before .before .before .before .before .before .before .before .before .before .before .before .before .before .before .before .before .before in
     let total = total-is s (c .before .before .before .before .node-total .ensures) (c .before .before .before .before .before .before .before .cube-of .ensures) in
     let sizes = sized s .sizes in (
@@ -108,13 +89,11 @@ write-placed-requires c κs =
       sym (c .before .before .before .all-placed .ensures) ∙ not-false _ (c .before .before .if2 .left),
     )
 
--- src/writing.rt:176:1
 same-length : tie.Need-same-length
 same-length c = search needs
 
--- src/writing.rt:176:1
 returns-3 : tie.Need-returns-3
-returns-3 c = 
+returns-3 c =
     let s = c .before .before .before .before .before .before .before .before .before .before .before .before .before .before .before .before .before .before .before .before .before in
     let a = s .args in
     let end = sym (c .before .before .before .before .before .before .before .before .before .before .before .before .before .before .at-end .ensures) ∙ not-false _ (c .before .before .before .before .before .before .before .before .before .before .before .before .before .if1 .left) in

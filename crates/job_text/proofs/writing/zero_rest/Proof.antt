@@ -9,38 +9,31 @@ use Rattle.lists.proofs.Filling.{filled-none, filled-length, filled-store, fill
 use Rattle.job_text.proofs.ListingLaws.{zeros-after}
 use Rattle.job_text.proofs.writing.zero_rest.Statement.{statement}
 use Rattle.job_text.proofs.writing.zero_rest.Tie as tie
-use Rattle.job_text.proofs.writing.zero_rest.Reads as reads
-use Rattle.job_text.proofs.writing.zero_rest.Lts as lts
 
 abbrev Inv-loop : tie.InvT-loop
-Inv-loop at out₀ i₀ out i = 
+Inv-loop at out₀ i₀ out i =
     (at ≤ i) × (i ≤ length out₀) × (length out ≡ length out₀) × (out ≡ filled at (i - at) (λ q. 0) out₀)
 
 abbrev μ-loop : tie.MeasureT-loop
 μ-loop at out₀ i₀ out i = length out₀ - i
 
--- src/writing.rt:93:5
 loop-holds : tie.Need-loop-holds Inv-loop μ-loop
-loop-holds c = 
+loop-holds c =
     let a = c .args in
     let none : a .at - a .at ≡ 0 = omega arith in
     (omega arith, c .pre, refl, sym (filled-none (a .at) (λ q. 0) (a .out .now)) ∙ ap (λ n. filled (a .at) n (λ q. 0) (a .out .now)) (sym none))
 
--- src/writing.rt:94:9
 slice-write-out : tie.Need-slice-write-out Inv-loop μ-loop
 slice-write-out c = search needs
 
--- src/writing.rt:95:9
 add-i : tie.Need-add-i Inv-loop μ-loop
 add-i c = search needs
 
--- src/writing.rt:93:5
 loop-less : tie.Need-loop-less Inv-loop μ-loop
 loop-less c = omega (arith, c .before .loop .inv, c .loop-test .taken)
 
--- src/writing.rt:93:5
 loop-again : tie.Need-loop-again Inv-loop μ-loop
-loop-again c = 
+loop-again c =
     let a = c .before .before .args in
     let l = c .before .loop in
     let here : a .at + (l .i - a .at) ≡ l .i = omega (arith, l .inv .0) in
@@ -50,13 +43,11 @@ loop-again c =
     ∙ ap (λ n. filled (a .at) n (λ q. 0) (a .out .now)) more in
     (omega (arith, l .inv .0), omega (arith, c .loop-test .taken, l .inv .2), ap length next ∙ filled-length (a .at) _ _ _, next)
 
--- src/writing.rt:88:1
 same-length : tie.Need-same-length Inv-loop μ-loop
 same-length c = search needs
 
--- src/writing.rt:88:1
 returns : tie.Need-returns Inv-loop μ-loop
-returns c = 
+returns c =
     let a = c .before .before .args in
     let l = c .before .loop in
     let last : l .i - a .at ≡ length (a .out .now) - a .at = omega (arith, l .inv, c .loop-test .left) in
