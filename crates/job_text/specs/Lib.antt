@@ -6,5 +6,6 @@ pub mod Texts
 pub mod NanBits
 pub mod Values
 pub mod Listing
+pub mod Lengths
 pub mod Written
 pub mod Listed

@@ -1,9 +1,9 @@
 -- What writing a job's listing answers and leaves in the lent bytes: 7 without a job, 8 for an impossible record, "not printable" for an unfinished job or a
 -- leaf's place outside the store, then 6 where the bytes are too few. A refusal writes nothing; what lies past a listing is 0.
 use Prim.Native.Nat.{ℕ, zero, suc, _+_, _-_, _*_}
-use mathlib.Core.Bool.{Bool, true, false, cond, _&&_, _||_, not}
-use mathlib.Core.List.{List, [], _∷_, _++_}
-use lib.Dec.{eqb, leb, ltb}
+use mathlib.Core.Bool.{Bool, true, cond, _&&_, _||_, not}
+use mathlib.Core.List.{List, _++_}
+use lib.Dec.{eqb, leb}
 use lib.ListN.{length, getD, replicate}
 use Rattle.schedule.specs.Schedule.{Memory}
 use Rattle.schedule.specs.JobRecord.{isFinished}
@@ -27,18 +27,20 @@ putAnswer bs out = cond (leb (length bs) (length out)) (answer.Bytes (length bs)
 
 -- ---- a record's listing
 
--- whether the child at place j is no leaf, or has its stretch inside the store
-unfoldable pub placed : (points : ℕ) → Memory → ℕ → Bool
-placed points m j = not (eqb (getD (m .kinds) j 0) 2) || leb ((getD (m .places) j 0 + 1) * points) (length (m .store))
+-- whether a child of this kind is no leaf, or has its stretch inside a store of this size
+unfoldable pub placed : (points size kind place : ℕ) → Bool
+placed points size kind place = not (eqb kind 2) || leb ((place + 1) * points) size
 
--- whether all r from place j on are
-unfoldable pub allPlaced : (points : ℕ) → Memory → (r j : ℕ) → Bool
-allPlaced points m zero j = true
-allPlaced points m (suc r) j = placed points m j && allPlaced points m r (suc j)
+-- whether all r children from place j on are
+unfoldable pub allPlaced : (points size : ℕ) (kinds places : List ℕ) (r j : ℕ) → Bool
+allPlaced points size kinds places zero j = true
+allPlaced points size kinds places (suc r) j =
+    placed points size (getD kinds j 0) (getD places j 0) && allPlaced points size kinds places r (suc j)
 
 unfoldable pub printable : Record → Memory → Bool
 printable r m =
-    let P = planOf (r .input) in isFinished (jobIn r) && allPlaced (P .leafPoints) m (P .nodes * P .children) 0
+    let P = planOf (r .input) in
+    isFinished (jobIn r) && allPlaced (P .leafPoints) (length (m .store)) (m .kinds) (m .places) (P .nodes * P .children) 0
 
 unfoldable pub recordListing : Record → ℕ → Memory → List ℕ
 recordListing r nan m =
@@ -55,8 +57,12 @@ refusedPut a out = record { answer = a; bytes = out }
 abbrev pub putListing : List ℕ → List ℕ → Put
 putListing bs out = record { answer = putAnswer bs out; bytes = putBytes bs out }
 
+-- of a record that is not impossible
+unfoldable pub possibleWritten : Record → ℕ → Memory → List ℕ → Put
+possibleWritten r nan m out =
+    cond (not (printable r m)) (refusedPut answer.NotPrintable out) (putListing (recordListing r nan m) out)
+
 unfoldable pub written : Record → ℕ → Memory → List ℕ → Put
 written r nan m out =
     cond (not (r .job)) (refusedPut (answer.Refused 7) out)
-    (cond (impossible sparse (jobIn r) m) (refusedPut (answer.Refused 8) out)
-    (cond (not (printable r m)) (refusedPut answer.NotPrintable out) (putListing (recordListing r nan m) out)))
+    (cond (impossible sparse (jobIn r) m) (refusedPut (answer.Refused 8) out) (possibleWritten r nan m out))

@@ -4,10 +4,19 @@ use forms::End;
 use model::Part;
 use sparse_field::Input;
 
+mod lines; // lines.rt: one line of a listing
+mod list; // list.rt: what `fieldlist` prints
+mod nan; // nan.rt: the bits of a NaN leaf value
 mod parts; // parts.rt: a part line
 mod reader; // reader.rt: a job's text, line by line
+mod writing; // writing.rt: a job's whole listing
 
+pub use list::list_job;
+pub use nan::nan_pattern;
 pub use reader::read_job;
+pub use writing::write_listing;
+pub use writing::write_off;
+pub use writing::write_refusal;
 
 // The most that a decimal number of a text may be.
 pub const LIMIT: u64 = 4294967295;
