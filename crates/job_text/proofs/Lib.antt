@@ -2,3 +2,11 @@ pub mod PartLaws
 pub mod PartTurns
 pub mod Gathering
 pub mod TextLines
+pub mod NanLaws
+pub mod NanValues
+pub mod FormFacts
+pub mod Complete
+pub mod Sound
+pub mod Cut
+pub mod OffLine
+pub mod InputBack

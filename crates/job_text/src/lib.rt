@@ -4,9 +4,11 @@ use forms::End;
 use model::Part;
 use sparse_field::Input;
 
+mod nan; // nan.rt: the bits of a NaN leaf value
 mod parts; // parts.rt: a part line
 mod reader; // reader.rt: a job's text, line by line
 
+pub use nan::nan_pattern;
 pub use reader::read_job;
 
 // The most that a decimal number of a text may be.
