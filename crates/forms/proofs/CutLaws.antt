@@ -12,7 +12,7 @@ use Rattle.forms.specs.Fronts as fronts
 use Rattle.forms.specs.Fronts.{hexAfter, decimalAfter, decimalFront}
 use Rattle.forms.specs.Forms.{Piece, hex, decimal, byte, isField, Line, off, line, readPiece, withNumber, onFront, readForm}
 use Rattle.forms.specs.Fitting.{endsDecimal, separated, mostPiece, mostOf, cutFront, cutLine}
-use Rattle.forms.proofs.Cases.{below-or, equal-or}
+use Rattle.forms.proofs.Cases.{below-or, equal-or, never}
 use Rattle.forms.proofs.NumberLaws.{hex-digit, hex-other, decimal-digit, decimal-past, decimal-ends, decimal-first, decimal-large, decimal-none, decimal-nought, digit-some}
 use Rattle.forms.proofs.FormLaws.{byte-read, byte-other, front-most, and-left, separated-rest}
 
@@ -90,9 +90,9 @@ byte-cut limit b (suc m) (c ∷ t) some =
 
 ends-some : (w : ℕ) (form : List Piece) → endsDecimal form ≡ true → 0 < mostOf w form
 unfolding endsDecimal mostOf mostPiece
-ends-some w [] ends = let none : _≡_ {A = ℕ} 0 1 = cc in absurd (omega arith)
+ends-some w [] ends = never ends
 ends-some w (hex ∷ form) ends = omega arith
-ends-some w (decimal ∷ form) ends = let none : _≡_ {A = ℕ} 0 1 = cc in absurd (omega arith)
+ends-some w (decimal ∷ form) ends = never ends
 ends-some w (byte b ∷ form) ends = omega arith
 
 piece-cut : (limit w m : ℕ) (p : Piece) (form : List Piece) (t : List ℕ) → limit < 10 ^ w → separated (p ∷ form) ≡ true → mostOf w (p ∷ form) ≤ m

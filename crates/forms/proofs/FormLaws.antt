@@ -1,20 +1,19 @@
 -- A line of a form is read as its numbers, and what is read by a form is a line of it, with no more bytes than the form allows.
 use mathlib.Core.Path.{_≡_, refl, sym, ap, _∙_}
-use Prim.Native.Nat.{ℕ, zero, suc, _+_, _-_, _*_, _^_, _≤_, _<_}
-use native.Mathlib.Nat.{pow-succ', pow-le-pow-right}
+use Prim.Native.Nat.{ℕ, suc, _+_, _^_, _≤_, _<_}
 use native.Mathlib.Omega.{arith}
 use mathlib.Core.Bool.{Bool, true, false, _&&_, cond}
 use mathlib.Core.List.{List, [], _∷_, _++_, append-assoc}
-use borrow.Author.Tests.{eq-eqb, ne-eqb, leb-true}
+use borrow.Author.Tests.{eq-eqb, ne-eqb}
 use lib.ListN.{length, getD, take, drop, length-append, length-drop}
-use lib.Seq.{take-all, take-nil, drop-cons}
-use Rattle.forms.specs.Digits.{digitOf, digits, hexOf, decimalCount, decimalOf}
+use lib.Seq.{take-all}
+use Rattle.forms.specs.Digits.{hexOf, decimalCount, decimalOf}
 use Rattle.forms.specs.Fronts as fronts
 use Rattle.forms.specs.Forms.{Piece, hex, decimal, byte, spellPiece, isField, after, spell, fields, Line, off, line, readPiece, withNumber, onFront, readForm}
 use Rattle.forms.specs.Fitting.{endsNumber, endsDecimal, separated, FitsPiece, Fits, Spells, mostPiece, mostOf}
-use Rattle.forms.proofs.Cases.{below-or, equal-or}
+use Rattle.forms.proofs.Cases.{equal-or, never}
 use Rattle.forms.proofs.DigitLaws.{digits-length, count-most}
-use Rattle.forms.proofs.NumberLaws.{off-number, value-same, rest-same, hex-spelled, hex-sound, decimal-spelled, decimal-sound}
+use Rattle.forms.proofs.NumberLaws.{off-number, rest-same, hex-spelled, hex-sound, decimal-spelled, decimal-sound}
 
 -- ---- one byte
 
@@ -51,7 +50,7 @@ and-left false b both = both
 
 and-right : (a b : Bool) → (a && b) ≡ true → b ≡ true
 and-right true b both = both
-and-right false b both = let none : _≡_ {A = ℕ} 0 1 = cc in absurd (omega arith)
+and-right false b both = never both
 
 pub separated-rest : (p : Piece) (form : List Piece) → separated (p ∷ form) ≡ true → separated form ≡ true
 unfolding separated
@@ -61,9 +60,9 @@ separated-rest (byte b) form apart = apart
 
 ends-spelled : (form : List Piece) (xs t : List ℕ) → endsDecimal form ≡ true → endsNumber (spell form xs ++ t) ≡ true
 unfolding endsDecimal endsNumber spell spellPiece
-ends-spelled [] xs t ends = let none : _≡_ {A = ℕ} 0 1 = cc in absurd (omega arith)
-ends-spelled (hex ∷ form) xs t ends = let none : _≡_ {A = ℕ} 0 1 = cc in absurd (omega arith)
-ends-spelled (decimal ∷ form) xs t ends = let none : _≡_ {A = ℕ} 0 1 = cc in absurd (omega arith)
+ends-spelled [] xs t ends = never ends
+ends-spelled (hex ∷ form) xs t ends = never ends
+ends-spelled (decimal ∷ form) xs t ends = never ends
 ends-spelled (byte b ∷ form) xs t ends = ends
 
 ends-after : (p : Piece) (form : List Piece) (xs t : List ℕ) → separated (p ∷ form) ≡ true → EndsAfter p (spell form xs ++ t)

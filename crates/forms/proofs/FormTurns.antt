@@ -180,4 +180,4 @@ unfolding ReadsTo readForm fields withNumbers
 kept-done limit text form at place i count values past k =
     let none : piecesFrom form i ≡ [] = pieces-done form i (k .inside) past in
     let all : fields (map pieceOf form) ≡ count = sym (rw none at (k .count-left)) ∙ add-zero count in
-    rw all (sym (rw (none, append-nil (take count values)) at (k .whole)), k .zeros, k .within)
+    rw all (sym (rw (none, append-nil (take count values)) at (k .whole)), k .zeros, k .within, k .six)

@@ -1,5 +1,5 @@
 -- A number's digits are read as the number, and what is read as a number is the number's digits.
-use mathlib.Core.Path.{_≡_, refl, sym, ap, subst, _∙_}
+use mathlib.Core.Path.{_≡_, refl, sym, ap, _∙_}
 use Prim.Native.Nat.{ℕ, zero, suc, _+_, _*_, _/_, _%_, _^_, _≤_, _<_}
 use native.Mathlib.Nat.{pow-succ', add-zero, zero-add, suc-add, add-suc, mod-eq-of-lt}
 use native.Mathlib.Omega.{arith}
@@ -15,7 +15,7 @@ use Rattle.forms.proofs.DigitLaws.{digit-of-byte, byte-of-digit, digits
 pub off-number : {A : Type 0} {x : ℕ} {t : List ℕ} → off ≡ number x t → A
 off-number same = let none : _≡_ {A = ℕ} 0 1 = cc in absurd (omega arith)
 
-pub value-same : {x y : ℕ} {s t : List ℕ} → number x s ≡ number y t → x ≡ y
+value-same : {x y : ℕ} {s t : List ℕ} → number x s ≡ number y t → x ≡ y
 value-same same = cc
 
 pub rest-same : {x y : ℕ} {s t : List ℕ} → number x s ≡ number y t → s ≡ t

@@ -1,34 +1,19 @@
 -- One turn of each loop: what is left after it gives what was left before it.
-use mathlib.Core.Path.{_≡_, refl, sym, ap, _∙_}
+use mathlib.Core.Path.{_≡_, refl, sym}
 use Prim.Native.Nat.{ℕ, zero, suc, _+_, _-_, _*_, _/_, _%_, _^_, _≤_, _<_}
 use native.Mathlib.Nat.{one-le-pow, pow-succ', mul-le-mul-right, mul-le-mul-left}
 use native.Mathlib.Numerals.{add-one}
 use native.Mathlib.Omega.{arith}
-use mathlib.Core.List.{List, [], _∷_, _++_}
+use mathlib.Core.List.{List, [], _∷_}
 use lib.ListN.{length, getD, drop, set}
 use lib.Seq.{sets, drop-cons, drop-length}
 use Rattle.forms.specs.Digits.{digitByte, digitOf, digits, decimalCount}
-use Rattle.forms.specs.declared.Found.{Found}
-use Rattle.forms.specs.declared.Found.the-variants.{Number, NoNumber}
-use Rattle.forms.specs.Answers.{Finds}
-use Rattle.forms.specs.Fronts.{Front, off, number, hexAfter, decimalAfter, decimalFront}
+use Rattle.forms.specs.Fronts.{off, number, hexAfter, decimalAfter, decimalFront}
 use Rattle.forms.specs.Forms.{byte, readPiece}
 use Rattle.forms.proofs.Stores.{sets-last}
 use Rattle.forms.proofs.DigitLaws.{digits-length, count-next, tenth-below}
 use Rattle.forms.proofs.NumberLaws.{hex-digit, hex-other, decimal-digit, decimal-past, decimal-ends, decimal-first, decimal-large, decimal-none, decimal-nought}
 use Rattle.forms.proofs.FormLaws.{byte-read, byte-other}
-
--- what stands there may be said in other words
-pub finds-same : (text : List ℕ) (f g : Front) (r : Found) → f ≡ g → Finds text g r → Finds text f r
-finds-same text f g r same finds = rw same finds
-
-pub finds-off : (text : List ℕ) (f : Front) (r : Found) → Finds text f r → r ≡ NoNumber → f ≡ off
-unfolding Finds
-finds-off text f r finds is = rw is at finds
-
-pub finds-number : (text : List ℕ) (f : Front) (r : Found) (x next : ℕ) → Finds text f r → r ≡ Number x next → (f ≡ number x (drop next text)) × (next ≤ length text)
-unfolding Finds
-finds-number text f r x next finds is = rw is at finds
 
 -- ---- the text from a place on
 

@@ -1,12 +1,11 @@
 -- Lines of document 01, read and spelled by their forms.
 use mathlib.Core.Path.{_≡_, refl}
 use mathlib.Core.Bool.{true}
-use mathlib.Core.List.{List, [], _∷_, map}
-use Prim.Native.Nat.{ℕ}
+use mathlib.Core.List.{[], _∷_, map}
 use Rattle.forms.specs.Bytes.{bytes}
 use Rattle.forms.specs.Digits.{digitByte, digitOf, digits, decimalCount}
 use Rattle.forms.specs.Fronts.{hexAfter, decimalAfter, decimalFront}
-use Rattle.forms.specs.Forms.{pieceOf, spellPiece, isField, after, spell, fields, off, line, readPiece, withNumber, onFront, readForm}
+use Rattle.forms.specs.Forms.{pieceOf, spellPiece, isField, after, spell, off, line, readPiece, withNumber, onFront, readForm}
 use Rattle.forms.specs.Fitting.{endsDecimal, separated, mostPiece, mostOf, most}
 
 blocks-read : readForm 4294967295 (map pieceOf (bytes "(blocks D D)\n")) (bytes "(blocks 2 10)\n(band") ≡ line (2 ∷ 10 ∷ []) (bytes "(band")

@@ -23,6 +23,7 @@ ReadsTo text count l xs (At next) =
     (l ≡ forms.line (take count xs) (drop next text))
     × (drop count xs ≡ replicate (6 - count) 0)
     × (next ≤ length text)
+    × (length xs ≡ 6)
 
 abbrev pub Reads : List ℕ → (count : ℕ) → forms.Line → Read → Type 0
 Reads text count l r = ReadsTo text count l (r .values) (r .end)

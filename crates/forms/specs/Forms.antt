@@ -2,7 +2,7 @@
 -- line has an upper-case letter.
 use Prim.Native.Nat.{ℕ, _+_}
 use mathlib.Core.Bool.{Bool, true, false, cond}
-use mathlib.Core.List.{List, [], _∷_, _++_, map}
+use mathlib.Core.List.{List, [], _∷_, _++_}
 use lib.Dec.{eqb}
 use lib.ListN.{getD, drop}
 use Rattle.forms.specs.Digits.{hexOf, decimalOf}

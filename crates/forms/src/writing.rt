@@ -1,7 +1,7 @@
 // Lines put into a lent slice of bytes.
 ghost use mathlib.Core.Path.{_≡_};
 ghost use mathlib.Core.List.{map};
-ghost use Prim.Native.Nat.{_+_, _≤_};
+ghost use Prim.Native.Nat.{_+_, _<_, _≤_};
 ghost use lib.ListN.{length, getD};
 ghost use lib.Seq.{sets};
 ghost use Rattle.forms.specs.Digits.{hexOf, digits};
@@ -10,32 +10,26 @@ use crate::digits::decimal_count;
 use crate::digits::digit_byte;
 use crate::reading::next_field;
 
-// Puts a number's 16 hexadecimal digits at a place.
-pub fn put_hex(x: u64, at: usize, out: &mut [u8])
-    requires { ⌜ at + 16 ≤ length (now out) ⌝ }
-    ensures { λ _. ⌜ now (out .exit) ≡ sets (now (out .entry)) at (hexOf x) ⌝ }
-{
-    let mut rest = x;
-    let mut left: usize = 16;
-    while left > 0 {
-        left -= 1;
-        out[at + left] = digit_byte(rest % 16);
-        rest /= 16;
-    }
-}
-
-// Puts a number's decimal digits, so many, at a place.
-fn put_decimal(x: u64, count: usize, at: usize, out: &mut [u8])
-    requires { ⌜ at + count ≤ length (now out) ⌝ }
-    ensures { λ _. ⌜ now (out .exit) ≡ sets (now (out .entry)) at (digits 10 count x) ⌝ }
+// Puts so many digits of a number in a base at a place.
+fn put_digits(x: u64, base: u64, count: usize, at: usize, out: &mut [u8])
+    requires { ⌜ (0 < base) × (base ≤ 16) × (at + count ≤ length (now out)) ⌝ }
+    ensures { λ _. ⌜ now (out .exit) ≡ sets (now (out .entry)) at (digits base count x) ⌝ }
 {
     let mut rest = x;
     let mut left = count;
     while left > 0 {
         left -= 1;
-        out[at + left] = digit_byte(rest % 10);
-        rest /= 10;
+        out[at + left] = digit_byte(rest % base);
+        rest /= base;
     }
+}
+
+// Puts a number's 16 hexadecimal digits at a place.
+pub fn put_hex(x: u64, at: usize, out: &mut [u8])
+    requires { ⌜ at + 16 ≤ length (now out) ⌝ }
+    ensures { λ _. ⌜ now (out .exit) ≡ sets (now (out .entry)) at (hexOf x) ⌝ }
+{
+    put_digits(x, 16, 16, at, out);
 }
 
 // How many bytes the piece of a form has, with its number if it has one.
@@ -63,7 +57,7 @@ fn put_piece(piece: u8, x: u64, at: usize, out: &mut [u8]) -> usize
     }
     if piece == 68 {
         let count = decimal_count(x);
-        put_decimal(x, count, at, out);
+        put_digits(x, 10, count, at, out);
         return at + count;
     }
     out[at] = piece;

@@ -1,6 +1,5 @@
 -- `digit_of` meets its contract: one law for each range of bytes.
-use mathlib.Core.Path.{_≡_, sym, ap, _∙_}
-use Rattle.forms.specs.Digits.{digitOf}
+use mathlib.Core.Path.{sym}
 use Rattle.forms.proofs.DigitLaws.{digit-below, digit-number, digit-between, digit-letter, digit-above}
 use borrow.Author.Needs.{needs}
 use native.Mathlib.Omega.{arith}

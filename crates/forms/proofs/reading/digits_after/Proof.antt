@@ -1,6 +1,6 @@
 -- `digits_after` meets its contract. The invariant: what is left to read gives what the whole gives, and the number is not above the limit.
 use mathlib.Core.Path.{_≡_, sym, _∙_}
-use Prim.Native.Nat.{_-_, _≤_, _<_}
+use Prim.Native.Nat.{_-_, _≤_}
 use lib.ListN.{length, drop}
 use Rattle.forms.specs.Answers.{Finds}
 use Rattle.forms.specs.Fronts.{decimalAfter}

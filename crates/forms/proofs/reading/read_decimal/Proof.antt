@@ -1,6 +1,7 @@
 -- `read_decimal` meets its contract: one law for each way out.
 use Rattle.forms.specs.Answers.{Finds}
-use Rattle.forms.proofs.Turns.{finds-same, front-ended, front-nought, front-none, front-large, front-first}
+use Rattle.forms.proofs.AnswerLaws.{finds-same}
+use Rattle.forms.proofs.Turns.{front-ended, front-nought, front-none, front-large, front-first}
 use borrow.Author.Needs.{needs}
 use native.Mathlib.Omega.{arith}
 use Rattle.forms.proofs.reading.read_decimal.Statement.{statement}
@@ -38,7 +39,7 @@ digits-after-requires : tie.Need-digits-after-requires
 digits-after-requires c κs = search needs
 
 returns-5 : tie.Need-returns-5
-returns-5 c = finds-same _ _ _ _ (front-first _ _ _ (c .before .before .before .before .before .before .if1 .left) (c .before .before .before .digit-of .ensures) _ (c .before .before .before .before .if2 .left) (omega arith) (c .before .if4 .left)) (c .digits-after .ensures)
+returns-5 c = finds-same _ _ _ (c .digits-after .ensures) _ (front-first _ _ _ (c .before .before .before .before .before .before .if1 .left) (c .before .before .before .digit-of .ensures) _ (c .before .before .before .before .if2 .left) (omega arith) (c .before .if4 .left))
 
 pub read-decimal-spec : {M : Type 1} → statement M
 read-decimal-spec =

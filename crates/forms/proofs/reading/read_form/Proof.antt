@@ -3,7 +3,7 @@ use mathlib.Core.Path.{refl}
 use Prim.Native.Nat.{_-_}
 use lib.ListN.{length}
 use Rattle.forms.specs.Answers.{ReadsTo}
-use Rattle.forms.proofs.Turns.{finds-off, finds-number}
+use Rattle.forms.proofs.AnswerLaws.{finds-off, finds-number}
 use Rattle.forms.proofs.FormTurns.{Kept, kept-first, kept-room, kept-off, kept-turn, kept-done}
 use borrow.Author.Needs.{needs}
 use native.Mathlib.Omega.{arith}
@@ -48,27 +48,11 @@ loop-less : tie.Need-loop-less Inv-loop μ-loop
 loop-less c = search needs
 
 loop-again : tie.Need-loop-again Inv-loop μ-loop
-loop-again c = let read = finds-number _ _ _ _ _ (c .before .before .before .before .before .before .read-piece .ensures) (c .before .before .before .before .x .given .1) in
-    kept-turn
-    _
-    _
-    _
-    _
-    _
-    _
-    _
-    _
-    (c .before .before .before .before .before .before .before .before .loop-test .taken)
-    (c .before .before .before .before .before .before .before .before .before .loop .inv)
-    _
-    _
-    (read .0)
-    (c .before .before .before .before .before .before .before .before .before .before .before .before .pre .1)
-    (read .1)
-    _
-    _
-    (c .before .keep .ensures)
-    (c .next-field .ensures)
+loop-again c =
+    let read = finds-number _ _ _ (c .before .before .before .before .before .before .read-piece .ensures) _ _ (c .before .before .before .before .x .given .1) in
+    let taken = c .before .before .before .before .before .before .before .before .loop-test .taken in
+    let inv = c .before .before .before .before .before .before .before .before .before .loop .inv in
+    kept-turn _ _ _ _ _ _ _ _ taken inv _ _ (read .0) (c .before .before .before .before .before .before .before .before .before .before .before .before .pre .1) (read .1) _ _ (c .before .keep .ensures) (c .next-field .ensures)
 
 returns-2 : tie.Need-returns-2 Inv-loop μ-loop
 returns-2 c = kept-done _ _ _ _ _ _ _ _ (c .loop-test .left) (c .before .loop .inv)

@@ -43,7 +43,8 @@ loop-less : tie.Need-loop-less Inv-loop μ-loop
 loop-less c = search needs
 
 loop-again : tie.Need-loop-again Inv-loop μ-loop
-loop-again c = let a = c .before .before .before .before .before .before .before .before .args in
+loop-again c =
+    let a = c .before .before .before .before .before .before .before .before .args in
     let s = c .before .before .before .before .before .loop in
     let turn =
     length-turn (a .form .now) (a .numbers .now) (s .i) (s .count) (c .before .before .number-at .result) (c .before .before .before .before .loop-test .taken) (c .before .before .number-at .ensures) (c .next-field .result) (c .next-field .ensures) in (
@@ -54,7 +55,8 @@ loop-again c = let a = c .before .before .before .before .before .before .before
     )
 
 returns : tie.Need-returns Inv-loop μ-loop
-returns c = let a = c .before .before .before .before .args in
+returns c =
+    let a = c .before .before .before .before .args in
     let s = c .before .loop in
     omega (arith, s .inv .0, ap length (spell-done (a .form .now) (a .numbers .now) (s .i) (s .count) (s .inv .3) (c .loop-test .left)))
 

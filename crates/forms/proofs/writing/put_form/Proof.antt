@@ -27,7 +27,8 @@ number-at-requires : tie.Need-number-at-requires Inv-loop μ-loop
 number-at-requires c κs = search needs
 
 put-piece-requires : tie.Need-put-piece-requires Inv-loop μ-loop
-put-piece-requires c κs = let a = c .before .before .before .before .before .before .before .before .args in
+put-piece-requires c κs =
+    let a = c .before .before .before .before .before .before .before .before .args in
     let s = c .before .before .before .before .loop in
     omega (
       arith,
@@ -47,7 +48,8 @@ loop-less : tie.Need-loop-less Inv-loop μ-loop
 loop-less c = search needs
 
 loop-again : tie.Need-loop-again Inv-loop μ-loop
-loop-again c = let a = c .before .before .before .before .before .before .before .before .before .before .before .before .args in
+loop-again c =
+    let a = c .before .before .before .before .before .before .before .before .before .before .before .before .args in
     let s = c .before .before .before .before .before .before .before .before .loop in
     let put = c .before .before .before .put-piece in
     let taken = c .before .before .before .before .before .before .before .loop-test .taken in
@@ -64,7 +66,8 @@ same-length : tie.Need-same-length Inv-loop μ-loop
 same-length c = c .before .loop .inv .2
 
 returns : tie.Need-returns Inv-loop μ-loop
-returns c = let a = c .before .before .before .before .before .args in
+returns c =
+    let a = c .before .before .before .before .before .args in
     let s = c .before .loop in
     let done = spell-done (a .form .now) (a .numbers .now) (s .i) (s .count) (s .inv .4) (c .loop-test .left) in
     (omega (arith, s .inv .1, ap length done), rw done at (s .inv .0))
