@@ -6,3 +6,11 @@ pub mod LineLaws
 pub mod ListingLaws
 pub mod WrittenLaws
 pub mod ListedLaws
+pub mod NanLaws
+pub mod NanValues
+pub mod FormFacts
+pub mod Complete
+pub mod Sound
+pub mod Cut
+pub mod OffLine
+pub mod InputBack

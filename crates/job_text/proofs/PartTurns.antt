@@ -1,4 +1,4 @@
--- What a line's end says of a text; the part line at a place, kind after kind; its numbers fit.
+-- The part line at a place, kind after kind; its numbers fit.
 use mathlib.Core.Path.{_≡_, refl, sym, ap, _∙_}
 use Prim.Native.Nat.{ℕ, zero, suc, _+_, _-_, _^_, _≤_, _<_}
 use native.Mathlib.Numerals.{add-one}
@@ -12,23 +12,13 @@ use Rattle.forms.specs.Fitting.{FitsPiece, Fits}
 use Rattle.forms.specs.Answers.{ReadsTo}
 use Rattle.forms.specs.declared.End.{End}
 use Rattle.forms.specs.declared.End.the-variants.{At, Off}
+use Rattle.forms.proofs.AnswerLaws.{reads-line}
 use Rattle.forms.proofs.FormLaws.{form-sound}
 use Rattle.model.specs.declared.Part.{Part}
 use Rattle.job_text.specs.Lines.{limit, PartKind, const, sphere, plane, min, max, add, sub, neg, partForm, partKinds, kindOf, blocksForm}
 use Rattle.job_text.specs.Parts.{word, partFrom, patternFrom, Spelt, PartLine, none, part, orPart, partAmong, readPart}
 use Rattle.job_text.specs.Answers.{FitsWords, IsPart, ReadsPartTo}
 use Rattle.job_text.proofs.PartLaws.{part-own, pattern-own}
-
--- ---- a line by its end
-
-module _ (text : List ℕ) (count : ℕ) (l : Line) (xs : List ℕ) (e : End) (reads : ReadsTo text count l xs e) where
-  pub line-off : e ≡ Off → l ≡ off
-  unfolding ReadsTo
-  line-off is = let both : (l ≡ off) × (xs ≡ replicate 6 0) = rw is at reads in both .0
-
-  pub line-at : (next : ℕ) → e ≡ At next → (l ≡ line (take count xs) (drop next text)) × (drop count xs ≡ replicate (6 - count) 0) × (next ≤ length text)
-  unfolding ReadsTo
-  line-at next is = rw is at reads
 
 -- ---- numbers of 32 bits
 
@@ -60,7 +50,7 @@ pub blocks-read-fit : (text t xs : List ℕ) (e : End) → ReadsTo text (fields 
     → (word xs 0 ≤ limit) × (word xs 1 ≤ limit)
 unfolding fields isField pieceOf
 blocks-read-fit text t xs e reads next is =
-    let found = line-at text _ _ xs e reads next is in
+    let found = reads-line text _ _ xs e reads next is in
     two-fit (bytes "(blocks ") xs (form-sound limit blocksForm t _ _ (omega arith) (found .0) .fits)
 
 -- the inputs of an operation
@@ -109,12 +99,12 @@ module _ (text xs : List ℕ) (at k next : ℕ) (e : End)
     (reads : ReadsTo text (fields (partForm (kindOf k))) (readForm limit (partForm (kindOf k)) (drop at text)) xs e) (is : e ≡ At next) where
   pub found-fits : FitsWords k xs
   found-fits =
-      let found = line-at text _ _ xs e reads next is in
+      let found = reads-line text _ _ xs e reads next is in
       words-fit k xs (found .1) (form-sound limit (partForm (kindOf k)) (drop at text) _ _ (omega arith) (found .0) .fits)
 
   pub found-part : k < 8 → Among k (drop at text) → IsPart text (readPart (drop at text)) (partFrom (kindOf k) xs) (patternFrom (kindOf k) xs) next
   found-part more among =
-      let found = line-at text _ _ xs e reads next is in
+      let found = reads-line text _ _ xs e reads next is in
       record {
         spelt = record { kind = kindOf k; numbers = take (fields (partForm (kindOf k))) xs };
         line = among-found k (drop at text) more among _ _ (found .0);

@@ -3,6 +3,7 @@ pub mod Parts
 pub mod Reading
 pub mod Answers
 pub mod Texts
+pub mod OnForm
 pub mod NanBits
 pub mod Values
 pub mod Listing

@@ -1,5 +1,6 @@
 -- A model's value on bit patterns: what a machine holds, NaN bits and all.
-use Prim.Native.Nat.{ℕ, zero, suc, _-_}
+use Prim.Native.Nat.{ℕ, zero, suc, _-_, _^_, _<_}
+use mathlib.Core.Path.{_≡_}
 use mathlib.Core.Bool.{cond, _||_}
 use mathlib.Core.List.{List, [], _∷_, _++_, map}
 use lib.Ieee.{Float, binary64, ofBits, toBits, isNan, lt}
@@ -43,3 +44,21 @@ bitsTo parts patterns x y z (suc p) =
 
 unfoldable pub modelBits : List Part → List ℕ → ℕ → (x y z : Float) → ℕ
 modelBits parts patterns count x y z = getD (bitsTo parts patterns x y z count) (count - 1) 0
+
+-- ---- the patterns of a model's constants
+
+-- a constant's pattern is its own
+unfoldable pub OwnPattern : Part → ℕ → Type 0
+OwnPattern (Constant w) pattern = (floatOf pattern ≡ w) × (pattern < 2 ^ 64)
+OwnPattern (Sphere c r) pattern = Unit
+OwnPattern (Plane n d) pattern = Unit
+OwnPattern (Min a b) pattern = Unit
+OwnPattern (Max a b) pattern = Unit
+OwnPattern (Add a b) pattern = Unit
+OwnPattern (Sub a b) pattern = Unit
+OwnPattern (Neg a) pattern = Unit
+
+-- those of the first p parts are
+unfoldable pub OwnPatterns : List Part → List ℕ → ℕ → Type 0
+OwnPatterns parts patterns zero = Unit
+OwnPatterns parts patterns (suc p) = OwnPatterns parts patterns p × OwnPattern (partOf parts p) (getD patterns p 0)

@@ -4,8 +4,9 @@ use Prim.Native.Nat.{_-_, _≤_}
 use native.Mathlib.Omega.{arith}
 use lib.ListN.{drop}
 use borrow.Author.Needs.{needs}
+use Rattle.forms.proofs.AnswerLaws.{reads-off}
 use Rattle.job_text.specs.Answers.{ReadsPartTo}
-use Rattle.job_text.proofs.PartTurns.{line-off, Among, among-off, among-none, found-fits, found-part}
+use Rattle.job_text.proofs.PartTurns.{Among, among-off, among-none, found-fits, found-part}
 use Rattle.job_text.proofs.parts.part_line.Statement.{statement}
 use Rattle.job_text.proofs.parts.part_line.Tie as tie
 
@@ -52,7 +53,7 @@ loop-again : tie.Need-loop-again Inv-loop μ-loop
 loop-again c = (
   omega arith,
   among-off _ _ (c .before .before .before .before .loop-test .taken) (c .before .before .before .before .before .loop .inv .1)
-      (line-off _ _ _ _ _ (c .before .before .before .read-kind .ensures) (c .enum-told .given .1)),
+      (reads-off _ _ _ _ _ (c .before .before .before .read-kind .ensures) (c .enum-told .given .1) .0),
 )
 
 returns-2 : tie.Need-returns-2 Inv-loop μ-loop

@@ -2,8 +2,9 @@
 use mathlib.Core.Path.{sym, ap, _∙_}
 use native.Mathlib.Omega.{arith}
 use Rattle.forms.specs.Forms.{fields, isField, pieceOf}
+use Rattle.forms.proofs.AnswerLaws.{reads-off, reads-line}
 use Rattle.job_text.specs.Reading.{readingOf}
-use Rattle.job_text.proofs.PartTurns.{line-off, line-at, blocks-read-fit}
+use Rattle.job_text.proofs.PartTurns.{blocks-read-fit}
 use Rattle.job_text.proofs.TextLines.{first-off, second-off, third-off, fourth-off, model-same, text-read}
 use borrow.Author.Needs.{needs}
 use Rattle.job_text.proofs.reader.read_job.Statement.{statement}
@@ -28,14 +29,14 @@ off-at-requires c κs = search needs
 returns : tie.Need-returns
 unfolding readingOf
 returns c =
-    c .off-at .ensures ∙ sym (ap readingOf (first-off _ (line-off _ _ _ _ _ (c .before .before .before .read-form .ensures) (c .before .enum-told .given .1))))
+    c .off-at .ensures ∙ sym (ap readingOf (first-off _ (reads-off _ _ _ _ _ (c .before .before .before .read-form .ensures) (c .before .enum-told .given .1) .0)))
 
 slice-aggregate-read-form-2 : tie.Need-slice-aggregate-read-form-2
 slice-aggregate-read-form-2 c = search needs
 
 read-form-requires-2 : tie.Need-read-form-requires-2
 unfolding fields isField pieceOf
-read-form-requires-2 c κs = let last = line-at _ _ _ _ _ (c .before .before .before .before .read-form .ensures) _ (c .before .before .first .given .1) in omega (arith, last .2)
+read-form-requires-2 c κs = let last = reads-line _ _ _ _ _ (c .before .before .before .before .read-form .ensures) _ (c .before .before .first .given .1) in omega (arith, last .2)
 
 enum-known-second : tie.Need-enum-known-second
 enum-known-second c = search needs
@@ -49,15 +50,15 @@ off-at-requires-2 c κs = search needs
 returns-2 : tie.Need-returns-2
 unfolding readingOf
 returns-2 c =
-    let one = line-at _ _ _ _ _ (c .before .before .before .before .before .before .before .before .read-form .ensures) _ (c .before .before .before .before .before .before .first .given .1) in
-    c .off-at2 .ensures ∙ sym (ap readingOf (second-off _ _ _ (one .0) (line-off _ _ _ _ _ (c .before .before .before .read-form2 .ensures) (c .before .enum-told2 .given .1))))
+    let one = reads-line _ _ _ _ _ (c .before .before .before .before .before .before .before .before .read-form .ensures) _ (c .before .before .before .before .before .before .first .given .1) in
+    c .off-at2 .ensures ∙ sym (ap readingOf (second-off _ _ _ (one .0) (reads-off _ _ _ _ _ (c .before .before .before .read-form2 .ensures) (c .before .enum-told2 .given .1) .0)))
 
 slice-aggregate-read-form-3 : tie.Need-slice-aggregate-read-form-3
 slice-aggregate-read-form-3 c = search needs
 
 read-form-requires-3 : tie.Need-read-form-requires-3
 unfolding fields isField pieceOf
-read-form-requires-3 c κs = let last = line-at _ _ _ _ _ (c .before .before .before .before .read-form2 .ensures) _ (c .before .before .second .given .1) in omega (arith, last .2)
+read-form-requires-3 c κs = let last = reads-line _ _ _ _ _ (c .before .before .before .before .read-form2 .ensures) _ (c .before .before .second .given .1) in omega (arith, last .2)
 
 enum-known-third : tie.Need-enum-known-third
 enum-known-third c = search needs
@@ -71,16 +72,16 @@ off-at-requires-3 c κs = search needs
 returns-3 : tie.Need-returns-3
 unfolding readingOf
 returns-3 c =
-    let one = line-at _ _ _ _ _ (c .before .before .before .before .before .before .before .before .before .before .before .before .before .read-form .ensures) _ (c .before .before .before .before .before .before .before .before .before .before .before .first .given .1) in
-    let two = line-at _ _ _ _ _ (c .before .before .before .before .before .before .before .before .read-form2 .ensures) _ (c .before .before .before .before .before .before .second .given .1) in
-    c .off-at3 .ensures ∙ sym (ap readingOf (third-off _ _ _ (one .0) _ _ (two .0) (line-off _ _ _ _ _ (c .before .before .before .read-form3 .ensures) (c .before .enum-told3 .given .1))))
+    let one = reads-line _ _ _ _ _ (c .before .before .before .before .before .before .before .before .before .before .before .before .before .read-form .ensures) _ (c .before .before .before .before .before .before .before .before .before .before .before .first .given .1) in
+    let two = reads-line _ _ _ _ _ (c .before .before .before .before .before .before .before .before .read-form2 .ensures) _ (c .before .before .before .before .before .before .second .given .1) in
+    c .off-at3 .ensures ∙ sym (ap readingOf (third-off _ _ _ (one .0) _ _ (two .0) (reads-off _ _ _ _ _ (c .before .before .before .read-form3 .ensures) (c .before .enum-told3 .given .1) .0)))
 
 slice-aggregate-read-form-4 : tie.Need-slice-aggregate-read-form-4
 slice-aggregate-read-form-4 c = search needs
 
 read-form-requires-4 : tie.Need-read-form-requires-4
 unfolding fields isField pieceOf
-read-form-requires-4 c κs = let last = line-at _ _ _ _ _ (c .before .before .before .before .read-form3 .ensures) _ (c .before .before .third .given .1) in omega (arith, last .2)
+read-form-requires-4 c κs = let last = reads-line _ _ _ _ _ (c .before .before .before .before .read-form3 .ensures) _ (c .before .before .third .given .1) in omega (arith, last .2)
 
 enum-known-fourth : tie.Need-enum-known-fourth
 enum-known-fourth c = search needs
@@ -94,10 +95,10 @@ off-at-requires-4 c κs = search needs
 returns-4 : tie.Need-returns-4
 unfolding readingOf
 returns-4 c =
-    let one = line-at _ _ _ _ _ (c .before .before .before .before .before .before .before .before .before .before .before .before .before .before .before .before .before .before .read-form .ensures) _ (c .before .before .before .before .before .before .before .before .before .before .before .before .before .before .before .before .first .given .1) in
-    let two = line-at _ _ _ _ _ (c .before .before .before .before .before .before .before .before .before .before .before .before .before .read-form2 .ensures) _ (c .before .before .before .before .before .before .before .before .before .before .before .second .given .1) in
-    let three = line-at _ _ _ _ _ (c .before .before .before .before .before .before .before .before .read-form3 .ensures) _ (c .before .before .before .before .before .before .third .given .1) in
-    c .off-at4 .ensures ∙ sym (ap readingOf (fourth-off _ _ _ (one .0) _ _ (two .0) _ _ (three .0) (line-off _ _ _ _ _ (c .before .before .before .read-form4 .ensures) (c .before .enum-told4 .given .1))))
+    let one = reads-line _ _ _ _ _ (c .before .before .before .before .before .before .before .before .before .before .before .before .before .before .before .before .before .before .read-form .ensures) _ (c .before .before .before .before .before .before .before .before .before .before .before .before .before .before .before .before .first .given .1) in
+    let two = reads-line _ _ _ _ _ (c .before .before .before .before .before .before .before .before .before .before .before .before .before .read-form2 .ensures) _ (c .before .before .before .before .before .before .before .before .before .before .before .second .given .1) in
+    let three = reads-line _ _ _ _ _ (c .before .before .before .before .before .before .before .before .read-form3 .ensures) _ (c .before .before .before .before .before .before .third .given .1) in
+    c .off-at4 .ensures ∙ sym (ap readingOf (fourth-off _ _ _ (one .0) _ _ (two .0) _ _ (three .0) (reads-off _ _ _ _ _ (c .before .before .before .read-form4 .ensures) (c .before .enum-told4 .given .1) .0)))
 
 grid-of-requires : tie.Need-grid-of-requires
 grid-of-requires c κs = blocks-read-fit _ _ _ _ (c .before .before .before .before .before .before .before .before .before .before .before .before .before .before .before .read-form3 .ensures) _ (c .before .before .before .before .before .before .before .before .before .before .before .before .before .third .given .1)
@@ -106,15 +107,15 @@ band-of-requires : tie.Need-band-of-requires
 band-of-requires c κs = search needs
 
 read-model-requires : tie.Need-read-model-requires
-read-model-requires c κs = (line-at _ _ _ _ _ (c .before .before .before .before .before .before .before .before .before .before .before .before .before .read-form4 .ensures) _ (c .before .before .before .before .before .before .before .before .before .before .before .fourth .given .1)) .2
+read-model-requires c κs = (reads-line _ _ _ _ _ (c .before .before .before .before .before .before .before .before .before .before .before .before .before .read-form4 .ensures) _ (c .before .before .before .before .before .before .before .before .before .before .before .fourth .given .1)) .2
 
 returns-5 : tie.Need-returns-5
 unfolding fields isField pieceOf
 returns-5 c =
-    let one = line-at _ _ _ _ _ (c .before .before .before .before .before .before .before .before .before .before .before .before .before .before .before .before .before .before .before .before .before .before .before .before .before .before .before .before .before .read-form .ensures) _ (c .before .before .before .before .before .before .before .before .before .before .before .before .before .before .before .before .before .before .before .before .before .before .before .before .before .before .before .first .given .1) in
-    let two = line-at _ _ _ _ _ (c .before .before .before .before .before .before .before .before .before .before .before .before .before .before .before .before .before .before .before .before .before .before .before .before .read-form2 .ensures) _ (c .before .before .before .before .before .before .before .before .before .before .before .before .before .before .before .before .before .before .before .before .before .before .second .given .1) in
-    let three = line-at _ _ _ _ _ (c .before .before .before .before .before .before .before .before .before .before .before .before .before .before .before .before .before .before .before .read-form3 .ensures) _ (c .before .before .before .before .before .before .before .before .before .before .before .before .before .before .before .before .before .third .given .1) in
-    let four = line-at _ _ _ _ _ (c .before .before .before .before .before .before .before .before .before .before .before .before .before .before .read-form4 .ensures) _ (c .before .before .before .before .before .before .before .before .before .before .before .before .fourth .given .1) in
+    let one = reads-line _ _ _ _ _ (c .before .before .before .before .before .before .before .before .before .before .before .before .before .before .before .before .before .before .before .before .before .before .before .before .before .before .before .before .before .read-form .ensures) _ (c .before .before .before .before .before .before .before .before .before .before .before .before .before .before .before .before .before .before .before .before .before .before .before .before .before .before .before .first .given .1) in
+    let two = reads-line _ _ _ _ _ (c .before .before .before .before .before .before .before .before .before .before .before .before .before .before .before .before .before .before .before .before .before .before .before .before .read-form2 .ensures) _ (c .before .before .before .before .before .before .before .before .before .before .before .before .before .before .before .before .before .before .before .before .before .before .second .given .1) in
+    let three = reads-line _ _ _ _ _ (c .before .before .before .before .before .before .before .before .before .before .before .before .before .before .before .before .before .before .before .read-form3 .ensures) _ (c .before .before .before .before .before .before .before .before .before .before .before .before .before .before .before .before .before .third .given .1) in
+    let four = reads-line _ _ _ _ _ (c .before .before .before .before .before .before .before .before .before .before .before .before .before .before .read-form4 .ensures) _ (c .before .before .before .before .before .before .before .before .before .before .before .before .fourth .given .1) in
     model-same _ (c .read-model .ensures) (c .before .before .before .grid-of .ensures) (c .before .band-of .ensures)
     ∙ text-read
     _
