@@ -1,3 +1,5 @@
 pub mod LineLaws
 pub mod ListingLaws
 pub mod WrittenLaws
+pub mod PlanListing
+pub mod ListingFits
