@@ -1,16 +1,19 @@
+-- Laws of reading a text, of NaN bits, and of listings.
 pub mod PartLaws
 pub mod PartTurns
 pub mod Gathering
 pub mod TextLines
-pub mod LineLaws
-pub mod ListingLaws
-pub mod WrittenLaws
-pub mod ListedLaws
-pub mod NanLaws
-pub mod NanValues
 pub mod FormFacts
 pub mod Complete
 pub mod Sound
 pub mod Cut
 pub mod OffLine
 pub mod InputBack
+pub mod NanLaws
+pub mod NanValues
+pub mod LineLaws
+pub mod ListingLaws
+pub mod WrittenLaws
+pub mod PlanListing
+pub mod ListingFits
+pub mod ListedLaws

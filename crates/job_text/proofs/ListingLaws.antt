@@ -65,6 +65,11 @@ module _ (points size : ℕ) (kinds places : List ℕ) where
   pub placed-at : (total j : ℕ) → allPlaced points size kinds places total 0 ≡ true → j < total → here j ≡ true
   placed-at total j all below = rw (zero-add j) at (placed-each total 0 j all below)
 
+  pub placed-all : (r j : ℕ) → ((i : ℕ) → i < j + r → here i ≡ true) → allPlaced points size kinds places r j ≡ true
+  unfolding allPlaced
+  placed-all zero j each = refl
+  placed-all (suc r) j each = rw (each j (omega arith), placed-all r (suc j) (λ i below. each i (omega arith)))
+
 -- ---- lines, one after the other
 
 module _ (f : ℕ → List ℕ) where

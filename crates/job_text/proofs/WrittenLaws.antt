@@ -1,6 +1,6 @@
 -- What writing a record's listing answers, case by case, and the sizes that a possible record gives.
 use Prim.Native.Nat.{ℕ, _+_, _*_, _≤_}
-use mathlib.Core.Path.{_≡_, sym, _∙_}
+use mathlib.Core.Path.{_≡_, sym, ap, _∙_}
 use mathlib.Core.Bool.{true, false}
 use mathlib.Core.List.{List, [], _++_}
 use native.Mathlib.Omega.{arith}
@@ -68,6 +68,10 @@ module _ (r : Record) (nan : ℕ) (m : Memory) (out : List ℕ) where
   unfolding possibleWritten
   not-printed is = rw is
 
+  pub listed-whole : printable r m ≡ true → possibleWritten r nan m out ≡ putListing (recordListing r nan m) out
+  unfolding possibleWritten
+  listed-whole is = rw is
+
   pub unfinished : atEnd (cursorIn (r .cursor)) ≡ false → possibleWritten r nan m out ≡ refusedPut NotPrintable out
   unfolding printable
   unfinished is = not-printed (rw is)
@@ -90,11 +94,10 @@ module _ (r : Record) (nan : ℕ) (m : Memory) (out : List ℕ) where
     pub printed : atEnd (cursorIn (r .cursor)) ≡ true → allPlaced points (length (m .store)) (m .kinds) (m .places) (nodes * children) 0 ≡ true
         → possibleWritten r nan m out
         ≡ putListing (doneLine (countsIn (r .counts)) ++ linesFrom (lineAt children points nan (memoryOf (m .kinds) (m .numbers) (m .places) (m .store) [])) (nodes * children) 0) out
-    unfolding printable planWith possibleWritten
+    unfolding printable planWith
     printed end is =
         let holds = sym placed-as ∙ is in
-        let all : printable r m ≡ true = rw (end, holds) in
-        rw (all, listing-as)
+        listed-whole (rw (end, holds)) ∙ ap (λ bs. putListing bs out) (sym listing-as)
 
   -- ---- any record
 

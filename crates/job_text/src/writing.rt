@@ -107,7 +107,7 @@ fn zero_rest(at: usize, out: &mut [u8])
     }
 }
 
-// The numbers of the line that ends a job: its counts.
+// The numbers of a listing's first line: a job's counts.
 fn done_numbers(counts: Counts) -> [u64; 5]
     ensures { λ r. ⌜ r ≡ counts .nodes ∷ counts .active ∷ counts .leaves ∷ counts .sampled ∷ counts .evaluations ∷ [] ⌝ }
 {
