@@ -1,29 +1,47 @@
 -- What open answers for a job, and the listing of a job that is opened and given a budget that covers it.
-use Prim.Native.Nat.{ℕ, zero, suc, _≤_}
+use Prim.Native.Nat.{ℕ, zero, suc, _*_, _/_, _≤_, _<_}
+use native.Mathlib.Nat.{mul-div-cancel}
 use native.Mathlib.Omega.{arith}
 use mathlib.Core.Path.{_≡_, refl, sym, ap, subst, _∙_}
 use mathlib.Core.List.{List, [], _∷_}
-use Rattle.schedule.specs.Schedule.{Memory}
-use Rattle.schedule.specs.Totals.{total, evaluationsBound}
-use Rattle.schedule.specs.Opened.{lengthsOf}
-use Rattle.schedule.specs.Calls.{opens}
+use lib.ListN.{length}
+use Rattle.grid.proofs.BlockLaws.{cube-le}
+use Rattle.schedule.specs.Schedule.{Plan, Memory}
+use Rattle.schedule.specs.Totals.{leavesAll, total, evaluationsBound}
+use Rattle.schedule.specs.Opened.{Lengths, lengthsOf, stateAt}
+use Rattle.schedule.specs.Counts.{countsWith}
+use Rattle.schedule.specs.JobRecord.{job, isFinished}
+use Rattle.schedule.specs.Possible.{impossible}
+use Rattle.schedule.specs.Calls.{opens, steps}
 use Rattle.schedule.specs.Engine.{engineCall, engineOpen}
+use Rattle.schedule.proofs.AfterFacts.{after}
 use Rattle.schedule.proofs.EventCounts.{total-bound}
+use Rattle.schedule.proofs.LedgerTheorem.{same-job}
+use Rattle.schedule.proofs.Reachable.{jobAt}
 use Rattle.sparse_field.specs.declared.Input.{Input}
 use Rattle.sparse_field.specs.declared.Record.{Record}
+use Rattle.sparse_field.specs.declared.Outcome.{Outcome}
 use Rattle.sparse_field.specs.declared.Answer.{Answer}
 use Rattle.sparse_field.specs.declared.Answer.the-variants.{Accepted, Refused}
 use Rattle.sparse_field.specs.Plan.{planOf, planWith}
-use Rattle.sparse_field.specs.Records.{sparse, recordIn}
+use Rattle.sparse_field.specs.Records.{sparse, lent, jobIn, recordIn}
 use Rattle.sparse_field.specs.Calls.{called, handed}
-use Rattle.sparse_field.proofs.Opening.{nothing}
+use Rattle.sparse_field.proofs.CallLaws.{acceptedWith}
+use Rattle.sparse_field.proofs.Demand.{record-forth}
+use Rattle.sparse_field.proofs.Opening.{sized, sparse-laws, long-enough, nothing}
+use Rattle.sparse_field.proofs.WholeJob.{recordAfter, job-opened, job-finished, finished-possible, finished-flag, finished-elements}
 use Rattle.sparse_field.proofs.Judgement.{bound-fits}
 use Rattle.forms.specs.Forms.{spell}
 use Rattle.job_text.specs.declared.Job.{Job}
+use Rattle.job_text.specs.declared.Reading.{Reading}
 use Rattle.job_text.specs.declared.Judgement.the-variants.{OnForm, OffAt}
 use Rattle.job_text.specs.Lines.{refusedForm, offForm}
-use Rattle.job_text.specs.Reading.{Read, offAt, written, readingOf}
-use Rattle.job_text.specs.Listed.{listedBy, jobListed, readListed, programLengths}
+use Rattle.job_text.specs.Reading.{Read, offAt, written, readText, readingOf}
+use Rattle.job_text.specs.NanBits.{jobNan}
+use Rattle.job_text.specs.Listing.{planListing}
+use Rattle.job_text.specs.Written.{written as writtenOf, putListing}
+use Rattle.job_text.proofs.PlanListing.{written-plan}
+use Rattle.job_text.specs.Listed.{listedBy, jobListed, readListed, listed, programLengths}
 
 -- ---- what open answers
 
@@ -52,6 +70,11 @@ module _ (j : Job) (r : Record) (m : Memory) (lengths : lengthsOf m ≡ programL
       refused-by j (sparse .cause programLengths (j .input)) k
       (subst (λ l. answerFor (sparse .cause l (j .input)) ≡ Refused k) lengths (sym (opened-answer (j .input) r m) ∙ e))
 
+-- an accepted one: its plan's listing is printed
+accepted-listed : (j : Job) → sparse .cause programLengths (j .input) ≡ 0 → jobListed j ≡ planListing (planOf (j .input)) (jobNan j)
+unfolding jobListed listedBy
+accepted-listed j none = ap (listedBy j) none
+
 accepted-zero : (n : ℕ) → answerFor n ≡ Accepted → n ≡ 0
 accepted-zero zero e = refl
 accepted-zero (suc n) e = let z : _≡_ {A = ℕ} 0 1 = cc in absurd (omega arith)
@@ -71,6 +94,15 @@ unfolding readingOf readListed
 on-listed (offAt k) e = let z : _≡_ {A = ℕ} 0 1 = cc in absurd (omega arith)
 on-listed (written w) e = refl
 
+-- the same of what the code reads
+pub off-here : (text : List ℕ) (n : ℕ) (x : Reading) → x ≡ readingOf (readText text) → x .judgement ≡ OffAt n → spell offForm (n ∷ []) ≡ listed text
+unfolding listed
+off-here text n x is off = sym (off-listed (readText text) n (sym (ap (λ y. y .judgement) is) ∙ off))
+
+pub on-here : (text : List ℕ) (x : Reading) → x ≡ readingOf (readText text) → x .judgement ≡ OnForm → jobListed (x .job) ≡ listed text
+unfolding listed
+on-here text x is on = ap (λ y. jobListed (y .job)) is ∙ sym (on-listed (readText text) (sym (ap (λ y. y .judgement) is) ∙ on))
+
 -- ---- a budget that covers every job
 
 bound-small : (i : Input) (m : Memory) → sparse .cause (lengthsOf m) i ≡ 0 → evaluationsBound (planOf i) ≤ 5000000000000
@@ -79,3 +111,75 @@ bound-small i m none = let n = nothing i (lengthsOf m) none in bound-fits (i .gr
 
 pub total-small : (i : Input) (m : Memory) → sparse .cause (lengthsOf m) i ≡ 0 → total (planOf i) ≤ 18446744073709551615
 total-small i m none = omega (arith, total-bound (planOf i), bound-small i m none)
+
+-- ---- the listing of a finished job
+
+module _ (i : Input) (m : Memory) (none : sparse .cause (lengthsOf m) i ≡ 0) where
+  abbrev P : Plan
+  P = planOf i
+
+  abbrev l : Lengths
+  l = lengthsOf m
+
+  abbrev last : Memory
+  last = stateAt (planOf i) (lengthsOf m) (total (planOf i)) .memory
+
+  abbrev final : Record
+  final = recordAfter (lengthsOf m) i (total (planOf i))
+
+  same-record : jobIn (recordAfter (lengthsOf m) i (total (planOf i))) ≡ jobAt sparse (lengthsOf m) i (total (planOf i))
+  same-record = let forth : job (jobIn final) ≡ job (jobAt sparse l i (total P)) = record-forth (job (jobAt sparse l i (total P))) in cc
+
+  some-points : 0 < planOf i .leafPoints
+  unfolding planWith
+  some-points = cube-le (i .grid .leaf) 1 (sized (i .grid) (i .model) (lent l) (nothing i l none) .leafLeast)
+
+  -- every leaf is made
+  leaves-all : stateAt (planOf i) (lengthsOf m) (total (planOf i)) .leaves ≡ leavesAll (planOf i)
+  unfolding total
+  leaves-all =
+      let counted = same-job sparse sparse-laws l i (total P) none (omega arith) .counted .0 (finished-flag i m none) in
+      let n = stateAt P l (total P) .leaves in
+      let same : n * P .leafPoints ≡ leavesAll P * P .leafPoints = omega (arith, counted) in
+      sym (mul-div-cancel n some-points) ∙ ap (λ k. k / P .leafPoints) same ∙ mul-div-cancel (leavesAll P) some-points
+
+  store-long : leavesAll (planOf i) * planOf i .leafPoints ≤ length (stateAt (planOf i) (lengthsOf m) (total (planOf i)) .memory .store)
+  store-long =
+      let a = after P (sparse-laws .planLaws l i none) l (sparse-laws .enoughCorners l i none) (total P) in
+      rw (ap (λ k. k .store) (a .lengths)) (long-enough l i none .store)
+
+  pub finished-written : (nan : ℕ) (out : List ℕ)
+      → writtenOf (recordAfter (lengthsOf m) i (total (planOf i))) nan (stateAt (planOf i) (lengthsOf m) (total (planOf i)) .memory) out
+      ≡ putListing (planListing (planOf i) nan) out
+  finished-written nan out =
+      written-plan final nan last out refl
+      (ap (λ j. impossible sparse j last) same-record ∙ finished-possible i m none)
+      (ap isFinished same-record ∙ finished-flag i m none)
+      (ap (λ n. countsWith P n (total P)) leaves-all)
+      (finished-elements i m none)
+      store-long
+
+-- ---- a job that is opened and then given a budget that covers it
+
+module _ (j : Job) (r : Record) (m : Memory) {opened : Outcome} (lengths : lengthsOf m ≡ programLengths) (is-opened : opened ≡ called (opens (j .input)) r m .outcome) where
+  -- a refused one
+  pub refused-listed : (k : ℕ) → opened .answer ≡ Refused k → spell refusedForm (k ∷ []) ≡ jobListed j
+  refused-listed k is = sym (listed-refusal j r m lengths k (sym (ap (λ o. o .answer) is-opened) ∙ is))
+
+  -- a finished one
+  pub finished-listed : (m₁ m₂ : Memory) {done : Outcome} {nan n : ℕ} → m₁ ≡ called (opens (j .input)) r m .memory → opened .answer ≡ Accepted → n ≡ 18446744073709551615
+      → done ≡ called (steps n) (opened .next) m₁ .outcome → m₂ ≡ called (steps n) (opened .next) m₁ .memory → nan ≡ jobNan j
+      → (out : List ℕ) → writtenOf (done .next) nan m₂ out ≡ putListing (jobListed j) out
+  finished-listed m₁ m₂ {done} {nan} {n} after-open accepted all is-done after-step is-nan out =
+      let i = j .input in
+      let none = accepted-none i r m (sym (ap (λ o. o .answer) is-opened) ∙ accepted) in
+      let covered : total (planOf i) ≤ n = omega (arith, total-small i m none, all) in
+      let first = job-opened i m none r in
+      let start : opened .next ≡ recordAfter (lengthsOf m) i 0 = ap (λ o. o .next) is-opened ∙ ap (λ h. h .outcome .next) first in
+      let memory : m₁ ≡ stateAt (planOf i) (lengthsOf m) 0 .memory = after-open ∙ ap (λ h. h .memory) first in
+      let last : called (steps n) (opened .next) m₁ ≡ acceptedWith (recordAfter (lengthsOf m) i (total (planOf i))) (stateAt (planOf i) (lengthsOf m) (total (planOf i)) .memory) =
+      ap (λ x. called (steps n) x m₁) start ∙ ap (λ x. called (steps n) (recordAfter (lengthsOf m) i 0) x) memory ∙ job-finished i m none n covered in
+      ap (λ o. writtenOf (o .next) nan m₂ out) (is-done ∙ ap (λ h. h .outcome) last)
+      ∙ ap (λ x. writtenOf (recordAfter (lengthsOf m) i (total (planOf i))) nan x out) (after-step ∙ ap (λ h. h .memory) last)
+      ∙ finished-written i m none nan out
+      ∙ ap (λ bs. putListing bs out) (ap (λ x. planListing (planOf i) x) is-nan ∙ sym (accepted-listed j (subst (λ l. sparse .cause l i ≡ 0) lengths none)))
