@@ -10,3 +10,6 @@ pub mod Sound
 pub mod Cut
 pub mod OffLine
 pub mod InputBack
+pub mod OffBack
+pub mod NanRead
+pub mod Worked
