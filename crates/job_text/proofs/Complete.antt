@@ -1,5 +1,5 @@
 -- READING IS COMPLETE: the text of a job is read as the job.
-use mathlib.Core.Path.{_≡_, refl, ap, _∙_}
+use mathlib.Core.Path.{_≡_, ap, _∙_}
 use Prim.Native.Nat.{ℕ, zero, suc, _≤_}
 use native.Mathlib.Omega.{arith}
 use mathlib.Core.Bool.{true}
@@ -10,7 +10,7 @@ use Rattle.forms.specs.Fitting.{separated}
 use Rattle.forms.proofs.FormLaws.{form-spelled}
 use Rattle.job_text.specs.Lines.{limit, boundsForm, cellForm, blocksForm, bandForm, partForm}
 use Rattle.job_text.specs.Parts.{Spelt, PartLine}
-use Rattle.job_text.specs.Reading.{Written, Read, written, Parts, parts, withPart, onPart, readParts, onParts, readText}
+use Rattle.job_text.specs.Reading.{Written, written, Parts, parts, withPart, onPart, readParts, onParts, readText}
 use Rattle.job_text.specs.Texts.{partsText, textOf}
 use Rattle.job_text.specs.OnForm.{OnForm, OnParts, OnForms}
 use Rattle.job_text.proofs.FormFacts.{bounds-apart, cell-apart, blocks-apart, band-apart, part-complete, part-some}

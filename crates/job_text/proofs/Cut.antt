@@ -1,18 +1,17 @@
 -- THE FIRST 5,148 BYTES DECIDE: a text is read as its first 5,148 bytes are.
-use mathlib.Core.Path.{_≡_, refl, sym, ap, _∙_}
+use mathlib.Core.Path.{_≡_, refl, ap}
 use Prim.Native.Nat.{ℕ, zero, suc, _+_, _-_, _*_, _≤_, _<_}
 use native.Mathlib.Omega.{arith}
 use mathlib.Core.Bool.{true}
 use mathlib.Core.List.{List, [], _∷_}
 use lib.ListN.{length, take}
-use lib.Seq.{take-nil}
 use Rattle.forms.specs.Forms.{Piece, Line, off, line, readForm}
 use Rattle.forms.specs.Fitting.{separated, most}
 use Rattle.forms.proofs.FormLaws.{form-most}
 use Rattle.forms.proofs.CutLaws.{off-cut, line-cut}
 use Rattle.job_text.specs.Lines.{limit, boundsForm, cellForm, blocksForm, bandForm, PartKind, partForm, partKinds}
-use Rattle.job_text.specs.Parts.{Spelt, PartLine, none, part, orPart, partAmong, readPart}
-use Rattle.job_text.specs.Reading.{Read, Parts, parts, withPart, onPart, readParts, onLine, onParts, readText}
+use Rattle.job_text.specs.Parts.{PartLine, none, part, orPart, partAmong, readPart}
+use Rattle.job_text.specs.Reading.{Read, Parts, withPart, onPart, readParts, onLine, onParts, readText}
 use Rattle.job_text.proofs.FormFacts.{bounds-apart, cell-apart, blocks-apart, band-apart, part-apart, bounds-most, cell-most, blocks-most, band-most, part-most}
 use Rattle.job_text.proofs.TextLines.{writtenWith}
 

@@ -6,12 +6,12 @@ use mathlib.Core.Bool.{true}
 use mathlib.Core.List.{List, [], _∷_, _++_}
 use lib.ListN.{length}
 use Rattle.forms.specs.Digits.{digitOf}
-use Rattle.forms.specs.Forms.{pieceOf, isField, after, spellPiece, spell, fields, Line, off, line, readPiece, withNumber, onFront, readForm}
+use Rattle.forms.specs.Forms.{pieceOf, isField, after, spellPiece, spell, Line, readPiece, withNumber, onFront, readForm}
 use Rattle.forms.specs.Fitting.{endsDecimal, separated, mostPiece, mostOf, most}
 use Rattle.forms.proofs.FormLaws.{form-spelled}
 use Rattle.job_text.specs.Lines.{limit, boundsForm, cellForm, blocksForm, bandForm, PartKind, const, sphere, plane, min, max, add, sub, neg, partForm}
-use Rattle.job_text.specs.Parts.{Spelt, PartLine, none, part, orPart, partAmong, readPart}
-use Rattle.job_text.specs.OnForm.{OnForm, OnPart}
+use Rattle.job_text.specs.Parts.{Spelt, part, orPart, partAmong, readPart}
+use Rattle.job_text.specs.OnForm.{OnPart}
 
 pub bounds-apart : separated boundsForm ≡ true
 unfolding separated pieceOf

@@ -11,8 +11,8 @@ use Rattle.model.specs.declared.ModelComponent.{ModelComponent}
 use Rattle.model.specs.declared.Part.{Part}
 use Rattle.float.specs.Zero.{plusZero}
 use Rattle.model.specs.declared.Part.the-variants.{Constant}
-use Rattle.job_text.specs.Parts.{partFrom, patternFrom, Spelt, PartLine, none, part, readPart}
-use Rattle.job_text.specs.Reading.{Parts, offAt, parts, withPart, onPart, readParts, componentOf, componentsOf, patternsOf, offReading, readJob, jobWith}
+use Rattle.job_text.specs.Parts.{patternFrom, Spelt, PartLine, none, part, readPart}
+use Rattle.job_text.specs.Reading.{Parts, offAt, parts, withPart, onPart, readParts, componentOf, componentsOf, patternsOf, offReading, readJob}
 use Rattle.job_text.specs.Answers.{IsPart, modelReading}
 
 -- ---- an array that holds a list's values at its front
@@ -36,7 +36,7 @@ unfoldable pub withParts : List Spelt → Parts → Parts
 withParts [] p = p
 withParts (s ∷ ss) p = withPart s (withParts ss p)
 
-with-off : (ss : List Spelt) (n : ℕ) → withParts ss (offAt n) ≡ offAt n
+pub with-off : (ss : List Spelt) (n : ℕ) → withParts ss (offAt n) ≡ offAt n
 unfolding withParts withPart
 with-off [] n = refl
 with-off (s ∷ ss) n = rw (with-off ss n)
@@ -46,7 +46,7 @@ unfolding withParts withPart
 with-all [] ts = refl
 with-all (s ∷ ss) ts = rw (with-all ss ts)
 
-with-more : (ss : List Spelt) (s : Spelt) (p : Parts) → withParts (ss ++ (s ∷ [])) p ≡ withParts ss (withPart s p)
+pub with-more : (ss : List Spelt) (s : Spelt) (p : Parts) → withParts (ss ++ (s ∷ [])) p ≡ withParts ss (withPart s p)
 unfolding withParts
 with-more [] s p = refl
 with-more (a ∷ ss) s p = rw (with-more ss s p)

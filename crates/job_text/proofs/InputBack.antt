@@ -1,13 +1,11 @@
 -- AN INPUT COMES BACK: the text of an input is read as the input.
-use mathlib.Core.Path.{_≡_, refl, sym, ap, _∙_}
-use Prim.Native.Nat.{ℕ, zero, suc, _-_, _^_, _≤_, _<_, min}
+use mathlib.Core.Path.{_≡_, refl, _∙_}
+use Prim.Native.Nat.{ℕ, _≤_, min}
 use native.Mathlib.Omega.{arith}
 use mathlib.Core.List.{List, [], _∷_, _++_, map}
-use lib.Dec.{T}
-use lib.ListN.{length, take, drop, replicate, length-map, length-take, take-append-drop}
+use lib.ListN.{length, take, length-map, length-take, take-append-drop}
 use lib.Ieee.{Float, binary64, fits, ofBits, toBits}
 use lib.Ieee.Bits.{ofBits-toBits, toBits-lt}
-use Rattle.float.specs.Zero.{plusZero}
 use Rattle.forms.specs.Bytes.{bytes}
 use Rattle.forms.specs.Forms.{Piece, hex, decimal, byte, pieceOf, isField, after, fields}
 use Rattle.forms.specs.Fitting.{FitsPiece, Fits}
@@ -16,11 +14,11 @@ use Rattle.model.specs.declared.Part.{Part}
 use Rattle.model.specs.declared.Part.the-variants.{Constant, Sphere, Plane, Min, Max, Add, Sub, Neg}
 use Rattle.model.specs.Part.{partIn}
 use Rattle.sparse_field.specs.declared.Input.{Input}
-use Rattle.job_text.specs.Lines.{limit, boundsForm, cellForm, blocksForm, bandForm, partForm}
+use Rattle.job_text.specs.Lines.{limit}
 use Rattle.job_text.specs.Parts.{partFrom, Spelt}
-use Rattle.job_text.specs.Reading.{Written, componentOf, componentsOf, patternsOf, inputOf, readJob, readText, readingOf}
+use Rattle.job_text.specs.Reading.{componentOf, componentsOf, patternsOf, inputOf, readJob, readText, readingOf}
 use Rattle.job_text.specs.Texts.{speltPart, writtenInput, inputText, Double, FitsPart, FitsParts, FitsInput}
-use Rattle.job_text.specs.OnForm.{OnForm, OnPart, OnParts, OnForms}
+use Rattle.job_text.specs.OnForm.{OnPart, OnParts, OnForms}
 use Rattle.job_text.proofs.Complete.{reading-complete}
 
 -- ---- the numbers fit their forms

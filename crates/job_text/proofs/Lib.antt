@@ -8,9 +8,12 @@ pub mod Complete
 pub mod Sound
 pub mod Cut
 pub mod OffLine
+pub mod OffBack
 pub mod InputBack
 pub mod NanLaws
 pub mod NanValues
+pub mod NanRead
+pub mod Worked
 pub mod LineLaws
 pub mod ListingLaws
 pub mod WrittenLaws

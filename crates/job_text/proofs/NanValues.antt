@@ -1,19 +1,19 @@
 -- A model's value on bit patterns is its value, and where it is a NaN it has the model's bits.
 use mathlib.Core.Path.{_≡_, refl, sym, ap, subst, _∙_}
-use Prim.Native.Nat.{ℕ, zero, suc, _+_, _-_, _^_, _≤_, _<_}
+use Prim.Native.Nat.{ℕ, zero, suc, _-_, _^_, _<_}
 use native.Mathlib.Omega.{arith}
-use mathlib.Core.Bool.{Bool, true, false, cond, not, _||_}
+use mathlib.Core.Bool.{Bool, true, false, cond, _||_}
 use mathlib.Core.List.{List, [], _∷_, _++_, map, map-append}
 use lib.Dec.{T}
 use lib.ListN.{length, getD, List·getD-map}
-use lib.Ieee.{Float, nan, inf, fin, binary64, ofBits, toBits, fits, isNan, lt, add, sub, neg}
+use lib.Ieee.{Float, nan, inf, fin, binary64, ofBits, toBits, fits, isNan, lt}
 use lib.Ieee.Bits.{ofBits-toBits, toBits-ofBits, ofBits-fits}
 use lib.Ieee.Fits.{neg-fits, add-fits, sub-fits}
 use Rattle.float.specs.Zero.{plusZero}
 use Rattle.float.specs.Select.{minOf, maxOf}
 use Rattle.geometry.specs.Distance.{distanceOf}
 use Rattle.lists.proofs.Lists.{getD-any}
-use Rattle.lists.proofs.Tables.{length-more, getD-last}
+use Rattle.lists.proofs.Tables.{length-more}
 use Rattle.model.specs.declared.Part.{Part}
 use Rattle.model.specs.declared.Part.the-variants.{Constant, Sphere, Plane, Min, Max, Add, Sub, Neg}
 use Rattle.model.specs.Model.{partOf, valuesTo, modelValue}
@@ -93,12 +93,6 @@ module _ (parts : List Part) (patterns : List ℕ) (x y z : Float) where
 -- n is the pattern of b where b is a NaN's, and else b is its value's
 abbrev SameBits : ℕ → ℕ → Type 0
 SameBits n b = bitsIn n (floatOf b) ≡ b
-
-nan-only : (v : Float) → isNan v ≡ true → v ≡ nan
-unfolding isNan
-nan-only nan is = refl
-nan-only (inf s) is = let none : _≡_ {A = ℕ} 0 1 = cc in absurd (omega arith)
-nan-only (fin s m e) is = let none : _≡_ {A = ℕ} 0 1 = cc in absurd (omega arith)
 
 -- a computed value
 same-computed : (v : Float) → T (fits binary64 v) → SameBits computedNan (toBits binary64 v)

@@ -1,19 +1,18 @@
 -- WHAT A LINE OFF ITS FORM MEANS: the lines before it are on theirs, and it is not.
 use mathlib.Core.Path.{_≡_, refl, sym, ap, _∙_}
-use Prim.Native.Nat.{ℕ, zero, suc, _+_, _-_, _≤_, _<_}
+use Prim.Native.Nat.{ℕ, zero, suc, _+_, _<_}
 use native.Mathlib.Omega.{arith}
 use mathlib.Core.Bool.{true}
-use mathlib.Core.List.{List, [], _∷_, _++_}
-use lib.ListN.{length}
-use Rattle.forms.specs.Forms.{Piece, spell, Line, off, line, readForm}
-use Rattle.forms.specs.Fitting.{separated, Spells}
+use mathlib.Core.List.{List, [], _∷_}
+use Rattle.forms.specs.Forms.{Piece, Line, off, line, readForm}
+use Rattle.forms.specs.Fitting.{separated}
 use Rattle.forms.proofs.FormLaws.{form-sound, form-spelled, off-line}
-use Rattle.job_text.specs.Lines.{limit, boundsForm, cellForm, blocksForm, bandForm, PartKind, partForm}
+use Rattle.job_text.specs.Lines.{limit, boundsForm, cellForm, blocksForm, bandForm}
 use Rattle.job_text.specs.Parts.{Spelt, PartLine, none, part, readPart}
-use Rattle.job_text.specs.Reading.{Written, Read, written, Parts, parts, withPart, onPart, readParts, onLine, onParts, readText}
+use Rattle.job_text.specs.Reading.{Read, Parts, parts, withPart, onPart, readParts, onLine, onParts, readText}
 use Rattle.job_text.specs.OnForm.{HasForm, HasPart, HasLine, Begins, start, more, OffFirst}
 use Rattle.job_text.proofs.FormFacts.{bounds-apart, cell-apart, blocks-apart, band-apart, part-complete}
-use Rattle.job_text.proofs.Sound.{part-sound, off-parts}
+use Rattle.job_text.proofs.Sound.{part-sound}
 use Rattle.job_text.proofs.TextLines.{writtenWith}
 
 -- ---- one line
@@ -24,7 +23,7 @@ no-form form t apart is rest has =
     let s = has .spells in
     off-line (sym is ∙ ap (readForm limit form) (s .text) ∙ form-spelled limit form (has .numbers) rest (omega arith) apart (s .fits) (s .count))
 
-has-form : (form : List Piece) (t xs rest : List ℕ) → readForm limit form t ≡ line xs rest → HasForm form t rest
+pub has-form : (form : List Piece) (t xs rest : List ℕ) → readForm limit form t ≡ line xs rest → HasForm form t rest
 has-form form t xs rest is = record { numbers = xs; spells = form-sound limit form t xs rest (omega arith) is }
 
 no-part : (t : List ℕ) → readPart t ≡ none → (rest : List ℕ) → HasPart t rest → ⊥

@@ -1,14 +1,13 @@
 -- The kinds of part lines by their numbers, and the parts that they make.
-use mathlib.Core.Path.{_≡_, refl, ap, _∙_}
-use Prim.Native.Nat.{ℕ, zero, suc, _+_, _≤_, _<_}
+use mathlib.Core.Path.{_≡_, refl}
+use Prim.Native.Nat.{ℕ, zero, suc, _<_}
 use native.Mathlib.Omega.{arith}
-use mathlib.Core.List.{List, [], _∷_}
-use lib.ListN.{getD, take, drop, replicate}
-use lib.Seq.{getD-take, getD-drop}
-use Rattle.forms.specs.Forms.{pieceOf, isField, after, fields}
-use Rattle.forms.specs.Fitting.{FitsPiece, Fits}
-use Rattle.job_text.specs.Lines.{limit, PartKind, const, sphere, plane, min, max, add, sub, neg, partForm, kindOf}
-use Rattle.job_text.specs.Parts.{word, partFrom, patternFrom}
+use mathlib.Core.List.{List}
+use lib.ListN.{take}
+use lib.Seq.{getD-take}
+use Rattle.forms.specs.Forms.{pieceOf, isField, fields}
+use Rattle.job_text.specs.Lines.{PartKind, const, sphere, plane, min, max, add, sub, neg, partForm, kindOf}
+use Rattle.job_text.specs.Parts.{partFrom, patternFrom}
 
 -- the last kind stands for every number from 7 on
 pub kind-last : (k : ℕ) → 6 < k → kindOf k ≡ neg

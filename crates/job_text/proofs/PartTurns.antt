@@ -1,10 +1,10 @@
 -- The part line at a place, kind after kind; its numbers fit.
-use mathlib.Core.Path.{_≡_, refl, sym, ap, _∙_}
-use Prim.Native.Nat.{ℕ, zero, suc, _+_, _-_, _^_, _≤_, _<_}
+use mathlib.Core.Path.{_≡_, sym, ap, _∙_}
+use Prim.Native.Nat.{ℕ, zero, suc, _+_, _-_, _≤_, _<_}
 use native.Mathlib.Numerals.{add-one}
 use native.Mathlib.Omega.{arith}
 use mathlib.Core.List.{List, [], _∷_, _++_, map}
-use lib.ListN.{length, getD, take, drop, replicate}
+use lib.ListN.{getD, take, drop, replicate}
 use lib.Seq.{drop-cons, getD-take, getD-drop}
 use Rattle.forms.specs.Bytes.{bytes}
 use Rattle.forms.specs.Forms.{Piece, decimal, byte, pieceOf, isField, after, fields, Line, off, line, readForm}
@@ -15,15 +15,15 @@ use Rattle.forms.specs.declared.End.the-variants.{At, Off}
 use Rattle.forms.proofs.AnswerLaws.{reads-line}
 use Rattle.forms.proofs.FormLaws.{form-sound}
 use Rattle.model.specs.declared.Part.{Part}
-use Rattle.job_text.specs.Lines.{limit, PartKind, const, sphere, plane, min, max, add, sub, neg, partForm, partKinds, kindOf, blocksForm}
-use Rattle.job_text.specs.Parts.{word, partFrom, patternFrom, Spelt, PartLine, none, part, orPart, partAmong, readPart}
+use Rattle.job_text.specs.Lines.{limit, PartKind, neg, partForm, partKinds, kindOf, blocksForm}
+use Rattle.job_text.specs.Parts.{word, partFrom, patternFrom, PartLine, none, part, orPart, partAmong, readPart}
 use Rattle.job_text.specs.Answers.{FitsWords, IsPart, ReadsPartTo}
 use Rattle.job_text.proofs.PartLaws.{part-own, pattern-own}
 
 -- ---- numbers of 32 bits
 
 -- what fits a form fits what stands in it after some bytes
-fits-past : (bs : List ℕ) (form : List Piece) (xs : List ℕ) → Fits limit (map byte bs ++ form) xs → Fits limit form xs
+pub fits-past : (bs : List ℕ) (form : List Piece) (xs : List ℕ) → Fits limit (map byte bs ++ form) xs → Fits limit form xs
 unfolding Fits after isField
 fits-past [] form xs fits = fits
 fits-past (b ∷ bs) form xs fits = fits-past bs form xs (fits .1)

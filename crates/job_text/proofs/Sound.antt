@@ -1,5 +1,5 @@
 -- READING IS SOUND: what is read as a job is the job's text, on its form.
-use mathlib.Core.Path.{_≡_, refl, sym, ap, _∙_}
+use mathlib.Core.Path.{_≡_, refl, ap, _∙_}
 use Prim.Native.Nat.{ℕ, zero, suc, _≤_}
 use native.Mathlib.Omega.{arith}
 use mathlib.Core.List.{List, [], _∷_, _++_}
@@ -42,7 +42,7 @@ pub record PartsText (t : List ℕ) (ss : List Spelt) (r : ℕ) : Type 0 where
   pub on : OnParts ss
   pub most : length ss ≤ r
 
-pub off-parts : {A : Type 0} {n : ℕ} {ss : List Spelt} → Parts.offAt n ≡ parts ss → A
+off-parts : {A : Type 0} {n : ℕ} {ss : List Spelt} → Parts.offAt n ≡ parts ss → A
 off-parts same = let never : _≡_ {A = ℕ} 0 1 = cc in absurd (omega arith)
 
 no-parts : (r : ℕ) (ss : List Spelt) → parts [] ≡ parts ss → PartsText [] ss r

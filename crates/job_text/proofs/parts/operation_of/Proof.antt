@@ -1,3 +1,4 @@
+-- `operation_of` meets its contract, kind by kind.
 use native.Mathlib.Omega.{arith}
 use Rattle.job_text.specs.Parts.{partFrom}
 use Rattle.job_text.proofs.PartLaws.{kind-last}

@@ -1,3 +1,4 @@
+-- `pattern_of` meets its contract.
 use mathlib.Core.Path.{sym}
 use native.Mathlib.Omega.{arith}
 use Rattle.job_text.specs.Parts.{patternFrom}

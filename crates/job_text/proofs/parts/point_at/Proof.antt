@@ -1,3 +1,4 @@
+-- `point_at` meets its contract.
 use borrow.Author.Needs.{needs}
 use Rattle.job_text.proofs.parts.point_at.Statement.{statement}
 use Rattle.job_text.proofs.parts.point_at.Tie as tie

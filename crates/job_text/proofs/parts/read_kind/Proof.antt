@@ -1,3 +1,4 @@
+-- `read_kind` meets its contract: the form that the code has is that of the kind.
 use native.Mathlib.Omega.{arith}
 use Rattle.forms.specs.Forms.{fields, isField, pieceOf}
 use Rattle.job_text.proofs.PartLaws.{kind-last, past-two, past-six}

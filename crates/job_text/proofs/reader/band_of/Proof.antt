@@ -1,3 +1,4 @@
+-- `band_of` meets its contract.
 use borrow.Author.Needs.{needs}
 use Rattle.job_text.proofs.reader.band_of.Statement.{statement}
 use Rattle.job_text.proofs.reader.band_of.Tie as tie

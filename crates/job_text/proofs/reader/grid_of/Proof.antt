@@ -1,3 +1,4 @@
+-- `grid_of` meets its contract.
 use borrow.Author.Needs.{needs}
 use Rattle.job_text.proofs.reader.grid_of.Statement.{statement}
 use Rattle.job_text.proofs.reader.grid_of.Tie as tie

@@ -1,3 +1,4 @@
+-- `no_job` meets its contract.
 use borrow.Author.Needs.{needs}
 use Rattle.job_text.proofs.reader.no_job.Statement.{statement}
 use Rattle.job_text.proofs.reader.no_job.Tie as tie

@@ -1,3 +1,4 @@
+-- `off_at` meets its contract.
 use borrow.Author.Needs.{needs}
 use Rattle.job_text.proofs.reader.off_at.Statement.{statement}
 use Rattle.job_text.proofs.reader.off_at.Tie as tie
