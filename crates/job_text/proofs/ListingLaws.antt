@@ -23,7 +23,7 @@ use Rattle.forms.specs.Digits.{decimalOf}
 use Rattle.forms.specs.Forms.{spell, spellPiece, pieceOf, isField, after}
 use Rattle.job_text.specs.declared.Listing.the-variants.{Bytes, Refused}
 use Rattle.job_text.specs.Lines.{doneForm}
-use Rattle.job_text.specs.Listing.{doneLine, linesFrom, kindLine, lineAt}
+use Rattle.job_text.specs.Listing.{doneLine, linesFrom, kindLine, lineAt, listingTo}
 use Rattle.job_text.specs.Lengths.{lengthAt, Sizes}
 use Rattle.job_text.specs.Written.{placed, allPlaced, putBytes, putAnswer}
 use Rattle.job_text.proofs.LineLaws.{line-measured, kind-most, decimal-length}
@@ -132,7 +132,7 @@ lengths-most total children points kinds sizes =
     omega (arith, sumFrom-most (lengthAt children points kinds) 4456519 (λ i. length-most children points kinds i (sizes .size)) total 0, sizes .few)
 
 pub listing-measured : (total children points nan : ℕ) (k : Counts) (m : Memory)
-    → length (doneLine k ++ linesFrom (lineAt children points nan m) total 0) ≡ length (doneLine k) + sumBelow (lengthAt children points (m .kinds)) total
+    → length (listingTo total children points nan k m) ≡ length (doneLine k) + sumBelow (lengthAt children points (m .kinds)) total
 listing-measured total children points nan k m =
     length-append (doneLine k) (linesFrom (lineAt children points nan m) total 0)
     ∙ ap (λ n. length (doneLine k) + n) (lines-measured (lineAt children points nan m) (lengthAt children points (m .kinds)) (line-length children points nan m) total 0)

@@ -1,8 +1,8 @@
 -- What writing a record's listing answers, case by case, and the sizes that a possible record gives.
-use Prim.Native.Nat.{ℕ, _+_, _*_, _≤_}
+use Prim.Native.Nat.{ℕ, _*_, _≤_}
 use mathlib.Core.Path.{_≡_, sym, ap, _∙_}
 use mathlib.Core.Bool.{true, false}
-use mathlib.Core.List.{List, [], _++_}
+use mathlib.Core.List.{List, []}
 use native.Mathlib.Omega.{arith}
 use lib.ListN.{length}
 use Rattle.grid.specs.declared.Grid.{Grid}
@@ -23,7 +23,7 @@ use Rattle.sparse_field.specs.Records.{sparse, lent, jobIn, countsIn, cursorIn}
 use Rattle.sparse_field.proofs.Judgement.{no-cause, bound-fits}
 use Rattle.job_text.specs.declared.Listing.the-variants.{Refused, NotPrintable}
 use Rattle.job_text.specs.Lengths.{Sizes}
-use Rattle.job_text.specs.Listing.{doneLine, linesFrom, lineAt, listing}
+use Rattle.job_text.specs.Listing.{lineAt, listingTo, listing}
 use Rattle.job_text.specs.Written.{allPlaced, printable, recordListing, refusedPut, putListing, possibleWritten, written}
 
 -- ---- sizes
@@ -81,7 +81,7 @@ module _ (r : Record) (nan : ℕ) (m : Memory) (out : List ℕ) where
         ≡ allPlaced (cube (g .leaf)) (length (m .store)) (m .kinds) (m .places) (nodesOf g * cube (g .inner)) 0
     placed-as = rw (n, c, p)
 
-    listing-as : doneLine (countsIn (r .counts)) ++ linesFrom (lineAt children points nan (memoryOf (m .kinds) (m .numbers) (m .places) (m .store) [])) (nodes * children) 0
+    listing-as : listingTo (nodes * children) children points nan (countsIn (r .counts)) (memoryOf (m .kinds) (m .numbers) (m .places) (m .store) [])
         ≡ recordListing r nan m
     unfolding recordListing listing planWith lineAt
     listing-as = rw (n, c, p)
@@ -93,7 +93,7 @@ module _ (r : Record) (nan : ℕ) (m : Memory) (out : List ℕ) where
 
     pub printed : atEnd (cursorIn (r .cursor)) ≡ true → allPlaced points (length (m .store)) (m .kinds) (m .places) (nodes * children) 0 ≡ true
         → possibleWritten r nan m out
-        ≡ putListing (doneLine (countsIn (r .counts)) ++ linesFrom (lineAt children points nan (memoryOf (m .kinds) (m .numbers) (m .places) (m .store) [])) (nodes * children) 0) out
+        ≡ putListing (listingTo (nodes * children) children points nan (countsIn (r .counts)) (memoryOf (m .kinds) (m .numbers) (m .places) (m .store) [])) out
     unfolding printable planWith
     printed end is =
         let holds = sym placed-as ∙ is in

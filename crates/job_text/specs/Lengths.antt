@@ -11,13 +11,15 @@ use Rattle.job_text.specs.Lines.{leafForm, leafEnd, constantForm}
 unfoldable pub leafLength : (points v c : ℕ) → ℕ
 leafLength points v c = length (spell leafForm (v ∷ c ∷ [])) + (17 * points + length leafEnd)
 
+-- a number has 16 digits, whatever it is
 unfoldable pub constantLength : (v c : ℕ) → ℕ
 constantLength v c = length (spell constantForm (v ∷ c ∷ 0 ∷ []))
 
+-- of the child of this kind
 unfoldable pub kindLength : (points v c kind : ℕ) → ℕ
 kindLength points v c kind = cond (eqb kind 0) 0 (cond (eqb kind 2) (leafLength points v c) (constantLength v c))
 
--- of the child at place j
+-- of the child at place j of all children
 unfoldable pub lengthAt : (children points : ℕ) → List ℕ → ℕ → ℕ
 lengthAt children points kinds j = kindLength points (j / children) (j % children) (getD kinds j 0)
 

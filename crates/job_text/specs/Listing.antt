@@ -74,6 +74,10 @@ unfoldable pub lineAt : (children points nan : ℕ) → Memory → ℕ → List 
 lineAt children points nan m j =
     kindLine points nan (j / children) (j % children) (getD (m .kinds) j 0) (getD (m .numbers) j plusZero) (getD (m .places) j 0) (m .store)
 
--- so many nodes with so many children, of leaves with so many points
+-- so many children in all, so many to a node, of leaves with so many points
+abbrev pub listingTo : (total children points nan : ℕ) → Counts → Memory → List ℕ
+listingTo total children points nan k m = doneLine k ++ linesFrom (lineAt children points nan m) total 0
+
+-- so many nodes
 unfoldable pub listing : (nodes children points nan : ℕ) → Counts → Memory → List ℕ
-listing nodes children points nan k m = doneLine k ++ linesFrom (lineAt children points nan m) (nodes * children) 0
+listing nodes children points nan k m = listingTo (nodes * children) children points nan k m

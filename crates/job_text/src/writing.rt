@@ -13,7 +13,7 @@ ghost use Rattle.sparse_field.specs.Records.{sparse, jobIn, countsIn, cursorIn}
 ghost use Rattle.forms.specs.Forms.{pieceOf, spell};
 ghost use Rattle.job_text.specs.Lengths.{lengthAt, Sizes};
 ghost use Rattle.job_text.specs.Lines.{refusedForm, offForm};
-ghost use Rattle.job_text.specs.Listing.{doneLine, linesFrom, lineAt};
+ghost use Rattle.job_text.specs.Listing.{doneLine, linesFrom, lineAt, listingTo};
 ghost use Rattle.job_text.specs.Written.{allPlaced, putAnswer, putBytes, possibleWritten, written};
 use crate::Listing;
 use crate::lines::child_length;
@@ -151,8 +151,8 @@ fn put_listing(
 )
     requires { ⌜ Sizes total children points × (total ≤ length (now kinds)) × (total ≤ length (now numbers)) × (total ≤ length (now places)) ⌝ }
     requires { ⌜ allPlaced points (length (now store)) (now kinds) (now places) total 0 ≡ true ⌝ }
-    requires { ⌜ length (doneLine (countsIn counts) ++ linesFrom (lineAt children points nan (memoryOf (now kinds) (now numbers) (now places) (now store) [])) total 0) ≤ length (now out) ⌝ }
-    ensures { λ _. ⌜ now (out .exit) ≡ putBytes (doneLine (countsIn counts) ++ linesFrom (lineAt children points nan (memoryOf (now (kinds .entry)) (now (numbers .entry)) (now (places .entry)) (now (store .entry)) [])) total 0) (now (out .entry)) ⌝ }
+    requires { ⌜ length (listingTo total children points nan (countsIn counts) (memoryOf (now kinds) (now numbers) (now places) (now store) [])) ≤ length (now out) ⌝ }
+    ensures { λ _. ⌜ now (out .exit) ≡ putBytes (listingTo total children points nan (countsIn counts) (memoryOf (now (kinds .entry)) (now (numbers .entry)) (now (places .entry)) (now (store .entry)) [])) (now (out .entry)) ⌝ }
 {
     let done = done_numbers(counts);
     let first = forms::put_form(b"(done D D D D D)\n", &done, 0, out);
@@ -186,8 +186,8 @@ fn write_placed(
 ) -> Listing
     requires { ⌜ Sizes total children points × (total ≤ length (now kinds)) × (total ≤ length (now numbers)) × (total ≤ length (now places)) ⌝ }
     requires { ⌜ allPlaced points (length (now store)) (now kinds) (now places) total 0 ≡ true ⌝ }
-    ensures { λ r. ⌜ r ≡ putAnswer (doneLine (countsIn counts) ++ linesFrom (lineAt children points nan (memoryOf (now (kinds .entry)) (now (numbers .entry)) (now (places .entry)) (now (store .entry)) [])) total 0) (now (out .entry)) ⌝ }
-    ensures { λ _. ⌜ now (out .exit) ≡ putBytes (doneLine (countsIn counts) ++ linesFrom (lineAt children points nan (memoryOf (now (kinds .entry)) (now (numbers .entry)) (now (places .entry)) (now (store .entry)) [])) total 0) (now (out .entry)) ⌝ }
+    ensures { λ r. ⌜ r ≡ putAnswer (listingTo total children points nan (countsIn counts) (memoryOf (now (kinds .entry)) (now (numbers .entry)) (now (places .entry)) (now (store .entry)) [])) (now (out .entry)) ⌝ }
+    ensures { λ _. ⌜ now (out .exit) ≡ putBytes (listingTo total children points nan (countsIn counts) (memoryOf (now (kinds .entry)) (now (numbers .entry)) (now (places .entry)) (now (store .entry)) [])) (now (out .entry)) ⌝ }
 {
     let length = listing_length(counts, total, children, points, kinds);
     if length > out.len() {
@@ -208,6 +208,7 @@ fn write_placed(
     Listing::Bytes(length)
 }
 
+// Whether a cursor is at the end.
 fn at_end(cursor: Cursor) -> bool
     ensures { λ r. ⌜ r ≡ atEnd (cursorIn cursor) ⌝ }
 {

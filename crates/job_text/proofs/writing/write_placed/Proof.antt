@@ -1,7 +1,7 @@
 -- `writing::write_placed` meets its contract, by whether the listing fits.
 use Prim.Native.Nat.{ℕ, _+_, _≤_, _<_}
 use mathlib.Core.Path.{_≡_, sym, _∙_}
-use mathlib.Core.List.{List, [], _++_}
+use mathlib.Core.List.{List, []}
 use native.Mathlib.Omega.{arith}
 use lib.ListN.{length}
 use Rattle.schedule.specs.Schedule.{Memory}
@@ -9,7 +9,7 @@ use Rattle.schedule.specs.Totals.{sumBelow}
 use Rattle.sparse_field.specs.Calls.{memoryOf}
 use Rattle.sparse_field.specs.Records.{countsIn}
 use Rattle.job_text.specs.Lengths.{lengthAt}
-use Rattle.job_text.specs.Listing.{doneLine, linesFrom, lineAt}
+use Rattle.job_text.specs.Listing.{doneLine, listingTo}
 use Rattle.job_text.proofs.ListingLaws.{listing-measured, refused-answer, refused-bytes, accepted-answer}
 use borrow.Author.Needs.{needs}
 use Rattle.job_text.proofs.writing.write_placed.Statement.{statement}
@@ -23,7 +23,7 @@ memory s = let a = s .args in memoryOf (a .kinds .now) (a .numbers .now) (a .pla
 abbrev bytesOf : tie.Start → List ℕ
 bytesOf s =
     let a = s .args in
-    doneLine (countsIn (a .counts)) ++ linesFrom (lineAt (a .children) (a .points) (a .nan) (memory s)) (a .total) 0
+    listingTo (a .total) (a .children) (a .points) (a .nan) (countsIn (a .counts)) (memory s)
 
 measured : (s : tie.Start) → length (bytesOf s)
     ≡ length (doneLine (countsIn (s .args .counts))) + sumBelow (lengthAt (s .args .children) (s .args .points) (s .args .kinds .now)) (s .args .total)
