@@ -5,6 +5,7 @@ use native.Mathlib.Omega.{arith}
 use mathlib.Core.Path.{_≡_, refl, sym, ap, subst, _∙_}
 use mathlib.Core.List.{List, [], _∷_}
 use lib.ListN.{length}
+use borrow.Author.Tests.{le-leb}
 use Rattle.grid.proofs.BlockLaws.{cube-le}
 use Rattle.schedule.specs.Schedule.{Plan, Memory}
 use Rattle.schedule.specs.Totals.{leavesAll, total, evaluationsBound}
@@ -33,13 +34,16 @@ use Rattle.sparse_field.proofs.WholeJob.{recordAfter, job-opened, job-finished,
 use Rattle.sparse_field.proofs.Judgement.{bound-fits}
 use Rattle.forms.specs.Forms.{spell}
 use Rattle.job_text.specs.declared.Job.{Job}
+use Rattle.job_text.specs.declared.Listing.{Listing}
+use Rattle.job_text.specs.declared.Listing.the-variants as listing
 use Rattle.job_text.specs.declared.Reading.{Reading}
 use Rattle.job_text.specs.declared.Judgement.the-variants.{OnForm, OffAt}
 use Rattle.job_text.specs.Lines.{refusedForm, offForm}
-use Rattle.job_text.specs.Reading.{Read, offAt, written, readText, readingOf}
+use Rattle.job_text.specs.Reading.{Read, offAt, written, readText, jobOf, readingOf}
 use Rattle.job_text.specs.NanBits.{jobNan}
 use Rattle.job_text.specs.Listing.{planListing}
-use Rattle.job_text.specs.Written.{written as writtenOf, putListing}
+use Rattle.job_text.specs.Written.{written as writtenOf, putAnswer, putListing}
+use Rattle.job_text.proofs.ListingFits.{listing-fits, refused-fits, off-fits}
 use Rattle.job_text.proofs.PlanListing.{written-plan}
 use Rattle.job_text.specs.Listed.{listedBy, jobListed, readListed, listed, programLengths}
 
@@ -183,3 +187,44 @@ module _ (j : Job) (r : Record) (m : Memory) {opened : Outcome} (lengths : lengt
       ∙ ap (λ x. writtenOf (recordAfter (lengthsOf m) i (total (planOf i))) nan x out) (after-step ∙ ap (λ h. h .memory) last)
       ∙ finished-written i m none nan out
       ∙ ap (λ bs. putListing bs out) (ap (λ x. planListing (planOf i) x) is-nan ∙ sym (accepted-listed j (subst (λ l. sparse .cause l i ≡ 0) lengths none)))
+
+-- ---- what is printed fits the program's bytes
+
+job-fits : (j : Job) → length (jobListed j) ≤ 88176
+unfolding jobListed listedBy
+job-fits j = by (sparse .cause programLengths (j .input)) refl
+  where
+    by : (n : ℕ) → sparse .cause programLengths (j .input) ≡ n → length (listedBy j n) ≤ 88176
+    by zero none = listing-fits (j .input) (jobNan j) none
+    by (suc n) is = omega (arith, refused-fits (suc n))
+
+read-fits : (r : Read) → length (readListed r) ≤ 88176
+unfolding readListed
+read-fits (offAt n) = omega (arith, off-fits n)
+read-fits (written w) = job-fits (jobOf w)
+
+pub listed-fits : (text : List ℕ) → length (listed text) ≤ 88176
+unfolding listed
+listed-fits text = read-fits (readText text)
+
+-- so it is not refused where so many are lent
+module _ (text out : List ℕ) (enough : 88176 ≤ length out) {x : Listing} (answer : x ≡ putAnswer (listed text) out) where
+  whole : putAnswer (listed text) out ≡ listing.Bytes (length (listed text))
+  unfolding putAnswer
+  whole = rw (le-leb (length (listed text)) (length out) (omega (arith, listed-fits text)))
+
+  pub whole-end : (n : ℕ) → x ≡ listing.Bytes n → (n ≡ length (listed text)) × (n ≤ 88176)
+  whole-end n is =
+      let here : listing.Bytes (length (listed text)) ≡ listing.Bytes n = sym whole ∙ sym answer ∙ is in
+      let same : length (listed text) ≡ n = cc in
+      (sym same, omega (arith, listed-fits text))
+
+  pub whole-unrefused : {A : Type 0} (k : ℕ) → x ≡ listing.Refused k → A
+  whole-unrefused k is =
+      let here : listing.Bytes (length (listed text)) ≡ listing.Refused k = sym whole ∙ sym answer ∙ is in
+      let none : _≡_ {A = ℕ} 0 1 = cc in absurd (omega arith)
+
+  pub whole-printed : {A : Type 0} → x ≡ listing.NotPrintable → A
+  whole-printed is =
+      let here : listing.Bytes (length (listed text)) ≡ listing.NotPrintable = sym whole ∙ sym answer ∙ is in
+      let none : _≡_ {A = ℕ} 0 1 = cc in absurd (omega arith)

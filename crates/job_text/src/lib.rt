@@ -12,6 +12,7 @@ mod reader; // reader.rt: a job's text, line by line
 mod writing; // writing.rt: a job's whole listing
 
 pub use list::list_job;
+pub use list::list_whole;
 pub use nan::nan_pattern;
 pub use reader::read_job;
 pub use writing::write_listing;

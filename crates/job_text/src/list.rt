@@ -1,5 +1,7 @@
 // What `fieldlist` prints for a text.
 ghost use mathlib.Core.Path.{_≡_};
+ghost use Prim.Native.Nat.{_≤_};
+ghost use lib.ListN.{length};
 ghost use Rattle.job_text.specs.Listed.{jobListed, listed};
 ghost use Rattle.job_text.specs.Written.{putAnswer, putBytes};
 use crate::Job;
@@ -69,4 +71,17 @@ pub fn list_job(text: &[u8], out: &mut [u8]) -> Listing
         return writing::write_off(line, out);
     }
     list_read(reading.job, out)
+}
+
+// The same into bytes that hold every listing: it cannot be refused.
+pub fn list_whole(text: &[u8], out: &mut [u8]) -> usize
+    requires { ⌜ 88176 ≤ length (now out) ⌝ }
+    ensures { λ r. ⌜ (r ≡ length (listed (now (text .entry)))) × (r ≤ 88176) ⌝ }
+    ensures { λ _. ⌜ now (out .exit) ≡ putBytes (listed (now (text .entry))) (now (out .entry)) ⌝ }
+{
+    match list_job(text, out) {
+        Listing::Bytes(end) => end,
+        Listing::Refused(_) => 0,
+        Listing::NotPrintable => 0,
+    }
 }
