@@ -66,7 +66,8 @@ pub fn call(
     corners: &mut [f64],
 ) -> Held {
     let outcome = handed(word, fields, found, kinds, numbers, places, store, corners);
+    let answer = outcome.answer;
     let next = outcome.next;
-    records::write_record(refusal_of(outcome.answer), next);
+    records::write_record(refusal_of(answer), next);
     with_record(found, next)
 }

@@ -1,6 +1,5 @@
 // The elements of the five slices: poisoned, one of them set, and all written out.
-ghost use mathlib.Core.Path.{_≡_};
-ghost use Prim.Native.Nat.{_<_, _≤_};
+ghost use Prim.Native.Nat.{_+_, _<_, _≤_};
 ghost use lib.ListN.{length};
 use crate::numbers;
 
@@ -107,13 +106,29 @@ pub fn poke(
     poke_float(fields, 4, corners);
 }
 
+fn kind_number(kind: u8) -> u64 {
+    kind as u64
+}
+
+fn place_number(place: u32) -> u64 {
+    place as u64
+}
+
+// How many elements the next line has.
+fn row_of(left: usize) -> usize
+    requires { ⌜ 0 < left ⌝ }
+    ensures { λ r. ⌜ (0 < r) × (r ≤ left) × (r ≤ 160) ⌝ }
+{
+    if left < 160 { left } else { 160 }
+}
+
 // Puts the elements from a place on at the front of the answers.
 fn put_kinds(kinds: &[u8], at: usize, count: usize, answers: &mut [u64; 160])
     requires { ⌜ (count ≤ 160) × (at + count ≤ length (now kinds)) ⌝ }
 {
     let mut i: usize = 0;
     while i < count {
-        answers[i] = kinds[at + i] as u64;
+        answers[i] = kind_number(kinds[at + i]);
         i += 1;
     }
 }
@@ -123,7 +138,7 @@ fn put_places(places: &[u32], at: usize, count: usize, answers: &mut [u64; 160])
 {
     let mut i: usize = 0;
     while i < count {
-        answers[i] = places[at + i] as u64;
+        answers[i] = place_number(places[at + i]);
         i += 1;
     }
 }
@@ -143,7 +158,7 @@ fn write_kinds(kinds: &[u8]) {
     let mut at: usize = 0;
     while at < kinds.len() {
         let mut answers = vectors::zeros();
-        let count = numbers::small(kinds.len() - at, 160);
+        let count = row_of(kinds.len() - at);
         put_kinds(kinds, at, count, &mut answers);
         vectors::write_fields(&answers, count);
         at += count;
@@ -154,7 +169,7 @@ fn write_places(places: &[u32]) {
     let mut at: usize = 0;
     while at < places.len() {
         let mut answers = vectors::zeros();
-        let count = numbers::small(places.len() - at, 160);
+        let count = row_of(places.len() - at);
         put_places(places, at, count, &mut answers);
         vectors::write_fields(&answers, count);
         at += count;
@@ -165,7 +180,7 @@ fn write_floats(values: &[f64]) {
     let mut at: usize = 0;
     while at < values.len() {
         let mut answers = vectors::zeros();
-        let count = numbers::small(values.len() - at, 160);
+        let count = row_of(values.len() - at);
         put_floats(values, at, count, &mut answers);
         vectors::write_fields(&answers, count);
         at += count;

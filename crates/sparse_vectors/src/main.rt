@@ -1,7 +1,5 @@
 // Runs the lists of calls on a sparse field's job that standard input holds, a line each, and writes
 // what each call hands back and what the lent slices then hold.
-ghost use Prim.Native.Nat.{_≤_};
-ghost use lib.ListN.{length};
 
 mod calls; // calls.rt: open, step and drop
 mod elements; // elements.rt: the five slices, poisoned, set and written out
@@ -52,16 +50,13 @@ fn lend(
     places: &mut [u32],
     store: &mut [f64],
     corners: &mut [f64],
-) -> Held
-    requires { ⌜ (1024 ≤ length (now kinds)) × (1024 ≤ length (now numbers)) × (1024 ≤ length (now places)) ⌝ }
-    requires { ⌜ (8192 ≤ length (now store)) × (1024 ≤ length (now corners)) ⌝ }
-{
+) -> Held {
     let lengths = found.lengths;
-    let k = numbers::small(lengths.kinds, 1024);
-    let n = numbers::small(lengths.numbers, 1024);
-    let p = numbers::small(lengths.places, 1024);
-    let s = numbers::small(lengths.store, 8192);
-    let c = numbers::small(lengths.corners, 1024);
+    let k = numbers::small(lengths.kinds, kinds.len());
+    let n = numbers::small(lengths.numbers, numbers.len());
+    let p = numbers::small(lengths.places, places.len());
+    let s = numbers::small(lengths.store, store.len());
+    let c = numbers::small(lengths.corners, corners.len());
     act(
         word,
         fields,
@@ -101,10 +96,7 @@ fn take_line(
     places: &mut [u32],
     store: &mut [f64],
     corners: &mut [f64],
-) -> Held
-    requires { ⌜ (1024 ≤ length (now kinds)) × (1024 ≤ length (now numbers)) × (1024 ≤ length (now places)) ⌝ }
-    requires { ⌜ (8192 ≤ length (now store)) × (1024 ≤ length (now corners)) ⌝ }
-{
+) -> Held {
     let mut fields = vectors::zeros();
     let word = read(line, &mut fields);
     let next = held::after(word, &fields, found);
@@ -118,10 +110,7 @@ fn take_lines(
     places: &mut [u32],
     store: &mut [f64],
     corners: &mut [f64],
-)
-    requires { ⌜ (1024 ≤ length (now kinds)) × (1024 ≤ length (now numbers)) × (1024 ≤ length (now places)) ⌝ }
-    requires { ⌜ (8192 ≤ length (now store)) × (1024 ≤ length (now corners)) ⌝ }
-{
+) {
     let mut held = held::start();
     let mut at = 0;
     while at < text.len() {
