@@ -293,7 +293,7 @@ fn random_forging(random: &mut Random, script: &mut Script) {
 
 /// Jobs with forgings at any places.
 fn random_lists(script: &mut Script, random: &mut Random) {
-    for _ in 0..80 {
+    for _ in 0..60 {
         let input = inputs::random_accepted(random);
         script.lend(longer(&input), random.next());
         for _ in 0..3 {

@@ -233,7 +233,7 @@ fn random_band(random: &mut Random) -> [f64; 2] {
 
 /// A grid with few children, and any model and band.
 fn random_input(random: &mut Random) -> Input {
-    let inner = if random.below(8) == 0 { 4 } else { 2 };
+    let inner = if random.below(16) == 0 { 4 } else { 2 };
     let leaf = if random.below(5) == 0 { 4 } else { 2 };
     let cell = random.pick(&[1.0, 0.5, 0.1, 3.0, 1.0 / 3.0]);
     let step = cell * f64::from(leaf - 1);

@@ -59,7 +59,7 @@ fn budgets(script: &mut Script) {
 fn large_then_small(script: &mut Script) {
     let (large, small) = (inputs::large(), inputs::scope_case());
     let room = both(exact(&large), exact(&small));
-    for (seed, (first, with_drop)) in [(MOST, false), (MOST, true), (70, false), (200, true)]
+    for (seed, (first, with_drop)) in [(MOST, false), (MOST, true), (30, false), (100, true)]
         .into_iter()
         .enumerate()
     {
@@ -71,8 +71,6 @@ fn large_then_small(script: &mut Script) {
             script.dump();
         }
         script.open(&small);
-        script.dump();
-        script.step(40);
         script.dump();
         script.step(MOST);
         script.dump();
@@ -118,7 +116,7 @@ fn refused_opens(script: &mut Script) {
     script.open(&inputs::large());
     script.step(MOST);
     script.dump();
-    for k in [0, 20, 10, 29] {
+    for k in [0, 20, 30] {
         script.open(&input);
         script.step(k);
         for bad in inputs::refused() {
@@ -190,7 +188,7 @@ fn grids(script: &mut Script) {
         inputs::of_grid([0.0; 3], [0.0; 3], 1.0, 2, 8),
         inputs::of_grid([-1.0; 3], [-1.0; 3], 1.0, 4, 4),
     ] {
-        for band in [inputs::ALL, inputs::NONE, [-0.25, 0.0], [1.0, -1.0], [-0.0, 0.0]] {
+        for band in [inputs::ALL, inputs::NONE, [-0.25, 0.0], [1.0, -1.0]] {
             run(script, &with_band(input.clone(), band), 9);
         }
     }

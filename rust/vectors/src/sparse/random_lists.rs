@@ -5,7 +5,7 @@ use super::script::Script;
 use crate::random::Random;
 use ledger::{Input, Lengths};
 
-const LISTS: usize = 220;
+const LISTS: usize = 200;
 
 pub fn lists(script: &mut Script) {
     let mut random = Random::new(6);
