@@ -1,6 +1,4 @@
 // The calls on the job.
-use crate::held::Held;
-use crate::held::with_record;
 use crate::numbers;
 use crate::records;
 use crate::words;
@@ -11,8 +9,7 @@ use sparse_field::Outcome;
 use sparse_field::Record;
 
 // The input of an open: GRID MIN MAX COUNT, and the parts that the list holds.
-fn input_of(fields: &[u64; 160], found: Held) -> Input {
-    let model = found.model;
+pub fn input_of(fields: &[u64; 160], model: ImplicitModel) -> Input {
     let parts = model.parts;
     Input {
         grid: numbers::grid_of(fields),
@@ -24,26 +21,40 @@ fn input_of(fields: &[u64; 160], found: Held) -> Input {
     }
 }
 
-// What the call that a word names hands back.
-fn handed(
-    word: u64,
-    fields: &[u64; 160],
-    found: Held,
+// The three calls, without what is proved of them.
+fn opened(
+    found: Record,
+    input: Input,
     kinds: &mut [u8],
     numbers: &mut [f64],
     places: &mut [u32],
     store: &mut [f64],
     corners: &mut [f64],
 ) -> Outcome {
-    let record = found.record;
-    if word == words::STEP {
-        return sparse_field::step(record, fields[0], kinds, numbers, places, store, corners);
-    }
-    if word == words::DROP {
-        return sparse_field::drop(record, kinds, numbers, places, store, corners);
-    }
-    let input = input_of(fields, found);
-    sparse_field::open(record, input, kinds, numbers, places, store, corners)
+    sparse_field::open(found, input, kinds, numbers, places, store, corners)
+}
+
+fn stepped(
+    found: Record,
+    budget: u64,
+    kinds: &mut [u8],
+    numbers: &mut [f64],
+    places: &mut [u32],
+    store: &mut [f64],
+    corners: &mut [f64],
+) -> Outcome {
+    sparse_field::step(found, budget, kinds, numbers, places, store, corners)
+}
+
+fn dropped(
+    found: Record,
+    kinds: &mut [u8],
+    numbers: &mut [f64],
+    places: &mut [u32],
+    store: &mut [f64],
+    corners: &mut [f64],
+) -> Outcome {
+    sparse_field::drop(found, kinds, numbers, places, store, corners)
 }
 
 // The number of a refusal, or 0.
@@ -54,20 +65,31 @@ fn refusal_of(answer: Answer) -> u64 {
     }
 }
 
-// Makes a call, writes what it handed back, and keeps its record.
+// Writes what a call handed back, and gives its record.
+fn written(outcome: Outcome) -> Record {
+    let answer = outcome.answer;
+    let next = outcome.next;
+    records::write_record(refusal_of(answer), next);
+    next
+}
+
+// Makes the call that a word names, writes what it hands back, and gives its record.
 pub fn call(
     word: u64,
-    fields: &[u64; 160],
-    found: Held,
+    budget: u64,
+    found: Record,
+    input: Input,
     kinds: &mut [u8],
     numbers: &mut [f64],
     places: &mut [u32],
     store: &mut [f64],
     corners: &mut [f64],
-) -> Held {
-    let outcome = handed(word, fields, found, kinds, numbers, places, store, corners);
-    let answer = outcome.answer;
-    let next = outcome.next;
-    records::write_record(refusal_of(answer), next);
-    with_record(found, next)
+) -> Record {
+    if word == words::STEP {
+        return written(stepped(found, budget, kinds, numbers, places, store, corners));
+    }
+    if word == words::DROP {
+        return written(dropped(found, kinds, numbers, places, store, corners));
+    }
+    written(opened(found, input, kinds, numbers, places, store, corners))
 }

@@ -35,7 +35,19 @@ fn act(
         return found;
     }
     if words::is_call(word) {
-        return calls::call(word, fields, found, kinds, numbers, places, store, corners);
+        let input = calls::input_of(fields, found.model);
+        let next = calls::call(
+            word,
+            fields[0],
+            found.record,
+            input,
+            kinds,
+            numbers,
+            places,
+            store,
+            corners,
+        );
+        return held::with_record(found, next);
     }
     found
 }
