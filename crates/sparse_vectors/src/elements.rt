@@ -85,7 +85,7 @@ fn poke_float(fields: &[u64; 160], slice: u64, values: &mut [f64]) {
     let at = numbers::place(fields[1]);
     if fields[0] == slice {
         if at < values.len() {
-            values[at] = numbers::number(fields, 2);
+            values[at] = float::from_bits(fields[2]);
         }
     }
 }

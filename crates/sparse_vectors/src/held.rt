@@ -1,96 +1,81 @@
-// What a list holds beside the slices: the record, how much is lent, and the parts of the next open.
-ghost use Prim.Native.Nat.{_≤_};
-use crate::numbers;
-use crate::records;
-use crate::words;
-use grid::Lengths;
-use model::ImplicitModel;
-use model::ModelComponent;
-use model::Part;
-use sparse_field::Record;
+// What a list holds beside the slices, as numbers: the record, the input of the next open, and how much of
+// each slice is lent. An input is GRID MIN MAX COUNT, 12 numbers, and five numbers for each of 64 parts.
+ghost use Prim.Native.Nat.{_+_, _≤_};
 
-pub struct Held {
-    pub record: Record,
-    pub lengths: Lengths,
-    pub model: ImplicitModel,
+// Where the record's flag stands, its input, its lengths, its counts and its cursor (a kind and three
+// numbers).
+pub const JOB: usize = 0;
+
+pub const INPUT: usize = 1;
+
+pub const LENGTHS: usize = 333;
+
+pub const COUNTS: usize = 338;
+
+pub const CURSOR: usize = 343;
+
+// Where the next input stands, and the lengths that are lent.
+pub const NEXT: usize = 347;
+
+pub const LENT: usize = 679;
+
+// What is held before the first list.
+pub fn start() -> [u64; 684] {
+    [0; 684]
 }
 
-// A model whose parts are all the same.
-pub fn model_of(part: Part, count: u32) -> ImplicitModel {
-    let one = ModelComponent { part };
-    ImplicitModel {
-        parts: [one; 64],
-        count,
-    }
-}
-
-// What is held before the first list: nothing is lent.
-pub fn start() -> Held {
-    let fields = vectors::zeros();
-    lent(&fields)
-}
-
-// `lend KINDS NUMBERS PLACES STORE CORNERS SEED`: a new list.
-fn lent(fields: &[u64; 160]) -> Held {
-    Held {
-        record: records::poisoned(fields[5]),
-        lengths: Lengths {
-            kinds: numbers::small(numbers::place(fields[0]), 1024),
-            numbers: numbers::small(numbers::place(fields[1]), 1024),
-            places: numbers::small(numbers::place(fields[2]), 1024),
-            store: numbers::small(numbers::place(fields[3]), 8192),
-            corners: numbers::small(numbers::place(fields[4]), 1024),
-        },
-        model: model_of(Part::Constant(0.0), 0),
+// Copies so many numbers of a line to a place.
+fn copy(fields: &[u64; 160], from: usize, count: usize, held: &mut [u64; 684], at: usize)
+    requires { ⌜ (from + count ≤ 160) × (at + count ≤ 684) ⌝ }
+{
+    let mut i: usize = 0;
+    while i < count {
+        held[at + i] = fields[from + i];
+        i += 1;
     }
 }
 
-// `parts PLACE PART ..`: the parts of the next open from a place on. A part is five numbers; 31 are read.
-fn with_parts(fields: &[u64; 160], found: Held) -> Held {
-    let model = found.model;
-    let mut parts = model.parts;
-    let from = numbers::small(numbers::place(fields[0]), 64);
-    let mut p: usize = 0;
-    while p < 31 {
-        let at = from + p;
-        if at < 64 {
-            parts[at] = numbers::component_at(fields, 1 + 5 * p);
-        }
-        p += 1;
-    }
-    let record = found.record;
-    let lengths = found.lengths;
-    Held {
-        record,
-        lengths,
-        model: ImplicitModel { parts, count: 0 },
+// Sets every number of the record and of the next input to the same one.
+fn set_all(held: &mut [u64; 684], to: usize, number: u64)
+    requires { ⌜ to ≤ 684 ⌝ }
+{
+    let mut i: usize = 0;
+    while i < to {
+        held[i] = number;
+        i += 1;
     }
 }
 
-// The same with another record.
-pub fn with_record(found: Held, record: Record) -> Held {
-    let lengths = found.lengths;
-    let model = found.model;
-    Held {
-        record,
-        lengths,
-        model,
-    }
+// `lend KINDS NUMBERS PLACES STORE CORNERS SEED`: a new list, with a record that has no job and the seed in
+// every other field.
+pub fn lend(fields: &[u64; 160], held: &mut [u64; 684]) {
+    set_all(held, LENT, fields[5]);
+    held[JOB] = 0;
+    copy(fields, 0, 5, held, LENT);
 }
 
-// What is held after a line, as far as it has nothing to do with the slices.
-pub fn after(word: u64, fields: &[u64; 160], found: Held) -> Held {
-    if word == words::LEND {
-        return lent(fields);
+// The first of 31 parts that a line sets: 33 at most.
+fn first_part(place: u64) -> usize
+    ensures { λ r. ⌜ r ≤ 33 ⌝ }
+{
+    if place < 33 { place as usize } else { 33 }
+}
+
+// `parts PLACE PART ..`: 31 parts of the next input from a place on. Those not given are constants of 0.
+pub fn set_parts(fields: &[u64; 160], held: &mut [u64; 684]) {
+    let place = first_part(fields[0]);
+    copy(fields, 1, 155, held, NEXT + 12 + 5 * place);
+}
+
+// `open GRID MIN MAX COUNT`: the other numbers of the next input.
+pub fn set_input(fields: &[u64; 160], held: &mut [u64; 684]) {
+    copy(fields, 0, 12, held, NEXT);
+}
+
+// `forge FIELD VALUE`: one number of the record.
+pub fn forge(fields: &[u64; 160], held: &mut [u64; 684]) {
+    if fields[0] < 347 {
+        let field = fields[0] as usize;
+        held[field] = fields[1];
     }
-    if word == words::PARTS {
-        return with_parts(fields, found);
-    }
-    if word == words::FORGE {
-        return with_record(found, records::forged(fields, found.record, found.model));
-    }
-    if word == words::CURSOR {
-        return with_record(found, records::with_cursor(fields, found.record));
-    }
-    found
 }

@@ -1,78 +1,89 @@
 // Runs the lists of calls on a sparse field's job that standard input holds, a line each, and writes
 // what each call hands back and what the lent slices then hold.
+ghost use Prim.Native.Nat.{_<_, _≤_};
 
 mod calls; // calls.rt: open, step and drop
 mod elements; // elements.rt: the five slices, poisoned, set and written out
-mod held; // held.rt: what a list holds beside the slices
-mod numbers; // numbers.rt: what the numbers of a line stand for
-mod records; // records.rt: records, made and set
+mod held; // held.rt: what a list holds beside the slices, as numbers
+mod numbers; // numbers.rt: numbers of several widths, and parts
+mod records; // records.rt: records and inputs, from and to numbers
 mod words; // words.rt: the words of the lines
-
-use held::Held;
 
 // What a line does with the slices that are lent.
 fn act(
     word: u64,
     fields: &[u64; 160],
-    found: Held,
+    held: &mut [u64; 684],
     kinds: &mut [u8],
     numbers: &mut [f64],
     places: &mut [u32],
     store: &mut [f64],
     corners: &mut [f64],
-) -> Held {
+) {
     if word == words::LEND {
         elements::poison(fields[5], kinds, numbers, places, store, corners);
-        return found;
+        return;
     }
     if word == words::POKE {
         elements::poke(fields, kinds, numbers, places, store, corners);
-        return found;
+        return;
     }
     if word == words::DUMP {
-        records::write_opened(found.record);
+        write_opened(held);
         elements::dump(kinds, numbers, places, store, corners);
-        return found;
+        return;
     }
     if words::is_call(word) {
-        let input = calls::input_of(fields, found.model);
-        let next = calls::call(
+        calls::call(
             word,
             fields[0],
-            found.record,
-            input,
+            held,
             kinds,
             numbers,
             places,
             store,
             corners,
         );
-        return held::with_record(found, next);
     }
-    found
+}
+
+// Writes what the record says that its job was opened with: grid, band, count of parts, lengths.
+fn write_opened(held: &[u64; 684]) {
+    let mut answers = vectors::zeros();
+    calls::put_held(held, held::INPUT, 12, &mut answers, 0);
+    calls::put_held(held, held::LENGTHS, 5, &mut answers, 12);
+    vectors::write_fields(&answers, 17);
+}
+
+// So many elements as the list says, or all where there are no more.
+fn lent(held: &[u64; 684], slice: usize, most: usize) -> usize
+    requires { ⌜ slice < 5 ⌝ }
+    ensures { λ r. ⌜ r ≤ most ⌝ }
+{
+    let length = numbers::place(held[held::LENT + slice]);
+    if length < most { length } else { most }
 }
 
 // Lends so much of each array as the list says.
 fn lend(
     word: u64,
     fields: &[u64; 160],
-    found: Held,
+    held: &mut [u64; 684],
     kinds: &mut [u8],
     numbers: &mut [f64],
     places: &mut [u32],
     store: &mut [f64],
     corners: &mut [f64],
-) -> Held {
-    let lengths = found.lengths;
-    let k = numbers::small(lengths.kinds, kinds.len());
-    let n = numbers::small(lengths.numbers, numbers.len());
-    let p = numbers::small(lengths.places, places.len());
-    let s = numbers::small(lengths.store, store.len());
-    let c = numbers::small(lengths.corners, corners.len());
+) {
+    let k = lent(held, 0, kinds.len());
+    let n = lent(held, 1, numbers.len());
+    let p = lent(held, 2, places.len());
+    let s = lent(held, 3, store.len());
+    let c = lent(held, 4, corners.len());
     act(
         word,
         fields,
-        found,
+        held,
         &mut kinds[..k],
         &mut numbers[..n],
         &mut places[..p],
@@ -99,35 +110,53 @@ fn read(line: &[u8], fields: &mut [u64; 160]) -> u64 {
     0
 }
 
-// What the list holds after a line.
-fn take_line(
-    line: &[u8],
-    found: Held,
-    kinds: &mut [u8],
-    numbers: &mut [f64],
-    places: &mut [u32],
-    store: &mut [f64],
-    corners: &mut [f64],
-) -> Held {
-    let mut fields = vectors::zeros();
-    let word = read(line, &mut fields);
-    let next = held::after(word, &fields, found);
-    lend(word, &fields, next, kinds, numbers, places, store, corners)
+// What a line does with the numbers that are held, before it has to do with the slices.
+fn prepare(word: u64, fields: &[u64; 160], held: &mut [u64; 684]) {
+    if word == words::LEND {
+        held::lend(fields, held);
+        return;
+    }
+    if word == words::PARTS {
+        held::set_parts(fields, held);
+        return;
+    }
+    if word == words::OPEN {
+        held::set_input(fields, held);
+        return;
+    }
+    if word == words::FORGE {
+        held::forge(fields, held);
+    }
 }
 
-fn take_lines(
-    text: &[u8],
+fn take_line(
+    line: &[u8],
+    held: &mut [u64; 684],
     kinds: &mut [u8],
     numbers: &mut [f64],
     places: &mut [u32],
     store: &mut [f64],
     corners: &mut [f64],
 ) {
-    let mut held = held::start();
+    let mut fields = vectors::zeros();
+    let word = read(line, &mut fields);
+    prepare(word, &fields, held);
+    lend(word, &fields, held, kinds, numbers, places, store, corners)
+}
+
+fn take_lines(
+    text: &[u8],
+    held: &mut [u64; 684],
+    kinds: &mut [u8],
+    numbers: &mut [f64],
+    places: &mut [u32],
+    store: &mut [f64],
+    corners: &mut [f64],
+) {
     let mut at = 0;
     while at < text.len() {
         let end = vectors::line_end(text, at);
-        held = take_line(&text[at..end], held, kinds, numbers, places, store, corners);
+        take_line(&text[at..end], held, kinds, numbers, places, store, corners);
         at = end;
     }
 }
@@ -139,6 +168,7 @@ fn room() -> [u8; 1048576] {
 
 fn main() {
     let mut text = room();
+    let mut held = held::start();
     let mut kinds = [0u8; 1024];
     let mut numbers = [0.0; 1024];
     let mut places = [0u32; 1024];
@@ -147,6 +177,7 @@ fn main() {
     let n = io::read_full(0, &mut text);
     take_lines(
         &text[..n],
+        &mut held,
         &mut kinds,
         &mut numbers,
         &mut places,

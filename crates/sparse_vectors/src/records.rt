@@ -1,266 +1,174 @@
-// Records: poisoned, with one field set, and the numbers that an answer has of them.
-ghost use Prim.Native.Nat.{_+_, _<_, _≤_};
-use crate::held::model_of;
+// Records and inputs, from and to the numbers that a list holds.
+ghost use Prim.Native.Nat.{_+_, _≤_};
+use crate::held::COUNTS;
+use crate::held::CURSOR;
+use crate::held::INPUT;
+use crate::held::JOB;
+use crate::held::LENGTHS;
 use crate::numbers;
 use geometry::BoundingBox;
-use geometry::Vec3;
 use grid::Band;
 use grid::Grid;
 use grid::Lengths;
 use model::ImplicitModel;
+use model::ModelComponent;
 use model::Part;
 use sparse_field::Counts;
 use sparse_field::Cursor;
 use sparse_field::Input;
 use sparse_field::Record;
 
-// A record without a job whose other fields belong to no job.
-pub fn poisoned(seed: u64) -> Record {
-    let x = float::from_bits(seed);
-    let point = Vec3::new(x, x, x);
-    let grid = Grid {
-        bounds: BoundingBox::new(point, point),
-        cell: x,
-        inner: numbers::short(seed),
-        leaf: 3,
-    };
-    let at = numbers::place(seed);
-    let input = Input {
-        grid,
-        band: Band { min: x, max: x },
-        model: model_of(Part::Neg(70), 65),
-    };
-    Record {
-        job: false,
-        input,
-        lengths: Lengths {
-            kinds: at,
-            numbers: at,
-            places: at,
-            store: at,
-            corners: at,
-        },
-        counts: Counts {
-            nodes: seed,
-            active: seed,
-            leaves: seed,
-            sampled: seed,
-            evaluations: seed,
-        },
-        cursor: Cursor::Point(at, at, at),
-    }
-}
-
-// The number given where the first field names this one, else the number as it was.
-fn chosen(fields: &[u64; 160], name: u64, before: u64) -> u64 {
-    if fields[0] == name { fields[1] } else { before }
-}
-
-fn chosen_float(fields: &[u64; 160], name: u64, before: f64) -> f64 {
-    if fields[0] == name {
-        numbers::number(fields, 1)
-    } else {
-        before
-    }
-}
-
-fn chosen_short(fields: &[u64; 160], name: u64, before: u32) -> u32 {
-    if fields[0] == name {
-        numbers::short(fields[1])
-    } else {
-        before
-    }
-}
-
-fn chosen_place(fields: &[u64; 160], name: u64, before: usize) -> usize {
-    if fields[0] == name {
-        numbers::place(fields[1])
-    } else {
-        before
-    }
-}
-
-// Fields 1 to 3 or 4 to 6, from the first one's name on.
-fn forged_point(fields: &[u64; 160], name: u64, p: Vec3) -> Vec3
-    requires { ⌜ name ≤ 100 ⌝ }
+fn grid_at(held: &[u64; 684], at: usize) -> Grid
+    requires { ⌜ at + 9 ≤ 684 ⌝ }
 {
-    Vec3::new(
-        chosen_float(fields, name, p.x),
-        chosen_float(fields, name + 1, p.y),
-        chosen_float(fields, name + 2, p.z),
-    )
-}
-
-// Fields 1 to 9.
-fn forged_grid(fields: &[u64; 160], g: Grid) -> Grid {
-    let bounds = g.bounds;
     Grid {
-        bounds: BoundingBox::new(
-            forged_point(fields, 1, bounds.min),
-            forged_point(fields, 4, bounds.max),
-        ),
-        cell: chosen_float(fields, 7, g.cell),
-        inner: chosen_short(fields, 8, g.inner),
-        leaf: chosen_short(fields, 9, g.leaf),
+        bounds: BoundingBox::new(numbers::vector(held, at), numbers::vector(held, at + 3)),
+        cell: numbers::number(held, at + 6),
+        inner: numbers::short(held[at + 7]),
+        leaf: numbers::short(held[at + 8]),
     }
 }
 
-// Fields 10 and 11.
-fn forged_band(fields: &[u64; 160], band: Band) -> Band {
-    Band {
-        min: chosen_float(fields, 10, band.min),
-        max: chosen_float(fields, 11, band.max),
-    }
-}
-
-// Field 12, the count of parts; field 23 sets all parts to those of the next open.
-fn forged_model(fields: &[u64; 160], model: ImplicitModel, next: ImplicitModel) -> ImplicitModel {
-    let count = chosen_short(fields, 12, model.count);
-    let parts = if fields[0] == 23 {
-        next.parts
-    } else {
-        model.parts
+// So many of 64 parts, five numbers each.
+fn model_at(held: &[u64; 684], at: usize, count: u32) -> ImplicitModel
+    requires { ⌜ at + 320 ≤ 684 ⌝ }
+{
+    let none = ModelComponent {
+        part: Part::Constant(0.0),
     };
+    let mut parts = [none; 64];
+    let mut p: usize = 0;
+    while p < 64 {
+        let part = numbers::part_at(held, at + 5 * p);
+        parts[p] = ModelComponent { part };
+        p += 1;
+    }
     ImplicitModel { parts, count }
 }
 
-// Fields 13 to 17.
-fn forged_lengths(fields: &[u64; 160], lengths: Lengths) -> Lengths {
+// The input whose numbers begin at a place.
+pub fn input_at(held: &[u64; 684], at: usize) -> Input
+    requires { ⌜ at + 332 ≤ 684 ⌝ }
+{
+    Input {
+        grid: grid_at(held, at),
+        band: Band {
+            min: numbers::number(held, at + 9),
+            max: numbers::number(held, at + 10),
+        },
+        model: model_at(held, at + 12, numbers::short(held[at + 11])),
+    }
+}
+
+fn lengths_in(held: &[u64; 684]) -> Lengths {
     Lengths {
-        kinds: chosen_place(fields, 13, lengths.kinds),
-        numbers: chosen_place(fields, 14, lengths.numbers),
-        places: chosen_place(fields, 15, lengths.places),
-        store: chosen_place(fields, 16, lengths.store),
-        corners: chosen_place(fields, 17, lengths.corners),
+        kinds: numbers::place(held[LENGTHS]),
+        numbers: numbers::place(held[LENGTHS + 1]),
+        places: numbers::place(held[LENGTHS + 2]),
+        store: numbers::place(held[LENGTHS + 3]),
+        corners: numbers::place(held[LENGTHS + 4]),
     }
 }
 
-// Fields 18 to 22.
-fn forged_counts(fields: &[u64; 160], counts: Counts) -> Counts {
+fn counts_in(held: &[u64; 684]) -> Counts {
     Counts {
-        nodes: chosen(fields, 18, counts.nodes),
-        active: chosen(fields, 19, counts.active),
-        leaves: chosen(fields, 20, counts.leaves),
-        sampled: chosen(fields, 21, counts.sampled),
-        evaluations: chosen(fields, 22, counts.evaluations),
+        nodes: held[COUNTS],
+        active: held[COUNTS + 1],
+        leaves: held[COUNTS + 2],
+        sampled: held[COUNTS + 3],
+        evaluations: held[COUNTS + 4],
     }
 }
 
-// `forge FIELD VALUE`: one field of the record set. Field 0 is the flag.
-pub fn forged(fields: &[u64; 160], found: Record, next: ImplicitModel) -> Record {
-    let before = found.input;
-    let cursor = found.cursor;
-    let input = Input {
-        grid: forged_grid(fields, before.grid),
-        band: forged_band(fields, before.band),
-        model: forged_model(fields, before.model, next),
-    };
-    Record {
-        job: chosen(fields, 0, numbers::flag(found.job)) != 0,
-        input,
-        lengths: forged_lengths(fields, found.lengths),
-        counts: forged_counts(fields, found.counts),
-        cursor,
-    }
-}
-
-// The cursor of a kind: 0 the end, 1 a corner, 2 a point.
-fn cursor_of(kind: u64, a: usize, b: usize, c: usize) -> Cursor {
-    if kind == 0 {
+// The cursor: 0 is the end, 1 a corner, any other kind a point.
+fn cursor_in(held: &[u64; 684]) -> Cursor {
+    let a = numbers::place(held[CURSOR + 1]);
+    let b = numbers::place(held[CURSOR + 2]);
+    if held[CURSOR] == 0 {
         return Cursor::End;
     }
-    if kind == 1 {
+    if held[CURSOR] == 1 {
         return Cursor::Corner(a, b);
     }
-    Cursor::Point(a, b, c)
+    Cursor::Point(a, b, numbers::place(held[CURSOR + 3]))
 }
 
-// `cursor KIND A B C`: the record's cursor set.
-pub fn with_cursor(fields: &[u64; 160], found: Record) -> Record {
-    let input = found.input;
-    let lengths = found.lengths;
-    let counts = found.counts;
+pub fn record_in(held: &[u64; 684]) -> Record {
     Record {
-        job: found.job,
-        input,
-        lengths,
-        counts,
-        cursor: cursor_of(
-            fields[0],
-            numbers::place(fields[1]),
-            numbers::place(fields[2]),
-            numbers::place(fields[3]),
-        ),
+        job: held[JOB] != 0,
+        input: input_at(held, INPUT),
+        lengths: lengths_in(held),
+        counts: counts_in(held),
+        cursor: cursor_in(held),
     }
 }
 
-// Puts a kind and three numbers from answer 8 on.
-fn put_kind(kind: u64, a: usize, b: usize, c: usize, answers: &mut [u64; 160]) {
-    answers[8] = kind;
-    answers[9] = numbers::wide(a);
-    answers[10] = numbers::wide(b);
-    answers[11] = numbers::wide(c);
+fn put_grid(g: Grid, held: &mut [u64; 684]) {
+    let bounds = g.bounds;
+    numbers::put_vector(bounds.min, held, INPUT);
+    numbers::put_vector(bounds.max, held, INPUT + 3);
+    held[INPUT + 6] = float::to_bits(g.cell);
+    held[INPUT + 7] = g.inner as u64;
+    held[INPUT + 8] = g.leaf as u64;
 }
 
-// Puts whether the cursor is at the end, and the cursor.
-fn put_cursor(cursor: Cursor, answers: &mut [u64; 160]) {
-    match cursor {
-        Cursor::End => {
-            answers[7] = 1;
-        }
-        Cursor::Corner(a, b) => put_kind(1, a, b, 0, answers),
-        Cursor::Point(a, b, c) => put_kind(2, a, b, c, answers),
+fn put_parts(parts: [ModelComponent; 64], held: &mut [u64; 684]) {
+    let mut p: usize = 0;
+    while p < 64 {
+        let component = parts[p];
+        let part = component.part;
+        numbers::put_part(part, held, INPUT + 12 + 5 * p);
+        p += 1;
     }
 }
 
-// Writes what a call handed back: the refusal's number or 0, the flag, the counts, and the cursor.
-pub fn write_record(refusal: u64, record: Record) {
-    let counts = record.counts;
-    let cursor = record.cursor;
-    let mut answers = vectors::zeros();
-    answers[0] = refusal;
-    answers[1] = numbers::flag(record.job);
-    answers[2] = counts.nodes;
-    answers[3] = counts.active;
-    answers[4] = counts.leaves;
-    answers[5] = counts.sampled;
-    answers[6] = counts.evaluations;
-    put_cursor(cursor, &mut answers);
-    vectors::write_fields(&answers, 12);
-}
-
-fn put_point(p: Vec3, at: usize, answers: &mut [u64; 160])
-    requires { ⌜ at + 3 ≤ 160 ⌝ }
-{
-    answers[at] = float::to_bits(p.x);
-    answers[at + 1] = float::to_bits(p.y);
-    answers[at + 2] = float::to_bits(p.z);
-}
-
-fn put_lengths(lengths: Lengths, answers: &mut [u64; 160]) {
-    answers[12] = numbers::wide(lengths.kinds);
-    answers[13] = numbers::wide(lengths.numbers);
-    answers[14] = numbers::wide(lengths.places);
-    answers[15] = numbers::wide(lengths.store);
-    answers[16] = numbers::wide(lengths.corners);
-}
-
-// Writes what a record says that its job was opened with: grid, band, count of parts, lengths.
-pub fn write_opened(record: Record) {
-    let input = record.input;
-    let grid = input.grid;
-    let bounds = grid.bounds;
+fn put_input(input: Input, held: &mut [u64; 684]) {
     let band = input.band;
     let model = input.model;
-    let mut answers = vectors::zeros();
-    put_point(bounds.min, 0, &mut answers);
-    put_point(bounds.max, 3, &mut answers);
-    answers[6] = float::to_bits(grid.cell);
-    answers[7] = grid.inner as u64;
-    answers[8] = grid.leaf as u64;
-    answers[9] = float::to_bits(band.min);
-    answers[10] = float::to_bits(band.max);
-    answers[11] = model.count as u64;
-    put_lengths(record.lengths, &mut answers);
-    vectors::write_fields(&answers, 17);
+    let parts = model.parts;
+    put_grid(input.grid, held);
+    held[INPUT + 9] = float::to_bits(band.min);
+    held[INPUT + 10] = float::to_bits(band.max);
+    held[INPUT + 11] = model.count as u64;
+    put_parts(parts, held);
+}
+
+fn put_lengths(lengths: Lengths, held: &mut [u64; 684]) {
+    held[LENGTHS] = numbers::wide(lengths.kinds);
+    held[LENGTHS + 1] = numbers::wide(lengths.numbers);
+    held[LENGTHS + 2] = numbers::wide(lengths.places);
+    held[LENGTHS + 3] = numbers::wide(lengths.store);
+    held[LENGTHS + 4] = numbers::wide(lengths.corners);
+}
+
+fn put_counts(counts: Counts, held: &mut [u64; 684]) {
+    held[COUNTS] = counts.nodes;
+    held[COUNTS + 1] = counts.active;
+    held[COUNTS + 2] = counts.leaves;
+    held[COUNTS + 3] = counts.sampled;
+    held[COUNTS + 4] = counts.evaluations;
+}
+
+fn put_site(kind: u64, a: usize, b: usize, c: usize, held: &mut [u64; 684]) {
+    held[CURSOR] = kind;
+    held[CURSOR + 1] = numbers::wide(a);
+    held[CURSOR + 2] = numbers::wide(b);
+    held[CURSOR + 3] = numbers::wide(c);
+}
+
+fn put_cursor(cursor: Cursor, held: &mut [u64; 684]) {
+    match cursor {
+        Cursor::End => put_site(0, 0, 0, 0, held),
+        Cursor::Corner(a, b) => put_site(1, a, b, 0, held),
+        Cursor::Point(a, b, c) => put_site(2, a, b, c, held),
+    }
+}
+
+pub fn put_record(record: Record, held: &mut [u64; 684]) {
+    let cursor = record.cursor;
+    held[JOB] = if record.job { 1 } else { 0 };
+    put_input(record.input, held);
+    put_lengths(record.lengths, held);
+    put_counts(record.counts, held);
+    put_cursor(cursor, held);
 }

@@ -12,8 +12,6 @@ pub const DROP: u64 = 0x6472_6f70;
 
 pub const FORGE: u64 = 0x0066_6f72_6765;
 
-pub const CURSOR: u64 = 0x6375_7273_6f72;
-
 pub const POKE: u64 = 0x706f_6b65;
 
 pub const DUMP: u64 = 0x6475_6d70;
@@ -47,9 +45,6 @@ fn numbers_of(word: u64) -> usize {
     }
     if word == FORGE {
         return 2;
-    }
-    if word == CURSOR {
-        return 4;
     }
     if word == POKE {
         return 3;

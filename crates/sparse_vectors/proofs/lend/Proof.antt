@@ -6,20 +6,20 @@ use borrow.Author.Needs.{needs}
 use Rattle.sparse_vectors.proofs.lend.Statement.{statement}
 use Rattle.sparse_vectors.proofs.lend.Tie as tie
 
-small-requires : tie.Need-small-requires
-small-requires c κs = search needs
+lent-requires : tie.Need-lent-requires
+lent-requires c κs = search needs
 
-small-requires-2 : tie.Need-small-requires-2
-small-requires-2 c κs = search needs
+lent-requires-2 : tie.Need-lent-requires-2
+lent-requires-2 c κs = search needs
 
-small-requires-3 : tie.Need-small-requires-3
-small-requires-3 c κs = search needs
+lent-requires-3 : tie.Need-lent-requires-3
+lent-requires-3 c κs = search needs
 
-small-requires-4 : tie.Need-small-requires-4
-small-requires-4 c κs = search needs
+lent-requires-4 : tie.Need-lent-requires-4
+lent-requires-4 c κs = search needs
 
-small-requires-5 : tie.Need-small-requires-5
-small-requires-5 c κs = search needs
+lent-requires-5 : tie.Need-lent-requires-5
+lent-requires-5 c κs = search needs
 
 slice-relend-prefix-act : tie.Need-slice-relend-prefix-act
 slice-relend-prefix-act c = search needs
@@ -76,11 +76,11 @@ pub lend-spec : {M : Type 1} → statement M
 lend-spec =
     tie.close
     (tie.spec
-    small-requires
-    small-requires-2
-    small-requires-3
-    small-requires-4
-    small-requires-5
+    lent-requires
+    lent-requires-2
+    lent-requires-3
+    lent-requires-4
+    lent-requires-5
     slice-relend-prefix-act
     slice-aggregate-act
     slice-relend-prefix-act-2

@@ -7,15 +7,12 @@ use Rattle.sparse_vectors.proofs.take_lines.Statement.{statement}
 use Rattle.sparse_vectors.proofs.take_lines.Tie as tie
 
 abbrev Inv-loop : tie.InvT-loop
-Inv-loop text kinds₀ numbers₀ places₀ store₀ corners₀ held₀ at₀ kinds numbers places store corners held at =
+Inv-loop text held₀ kinds₀ numbers₀ places₀ store₀ corners₀ at₀ held kinds numbers places store corners at =
     (at ≤ length text) × (length kinds ≡ length kinds₀) × (length numbers ≡ length numbers₀) × (length places ≡ length places₀) × (length store ≡ length store₀) × (length corners ≡ length corners₀)
 
 abbrev μ-loop : tie.MeasureT-loop
-μ-loop text kinds₀ numbers₀ places₀ store₀ corners₀ held₀ at₀ kinds numbers places store corners held at =
+μ-loop text held₀ kinds₀ numbers₀ places₀ store₀ corners₀ at₀ held kinds numbers places store corners at =
     length text - at
-
-start-requires : tie.Need-start-requires Inv-loop μ-loop
-start-requires c κs = search needs
 
 loop-holds : tie.Need-loop-holds Inv-loop μ-loop
 loop-holds c = search needs
@@ -65,7 +62,6 @@ take-lines-spec =
     (tie.spec
     Inv-loop
     μ-loop
-    start-requires
     loop-holds
     line-end-requires
     sub-take-line

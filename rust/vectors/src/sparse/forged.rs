@@ -173,7 +173,7 @@ fn inputs_and_lengths(script: &mut Script) {
         let [a, b, c] = [lengths.kinds, lengths.store, lengths.corners];
         let right = match field {
             KINDS_LENGTH => a,
-            16 => b,
+            336 => b,
             CORNERS_LENGTH => c,
             _ => lengths.numbers,
         };
@@ -182,13 +182,11 @@ fn inputs_and_lengths(script: &mut Script) {
     // Another model goes on where the first one was.
     for k in [10, 30] {
         at(script, k);
-        let sphere = Part::Sphere([0.0; 3], 1.0);
-        script.parts(&[Part::Const(7.0), sphere]);
-        script.forge(PARTS, 0);
+        script.part(0, Part::Const(7.0));
+        script.part(1, Part::Sphere([0.0; 3], 1.0));
         script.forge(COUNT, 2);
         tried(script, 20);
-        script.parts(&[Part::Const(7.0), Part::Neg(1)]);
-        script.forge(PARTS, 0);
+        script.part(1, Part::Neg(1));
         tried(script, 20);
         script.forge(COUNT, 1);
         tried(script, MOST);

@@ -18,15 +18,17 @@ pub const LEAF: u64 = 9;
 pub const BAND_MIN: u64 = 10;
 pub const BAND_MAX: u64 = 11;
 pub const COUNT: u64 = 12;
-pub const KINDS_LENGTH: u64 = 13;
-pub const CORNERS_LENGTH: u64 = 17;
-pub const NODES: u64 = 18;
-pub const ACTIVE: u64 = 19;
-pub const LEAVES: u64 = 20;
-pub const SAMPLED: u64 = 21;
-pub const EVALUATIONS: u64 = 22;
-/// All parts of the model, from those of the next open.
-pub const PARTS: u64 = 23;
+/// Five numbers for each of the 64 parts.
+const PARTS: u64 = 13;
+pub const KINDS_LENGTH: u64 = 333;
+pub const CORNERS_LENGTH: u64 = 337;
+pub const NODES: u64 = 338;
+pub const ACTIVE: u64 = 339;
+pub const LEAVES: u64 = 340;
+pub const SAMPLED: u64 = 341;
+pub const EVALUATIONS: u64 = 342;
+/// A kind and three numbers.
+const CURSOR: u64 = 343;
 
 /// The slices, as `poke` names them.
 pub const KINDS: u64 = 0;
@@ -35,8 +37,9 @@ pub const PLACES: u64 = 2;
 pub const STORE: u64 = 3;
 pub const CORNERS: u64 = 4;
 
-/// How many parts a line sets.
+/// How many parts a line sets, and where those lines begin that set them all.
 const PARTS_OF_LINE: usize = 31;
+const LINE_STARTS: [usize; 3] = [0, 31, 33];
 
 /// How many numbers a line of elements has.
 const ROW: usize = 160;
@@ -107,11 +110,11 @@ fn poisoned_record(seed: u64) -> Record {
             max: [x; 3],
             cell: x,
             inner: short(seed),
-            leaf: 3,
+            leaf: short(seed),
             band_min: x,
             band_max: x,
-            count: 65,
-            parts: vec![Part::Neg(70); 64],
+            count: short(seed),
+            parts: vec![part_of([seed; 5]); 64],
         },
         lengths: Lengths {
             kinds: seed,
@@ -127,7 +130,32 @@ fn poisoned_record(seed: u64) -> Record {
             sampled: seed,
             evaluations: seed,
         },
-        cursor: Cursor::At(Site::Point(seed, seed, seed)),
+        cursor: cursor_of([seed; 4]),
+    }
+}
+
+/// The part of a kind and four numbers.
+fn part_of([kind, a, b, c, last]: [u64; 5]) -> Part {
+    let vector = [a, b, c].map(f64::from_bits);
+    let last = f64::from_bits(last);
+    let (one, other) = (short(a), short(b));
+    match kind {
+        0 => Part::Const(vector[0]),
+        1 => Part::Sphere(vector, last),
+        2 => Part::Plane(vector, last),
+        3 => Part::Min(one, other),
+        4 => Part::Max(one, other),
+        5 => Part::Add(one, other),
+        6 => Part::Sub(one, other),
+        _ => Part::Neg(one),
+    }
+}
+
+fn cursor_of([kind, a, b, c]: [u64; 4]) -> Cursor {
+    match kind {
+        0 => Cursor::End,
+        1 => Cursor::At(Site::Corner(a, b)),
+        _ => Cursor::At(Site::Point(a, b, c)),
     }
 }
 
@@ -190,7 +218,7 @@ impl Script {
         self.memory = poisoned(lengths, seed);
         self.record = poisoned_record(seed);
         self.ledger = Some(Ledger::new(self.memory.clone()));
-        self.parts = vec![Part::Const(0.0); 64];
+        self.parts = vec![part_of([seed; 5]); 64];
     }
 
     pub fn lengths(&self) -> Lengths {
@@ -211,9 +239,11 @@ impl Script {
         let counts = self.record.counts;
         let mut fields = vec![self.record.job.into()];
         fields.extend(input_numbers(&self.record.input));
+        fields.extend(self.record.input.parts.iter().flat_map(part_numbers));
         fields.extend(length_numbers(self.record.lengths));
         fields.extend([counts.nodes, counts.active, counts.leaves]);
         fields.extend([counts.sampled, counts.evaluations]);
+        fields.extend(cursor_numbers(self.record.cursor));
         fields[field as usize]
     }
 
@@ -223,12 +253,13 @@ impl Script {
         if bits(&self.parts[..parts.len()]) == bits(parts) {
             return;
         }
-        for (line, given) in parts.chunks(PARTS_OF_LINE).enumerate() {
-            let from = line * PARTS_OF_LINE;
+        let some = |from: &usize| *from == 0 || *from < parts.len();
+        for from in LINE_STARTS.into_iter().filter(some) {
+            let given = &parts[from..(from + PARTS_OF_LINE).min(parts.len())];
             let mut numbers = vec![from as u64];
             numbers.extend(given.iter().flat_map(part_numbers));
             self.list.case("parts", &numbers);
-            for place in from..(from + PARTS_OF_LINE).min(64) {
+            for place in from..from + PARTS_OF_LINE {
                 let part = given.get(place - from).copied();
                 self.parts[place] = part.unwrap_or(Part::Const(0.0));
             }
@@ -326,25 +357,44 @@ impl Script {
             BAND_MAX => input.band_max = f64::from_bits(value),
             COUNT => input.count = short(value),
             KINDS_LENGTH => record.lengths.kinds = value,
-            14 => record.lengths.numbers = value,
-            15 => record.lengths.places = value,
-            16 => record.lengths.store = value,
+            334 => record.lengths.numbers = value,
+            335 => record.lengths.places = value,
+            336 => record.lengths.store = value,
             CORNERS_LENGTH => record.lengths.corners = value,
             NODES => record.counts.nodes = value,
             ACTIVE => record.counts.active = value,
             LEAVES => record.counts.leaves = value,
             SAMPLED => record.counts.sampled = value,
             EVALUATIONS => record.counts.evaluations = value,
-            PARTS => input.parts = self.parts.clone(),
+            PARTS..=332 => {
+                let place = (at - PARTS as usize) / 5;
+                let mut numbers = part_numbers(&input.parts[place]);
+                numbers[(at - PARTS as usize) % 5] = value;
+                input.parts[place] = part_of(numbers);
+            }
+            CURSOR..=346 => {
+                let mut numbers = cursor_numbers(record.cursor);
+                numbers[at - CURSOR as usize] = value;
+                record.cursor = cursor_of(numbers);
+            }
             _ => unreachable!("no field has this number"),
         }
     }
 
     /// Sets the record's cursor.
     pub fn cursor(&mut self, cursor: Cursor) {
-        self.list.case("cursor", &cursor_numbers(cursor));
-        self.ledger = None;
+        for (field, number) in (CURSOR..).zip(cursor_numbers(cursor)) {
+            self.forge(field, number);
+        }
         self.record.cursor = cursor;
+    }
+
+    /// Sets a part of the record's model.
+    pub fn part(&mut self, place: u64, part: Part) {
+        for (field, number) in (PARTS + 5 * place..).zip(part_numbers(&part)) {
+            self.forge(field, number);
+        }
+        self.record.input.parts[place as usize] = part;
     }
 
     /// Sets one element.
