@@ -293,7 +293,7 @@ fn random_forging(random: &mut Random, script: &mut Script) {
 fn random_lists(script: &mut Script, random: &mut Random) {
     for _ in 0..60 {
         let input = inputs::random_accepted(random);
-        script.lend(longer(&input), random.next());
+        script.lend(longer(&input), random.below(1 << 32));
         for _ in 0..3 {
             script.open(&input);
             script.step(random.below(60));
