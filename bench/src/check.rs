@@ -7,6 +7,8 @@ pub mod floats;
 #[cfg(feature = "original")]
 pub mod models;
 pub mod points;
+#[cfg(feature = "original")]
+pub mod sparse;
 
 use std::collections::BTreeMap;
 

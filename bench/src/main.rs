@@ -7,8 +7,8 @@ mod fields;
 mod host;
 mod measure;
 mod models;
-mod nodes;
 mod roots;
+mod sparse;
 
 use std::process::ExitCode;
 
@@ -21,7 +21,9 @@ fn main() -> ExitCode {
     models::rows();
     on_one_thread(fields::rows);
     fields::rows_on_all_threads();
-    nodes::rows();
+    on_one_thread(sparse::rows);
+    measure::head_alone();
+    sparse::steps();
     ExitCode::SUCCESS
 }
 
@@ -41,9 +43,10 @@ fn on_one_thread(rows: fn()) {
 fn compare_bits() -> ExitCode {
     let wrong = check::roots() + check::floats::values() + check::points::values();
     #[cfg(feature = "original")]
-    let wrong = wrong + check::models::values() + check::fields::values();
+    let wrong =
+        wrong + check::models::values() + check::fields::values() + check::sparse::values();
     #[cfg(not(feature = "original"))]
-    println!("check: SKIPPED, the values of models and of fields");
+    println!("check: SKIPPED, the values of models, of fields and of jobs");
     if wrong == 0 {
         ExitCode::SUCCESS
     } else {
