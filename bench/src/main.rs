@@ -1,6 +1,7 @@
 //! Our functions, through a static library, against the machine's root and
-//! the original's calls, in one process. Prints a table of ratios, or
-//! with the word `check` compares the bits of many results.
+//! the original's calls, in one process. Prints a table of ratios, with the
+//! word `sparse` the rows of sparse fields alone, or with the word `check`
+//! compares the bits of many results.
 
 mod check;
 mod fields;
@@ -13,14 +14,17 @@ mod sparse;
 use std::process::ExitCode;
 
 fn main() -> ExitCode {
-    if std::env::args().nth(1).as_deref() == Some("check") {
+    let word = std::env::args().nth(1);
+    if word.as_deref() == Some("check") {
         return compare_bits();
     }
     measure::head();
-    roots::rows();
-    models::rows();
-    on_one_thread(fields::rows);
-    fields::rows_on_all_threads();
+    if word.as_deref() != Some("sparse") {
+        roots::rows();
+        models::rows();
+        on_one_thread(fields::rows);
+        fields::rows_on_all_threads();
+    }
     on_one_thread(sparse::rows);
     measure::head_alone();
     sparse::steps();

@@ -165,7 +165,7 @@ fn small_budgets(nodes: [usize; 3], inner: u32, leaf: u32, budgets: &[u64], mode
     let mut lent = Lent::new(&grid, children);
     let total = job(&grid, model, &[ALL], &mut lent).evaluations;
     for &budget in budgets {
-        let many = vec![budget; total.div_ceil(budget) as usize];
+        let many = vec![budget; ((total + budget - 1) / budget) as usize];
         let name = format!("a step of budget {budget}, {children} children, beyond its evaluations");
         let lent = std::cell::RefCell::new(&mut lent);
         let run = |budgets: &[u64]| {
