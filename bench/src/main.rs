@@ -47,8 +47,7 @@ fn on_one_thread(rows: fn()) {
 fn compare_bits() -> ExitCode {
     let wrong = check::roots() + check::floats::values() + check::points::values();
     #[cfg(feature = "original")]
-    let wrong =
-        wrong + check::models::values() + check::fields::values() + check::sparse::values();
+    let wrong = wrong + check::models::values() + check::fields::values() + check::sparse::values();
     #[cfg(not(feature = "original"))]
     println!("check: SKIPPED, the values of models, of fields and of jobs");
     if wrong == 0 {

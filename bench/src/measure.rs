@@ -172,14 +172,14 @@ pub fn alone(name: &str, call: &mut dyn FnMut()) {
     println!("| {name} | {} |", shown(median(&mut times)));
 }
 
-/// Measures two calls in turn, of which one makes so many steps more, and
-/// prints the time of a step.
-pub fn beyond(name: &str, steps: usize, more: &mut dyn FnMut(), less: &mut dyn FnMut()) {
+/// Measures a call in two ways in turn, of which one makes so many steps more,
+/// and prints the time of a step. The call is told whether it is that one.
+pub fn beyond(name: &str, steps: usize, call: &mut dyn FnMut(bool)) {
     let mut times = [Vec::new(), Vec::new()];
     let begun = Instant::now();
     while !enough(times[0].len(), begun) {
-        times[0].push(elapsed(Clock::Thread, more));
-        times[1].push(elapsed(Clock::Thread, less));
+        times[0].push(elapsed(Clock::Thread, &mut || call(true)));
+        times[1].push(elapsed(Clock::Thread, &mut || call(false)));
     }
     let time = median(&mut times[0]) - median(&mut times[1]);
     println!("| {name} | {} |", shown(time / steps as f64));

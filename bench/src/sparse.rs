@@ -1,6 +1,8 @@
 //! The rows about sparse fields: ours against the original's `SparseField`, and
 //! what a step costs beyond its evaluations.
 
+use std::hint::black_box;
+
 use crate::host::sparse::{job, Counts, Grid, Lent};
 use crate::host::Layout;
 use crate::measure::{alone, beyond, jobs, Clock, Job};
@@ -130,14 +132,28 @@ pub fn steps() {
     for (nodes, inner) in [([50; 3], 2), ([25; 3], 4), ([16, 16, 8], 8)] {
         single_steps(nodes, inner, &model);
     }
-    let bytes = vec![1u8; 1_000_000];
-    let mut count = 0;
-    alone("one pass over 1,000,000 bytes, counting", &mut || {
-        count += std::hint::black_box(&bytes).iter().filter(|b| **b != 0).count();
-    });
+    passes();
     let sphere = Layout::new(&sampled()[1].1);
     small_budgets([1; 3], 2, 2, &[1, 8], &sphere);
     small_budgets([2; 3], 8, 8, &[64, 1024, 16384], &sphere);
+}
+
+/// Passes over as many bytes as those grids have children: one that stops at a
+/// byte that is off, one that counts, and one that reads all bytes alike, which
+/// the compiler makes vector code of.
+fn passes() {
+    let bytes = vec![1u8; 1_000_000];
+    let read = || black_box(&bytes).iter();
+    let name = |what: &str| format!("one pass over 1,000,000 bytes, {what}");
+    alone(&name("stopping at a 0"), &mut || {
+        black_box(read().all(|byte| *byte != 0));
+    });
+    alone(&name("counting"), &mut || {
+        black_box(read().filter(|byte| **byte != 0).count());
+    });
+    alone(&name("all alike"), &mut || {
+        black_box(read().fold(0, |seen, byte| seen | (byte ^ 1)));
+    });
 }
 
 /// Steps of budget 1, at a job's first evaluations and at its last.
@@ -151,11 +167,10 @@ fn single_steps(nodes: [usize; 3], inner: u32, model: &Layout) {
         let name = format!(
             "a step of budget 1, {children} children in nodes of {inner}×{inner}×{inner}, at the {place} evaluations"
         );
-        let lent = std::cell::RefCell::new(&mut lent);
-        let run = |budgets: &[u64]| {
-            job(&grid, model, budgets, &mut lent.borrow_mut());
-        };
-        beyond(&name, STEPS, &mut || run(&many), &mut || run(&many[..1]));
+        beyond(&name, STEPS, &mut |more| {
+            let budgets = if more { &many } else { &many[..1] };
+            job(&grid, model, budgets, &mut lent);
+        });
     }
 }
 
@@ -166,12 +181,12 @@ fn small_budgets(nodes: [usize; 3], inner: u32, leaf: u32, budgets: &[u64], mode
     let total = job(&grid, model, &[ALL], &mut lent).evaluations;
     for &budget in budgets {
         let many = vec![budget; ((total + budget - 1) / budget) as usize];
-        let name = format!("a step of budget {budget}, {children} children, beyond its evaluations");
-        let lent = std::cell::RefCell::new(&mut lent);
-        let run = |budgets: &[u64]| {
-            job(&grid, model, budgets, &mut lent.borrow_mut());
-        };
-        beyond(&name, many.len() - 1, &mut || run(&many), &mut || run(&[ALL]));
+        let name =
+            format!("a step of budget {budget}, {children} children, beyond its evaluations");
+        beyond(&name, many.len() - 1, &mut |more| {
+            let budgets = if more { &many[..] } else { &[ALL] };
+            job(&grid, model, budgets, &mut lent);
+        });
     }
 }
 

@@ -2,7 +2,7 @@
 //! leaves, nodes and children; and what is worked out from an octet.
 
 use super::floats::chosen;
-use super::{computed, number, Random, Tally};
+use super::{computed, number, Random, Tally, SPECIAL};
 use crate::host::points::{self as host, Ends};
 use crate::roots::hardware_sqrt;
 
@@ -156,7 +156,10 @@ fn distance(ends: Ends) -> f64 {
 
 /// The mean of eight values is computed, the least and the greatest are copied.
 fn octet(random: &mut Random, tally: &mut Tally) {
-    let octet = [(); 8].map(|_| number(random));
+    // One octet in eight is of NaNs alone.
+    let nans = random.next() % 8 == 0;
+    let nan = |random: &mut Random| f64::from_bits(SPECIAL[7 + random.next() as usize % 3]);
+    let octet = [(); 8].map(|_| if nans { nan(random) } else { number(random) });
     let sum = octet.iter().fold(0.0, |sum, value| sum + value);
     tally.compare("average", host::average(&octet), computed(sum / 8.0));
     let [first, rest @ ..] = octet;

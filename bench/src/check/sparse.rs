@@ -1,7 +1,7 @@
 //! The memory of a sparse field's jobs, against the original's.
 
 use super::models::{expected, model};
-use super::{computed, number, Random, Tally};
+use super::{computed, number, Random, Tally, COMPUTED_NAN};
 use crate::host::sparse::{job, Grid, Lent};
 use crate::host::Layout;
 use crate::models::{theirs, Part};
@@ -85,7 +85,14 @@ fn compare(grid: &Grid, parts: &[Part], lent: &Lent, tally: &mut Tally) {
         tally.compare("job's numbers", lent.numbers[place], number);
         let first = lent.places[place] as usize * points;
         for (ours, value) in lent.store[first..].iter().zip(leaf) {
-            tally.compare("job's leaves", *ours, expected(parts, *value));
+            let bits = expected(parts, *value);
+            let copied = value.is_nan() && bits != COMPUTED_NAN;
+            let kind = if copied {
+                "job's leaves, a NaN of other bits"
+            } else {
+                "job's leaves"
+            };
+            tally.compare(kind, *ours, bits);
         }
     }
 }

@@ -1,9 +1,9 @@
 //! What the benchmark calls of the original's fields.
 
 use crate::parts::Graph;
-pub use crate::types::computation::data::{BlockSize, DenseField, SparseField, SparseFieldConfig};
 pub use crate::types::computation::data::inside::block;
 pub use crate::types::computation::data::sampled::{children, Child};
+pub use crate::types::computation::data::{DenseField, SparseField, SparseFieldConfig};
 pub use crate::types::geometry::{BoundingBox, Vec3, Vec3i};
 
 /// A field of given values, with its origin at (x, y, z).
