@@ -227,8 +227,8 @@ fn shown(time: f64) -> String {
     format!("{time:.digits$}")
 }
 
-/// Equal bits, or both NaN, at every place.
+/// As many results, with equal bits, or both NaN, at every place.
 fn same(a: &[f64], b: &[f64]) -> bool {
     let equal = |(x, y): (&f64, &f64)| x.to_bits() == y.to_bits() || (x.is_nan() && y.is_nan());
-    a.iter().zip(b).all(equal)
+    a.len() == b.len() && a.iter().zip(b).all(equal)
 }
