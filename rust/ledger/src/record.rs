@@ -176,7 +176,9 @@ fn kinds_wrong(grid: &Grid, kinds: &[u8]) -> bool {
     let active = |place: u64| {
         place < grid.nodes() * children && grid.is_active(place / children, place % children)
     };
-    (0..).zip(kinds).any(|(place, &kind)| (kind != 0) != active(place))
+    (0..)
+        .zip(kinds)
+        .any(|(place, &kind)| (kind != 0) != active(place))
 }
 
 /// Nodes or active are not the grid's, sampled is not leaves × L³, or
@@ -212,7 +214,11 @@ fn cursor_wrong(grid: &Grid, cursor: Cursor) -> bool {
 /// Leaves exceed the active children up to the cursor (its own child included)
 /// or are 0 inside a child.
 fn leaves_wrong(grid: &Grid, cursor: Cursor, leaves: u64) -> bool {
-    let whole = |v: u64| (0..v).map(|v| grid.active_below(v, grid.children())).sum::<u64>();
+    let whole = |v: u64| {
+        (0..v)
+            .map(|v| grid.active_below(v, grid.children()))
+            .sum::<u64>()
+    };
     match cursor {
         Cursor::End => leaves > grid.active_total(),
         Cursor::At(Site::Corner(v, _)) => leaves > whole(v),

@@ -144,7 +144,10 @@ fn nodes_along_an_axis() {
     assert_eq!(nodes(f64::from_bits(2.0f64.to_bits() + 1)), 2);
     let refused = |extent: f64| {
         let max = [extent, 0.0, 0.0];
-        cause(&input([0.0; 3], max, 1.0, 2, 2), lengths(1 << 14, 1 << 17, 27))
+        cause(
+            &input([0.0; 3], max, 1.0, 2, 2),
+            lengths(1 << 14, 1 << 17, 27),
+        )
     };
     assert_eq!(refused(2048.0), None);
     assert_eq!(refused(2049.0), Some(5));

@@ -97,7 +97,12 @@ fn numbers(script: &mut Script) {
     for (field, right) in [(NODES, counts.nodes), (ACTIVE, counts.active)] {
         each(script, 20, field, &[0, right - 1, right, right + 1, MOST]);
     }
-    each(script, 20, EVALUATIONS, &[0, 19, 21, bound - 1, bound, bound + 1, 1 << 32, MOST]);
+    each(
+        script,
+        20,
+        EVALUATIONS,
+        &[0, 19, 21, bound - 1, bound, bound + 1, 1 << 32, MOST],
+    );
     // Corner 0 of node 0, the last evaluation, and the end.
     for k in [0, 1, 200] {
         each(script, k, EVALUATIONS, &[bound, bound + 1]);
@@ -109,8 +114,26 @@ fn leaves(script: &mut Script) {
     for k in [0, 20, 25, 34, 48, 200] {
         at(script, k);
         let counts = script.record().counts;
-        each(script, k, SAMPLED, &[counts.sampled + 1, counts.sampled + 8, MOST]);
-        for leaves in [0, 1, 2, 3, 4, 5, 6, 7, 1 << 32, 1 << 61, (1 << 61) + 1, MOST] {
+        each(
+            script,
+            k,
+            SAMPLED,
+            &[counts.sampled + 1, counts.sampled + 8, MOST],
+        );
+        for leaves in [
+            0,
+            1,
+            2,
+            3,
+            4,
+            5,
+            6,
+            7,
+            1 << 32,
+            1 << 61,
+            (1 << 61) + 1,
+            MOST,
+        ] {
             at(script, k);
             script.forge(LEAVES, leaves);
             if leaves % 5 == 1 {
@@ -136,7 +159,11 @@ fn cursors(script: &mut Script) {
             all.extend([0, 7, 8].map(|p| point(v, c, p)));
         }
     }
-    all.extend([point(0, 0, MOST), point(0, MOST, MOST), point(MOST, MOST, MOST)]);
+    all.extend([
+        point(0, 0, MOST),
+        point(0, MOST, MOST),
+        point(MOST, MOST, MOST),
+    ]);
     for (turn, &cursor) in (0..).zip(&all) {
         at(script, [10, 30, 200][turn % 3]);
         script.cursor(cursor);
@@ -158,13 +185,34 @@ fn inputs_and_lengths(script: &mut Script) {
     let bits = f64::to_bits;
     let nan = bits(f64::NAN);
     for field in [MIN_X, MIN_X + 1, MIN_X + 2, MAX_X, MAX_X + 1, MAX_X + 2] {
-        each(script, 30, field, &[nan, bits(f64::INFINITY), bits(-7.0), bits(100.0), bits(0.25)]);
+        each(
+            script,
+            30,
+            field,
+            &[
+                nan,
+                bits(f64::INFINITY),
+                bits(-7.0),
+                bits(100.0),
+                bits(0.25),
+            ],
+        );
     }
-    each(script, 30, CELL, &[0, nan, bits(1.5), bits(0.75), bits(f64::MAX), bits(1e-300)]);
+    each(
+        script,
+        30,
+        CELL,
+        &[0, nan, bits(1.5), bits(0.75), bits(f64::MAX), bits(1e-300)],
+    );
     each(script, 30, INNER, &[0, 1, 3, 4, 64, MOST]);
     each(script, 30, LEAF, &[0, 1, 3, 4, 64, MOST]);
     for field in [BAND_MIN, BAND_MAX] {
-        each(script, 10, field, &[nan, bits(-100.0), bits(100.0), bits(f64::INFINITY)]);
+        each(
+            script,
+            10,
+            field,
+            &[nan, bits(-100.0), bits(100.0), bits(f64::INFINITY)],
+        );
     }
     each(script, 30, COUNT, &[0, 1, 2, 64, 65, MOST]);
     for field in KINDS_LENGTH..=CORNERS_LENGTH {
@@ -223,7 +271,12 @@ fn kinds(script: &mut Script) {
 /// Elements that a step reads, and elements that it does not.
 fn elements(script: &mut Script) {
     let bits = f64::to_bits;
-    let values = [bits(100.0), bits(-100.0), bits(f64::NAN), bits(f64::INFINITY)];
+    let values = [
+        bits(100.0),
+        bits(-100.0),
+        bits(f64::NAN),
+        bits(f64::INFINITY),
+    ];
     // The corners of an input whose children are decided one after the other.
     let sphere = Part::Sphere([1.0, 1.0, 0.0], 0.5);
     let input = with_parts(inputs::scope_case(), &[sphere]);

@@ -172,7 +172,12 @@ pub fn models() -> Vec<Vec<Part>> {
         vec![Part::Const(f64::NAN), x, Part::Min(0, 1)],
         vec![x, Part::Const(f64::NAN), Part::Max(0, 1)],
         vec![Part::Const(INFINITY), Part::Sub(0, 0), Part::Neg(1)],
-        vec![x, Part::Const(1.0), Part::Sub(0, 1), Part::Sphere([INFINITY; 3], 1.0)],
+        vec![
+            x,
+            Part::Const(1.0),
+            Part::Sub(0, 1),
+            Part::Sphere([INFINITY; 3], 1.0),
+        ],
     ]);
     models
 }
@@ -201,7 +206,11 @@ fn coordinate(random: &mut Random) -> f64 {
 fn random_part(random: &mut Random, place: u32) -> Part {
     let point = |random: &mut Random| [0, 1, 2].map(|_| coordinate(random));
     let input = |random: &mut Random| random.below(place.max(1).into()) as u32;
-    let kind = if place == 0 { random.below(3) } else { random.below(8) };
+    let kind = if place == 0 {
+        random.below(3)
+    } else {
+        random.below(8)
+    };
     match kind {
         0 => Part::Const(coordinate(random)),
         1 => Part::Sphere(point(random), coordinate(random).abs()),

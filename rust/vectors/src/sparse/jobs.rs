@@ -202,7 +202,11 @@ fn grids(script: &mut Script) {
 fn models(script: &mut Script) {
     for parts in inputs::models() {
         for band in [[-0.25, 0.0], [0.5, 0.75], inputs::NONE] {
-            run(script, &with_band(with_parts(inputs::scope_case(), &parts), band), 11);
+            run(
+                script,
+                &with_band(with_parts(inputs::scope_case(), &parts), band),
+                11,
+            );
         }
     }
     let long = inputs::long_model();

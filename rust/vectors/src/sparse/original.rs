@@ -21,7 +21,10 @@ fn part(part: &Part) -> parts::Part {
 
 /// The original's field of an input that no cause refuses, sampled.
 fn sampled(input: &Input) -> Nodes {
-    let parts: Vec<_> = input.parts[..input.count as usize].iter().map(part).collect();
+    let parts: Vec<_> = input.parts[..input.count as usize]
+        .iter()
+        .map(part)
+        .collect();
     let model = parts::Model::new(&parts).expect("a model in order");
     let at = |p: [f64; 3]| Vec3::new(p[0], p[1], p[2]);
     let bounds = BoundingBox::new(at(input.min), at(input.max));

@@ -11,7 +11,9 @@ pub fn lists(script: &mut Script) {
     let mut random = Random::new(6);
     let refused = inputs::refused();
     for _ in 0..LISTS {
-        let inputs: Vec<Input> = (0..3).map(|_| inputs::random_accepted(&mut random)).collect();
+        let inputs: Vec<Input> = (0..3)
+            .map(|_| inputs::random_accepted(&mut random))
+            .collect();
         script.lend(room(&mut random, &inputs), random.below(1 << 32));
         let most = 1 + random.below(40);
         for _ in 0..1 + random.below(most) {
