@@ -257,6 +257,15 @@ fn kinds(script: &mut Script) {
         }
         tried(script, 12);
     }
+    // An active child may have any kind before it is decided.
+    at(script, 10);
+    for place in 0..script.lengths().kinds {
+        if script.kind(place) != 0 {
+            script.poke(KINDS, place, 3 + place);
+        }
+    }
+    script.step(MOST);
+    script.dump();
     // A refused record is taken again once the kind is right.
     at(script, 30);
     script.poke(KINDS, 0, 0);
