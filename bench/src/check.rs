@@ -7,6 +7,8 @@ pub mod floats;
 #[cfg(feature = "original")]
 pub mod models;
 pub mod points;
+#[cfg(feature = "original")]
+pub mod sparse;
 
 use std::collections::BTreeMap;
 
@@ -31,7 +33,8 @@ impl Random {
     }
 }
 
-/// Numbers for which an operation may have a rule of its own. Three are NaNs.
+/// Numbers for which an operation may have a rule of its own. The last three are
+/// NaNs.
 const SPECIAL: [u64; 10] = [
     0,
     0x8000_0000_0000_0000,

@@ -3,6 +3,7 @@
 pub mod fields;
 mod model;
 pub mod points;
+pub mod sparse;
 
 pub use model::{evaluate, evaluate_row, Layout};
 

@@ -1,27 +1,33 @@
 //! Our functions, through a static library, against the machine's root and
-//! the original's calls, in one process. Prints a table of ratios, or
-//! with the word `check` compares the bits of many results.
+//! the original's calls, in one process. Prints a table of ratios, with the
+//! word `sparse` the rows of sparse fields alone, or with the word `check`
+//! compares the bits of many results.
 
 mod check;
 mod fields;
 mod host;
 mod measure;
 mod models;
-mod nodes;
 mod roots;
+mod sparse;
 
 use std::process::ExitCode;
 
 fn main() -> ExitCode {
-    if std::env::args().nth(1).as_deref() == Some("check") {
+    let word = std::env::args().nth(1);
+    if word.as_deref() == Some("check") {
         return compare_bits();
     }
     measure::head();
-    roots::rows();
-    models::rows();
-    on_one_thread(fields::rows);
-    fields::rows_on_all_threads();
-    nodes::rows();
+    if word.as_deref() != Some("sparse") {
+        roots::rows();
+        models::rows();
+        on_one_thread(fields::rows);
+        fields::rows_on_all_threads();
+    }
+    on_one_thread(sparse::rows);
+    measure::head_alone();
+    sparse::steps();
     ExitCode::SUCCESS
 }
 
@@ -41,9 +47,9 @@ fn on_one_thread(rows: fn()) {
 fn compare_bits() -> ExitCode {
     let wrong = check::roots() + check::floats::values() + check::points::values();
     #[cfg(feature = "original")]
-    let wrong = wrong + check::models::values() + check::fields::values();
+    let wrong = wrong + check::models::values() + check::fields::values() + check::sparse::values();
     #[cfg(not(feature = "original"))]
-    println!("check: SKIPPED, the values of models and of fields");
+    println!("check: SKIPPED, the values of models, of fields and of jobs");
     if wrong == 0 {
         ExitCode::SUCCESS
     } else {

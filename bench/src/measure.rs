@@ -108,6 +108,10 @@ pub trait Job {
     fn prepare(&mut self);
     fn run(&mut self);
     fn results(&self) -> &[f64];
+    /// What a run's time is divided by.
+    fn count(&self) -> usize {
+        self.results().len()
+    }
 }
 
 /// What a job's time is: that of its own thread, which other processes do not
@@ -136,13 +140,49 @@ pub fn jobs(name: &str, clock: Clock, ours: &mut dyn Job, mut theirs: Option<&mu
 /// The time of one job, in nanoseconds for one result.
 fn timed(clock: Clock, job: &mut dyn Job) -> f64 {
     job.prepare();
+    let time = elapsed(clock, &mut || job.run());
+    black_box(job.results());
+    time / job.count() as f64
+}
+
+/// How many nanoseconds a call takes.
+fn elapsed(clock: Clock, call: &mut dyn FnMut()) -> f64 {
     let (wall, thread) = (Instant::now(), thread_time());
-    job.run();
+    call();
     let time = match clock {
         Clock::Thread => thread_time() - thread,
         Clock::Wall => wall.elapsed(),
     };
-    time.as_nanos() as f64 / black_box(job.results()).len() as f64
+    time.as_nanos() as f64
+}
+
+/// Prints the head of a table of our times alone.
+pub fn head_alone() {
+    println!("\n| what | ours, ns |");
+    println!("|---|---|");
+}
+
+/// Measures one call, and prints its time.
+pub fn alone(name: &str, call: &mut dyn FnMut()) {
+    let mut times = Vec::new();
+    let begun = Instant::now();
+    while !enough(times.len(), begun) {
+        times.push(elapsed(Clock::Thread, call));
+    }
+    println!("| {name} | {} |", shown(median(&mut times)));
+}
+
+/// Measures a call in two ways in turn, of which one makes so many steps more,
+/// and prints the time of a step. The call is told whether it is that one.
+pub fn beyond(name: &str, steps: usize, call: &mut dyn FnMut(bool)) {
+    let mut times = [Vec::new(), Vec::new()];
+    let begun = Instant::now();
+    while !enough(times[0].len(), begun) {
+        times[0].push(elapsed(Clock::Thread, &mut || call(true)));
+        times[1].push(elapsed(Clock::Thread, &mut || call(false)));
+    }
+    let time = median(&mut times[0]) - median(&mut times[1]);
+    println!("| {name} | {} |", shown(time / steps as f64));
 }
 
 /// The time that this thread has run.
@@ -187,8 +227,8 @@ fn shown(time: f64) -> String {
     format!("{time:.digits$}")
 }
 
-/// Equal bits, or both NaN, at every place.
+/// As many results, with equal bits, or both NaN, at every place.
 fn same(a: &[f64], b: &[f64]) -> bool {
     let equal = |(x, y): (&f64, &f64)| x.to_bits() == y.to_bits() || (x.is_nan() && y.is_nan());
-    a.iter().zip(b).all(equal)
+    a.len() == b.len() && a.iter().zip(b).all(equal)
 }

@@ -44,7 +44,7 @@ fn random_values(random: &mut Random, n: [usize; 3]) -> Vec<f64> {
 }
 
 fn sampling(random: &mut Random, tally: &mut Tally, n: [usize; 3]) {
-    let parts = model(random);
+    let parts = model(random, 64);
     let finite = |x: f64| if x.is_finite() { x } else { 0.5 };
     let origin = [(); 3].map(|_| finite(number(random)));
     let cell = finite(number(random)).abs() + 0.01;

@@ -8,7 +8,7 @@ const ROUNDS: usize = 200_000;
 
 /// min(a, b) and max(a, b): a if b is NaN, else b if a is NaN or beyond a, else
 /// a. Both copy.
-fn chosen(a: f64, b: f64, beyond: bool) -> f64 {
+pub fn chosen(a: f64, b: f64, beyond: bool) -> f64 {
     if b.is_nan() || !(a.is_nan() || beyond) {
         a
     } else {

@@ -8,9 +8,9 @@ use original::parts::Model;
 /// How many models are compared, each at a row of points.
 const MODELS: usize = 20_000;
 
-/// A model of up to 64 parts.
-pub fn model(random: &mut Random) -> Vec<Part> {
-    let count = 1 + random.next() as u32 % 64;
+/// A model of at most so many parts.
+pub fn model(random: &mut Random, most: u32) -> Vec<Part> {
+    let count = 1 + random.next() as u32 % most;
     (0..count).map(|place| part(random, place)).collect()
 }
 
@@ -70,7 +70,7 @@ pub fn values() -> usize {
     let mut random = Random(11);
     let mut tally = Tally::default();
     for _ in 0..MODELS {
-        let parts = model(&mut random);
+        let parts = model(&mut random, 64);
         let [x, y, z] = [(); 3].map(|_| [(); ROW].map(|_| number(&mut random)));
         let layout = Layout::new(&parts);
         let row = in_a_row(&layout, &parts, [&x, &y, &z]);

@@ -1,8 +1,10 @@
-//! Points that are computed from boxes and indices: walks, corners and leaves;
-//! and the mean of an octet.
+//! Points and boxes that are computed from boxes and indices: walks, corners,
+//! leaves, nodes and children; and what is worked out from an octet.
 
-use super::{computed, number, Random, Tally};
+use super::floats::chosen;
+use super::{computed, number, Random, Tally, SPECIAL};
 use crate::host::points::{self as host, Ends};
+use crate::roots::hardware_sqrt;
 
 const ROUNDS: usize = 100_000;
 
@@ -43,6 +45,7 @@ pub fn values() -> usize {
         walks(&mut random, &mut tally);
         corners(&mut random, &mut tally);
         grid(&mut random, &mut tally);
+        nodes(&mut random, &mut tally);
         octet(&mut random, &mut tally);
     }
     tally.report()
@@ -113,8 +116,55 @@ fn grid(random: &mut Random, tally: &mut Tally) {
     }
 }
 
+/// The nodes of any bounds and cells, and the children of any box.
+fn nodes(random: &mut Random, tally: &mut Tally) {
+    let ends = [(); 2].map(|_| [(); 3].map(|_| number(random)));
+    let cell = number(random);
+    let [inner, leaf] = [(); 2].map(|_| 1u32 << (1 + random.next() % 6));
+    let size = cell * (inner * (leaf - 1)) as f64;
+    let ours = host::node_size(cell, inner, leaf);
+    tally.compare("node size", ours, computed(size));
+    let half = distance(ends) / 2.0;
+    tally.compare("half diagonal", host::half_diagonal(ends), computed(half));
+    let v = random.next() as usize % 1000;
+    let node = host::node_box(ends, cell, inner, leaf, v);
+    let count = |axis: usize| ((ends[1][axis] - ends[0][axis]) / size).ceil() as usize;
+    let (nx, ny) = (count(0).max(1), count(1).max(1));
+    let at = [v % nx, v / nx % ny, v / nx / ny];
+    let n = inner as usize;
+    let place = random.next() as usize % (n * n * n);
+    let child = host::child_box(ends, inner, place);
+    for axis in 0..3 {
+        let least = ends[0][axis] + at[axis] as f64 * size;
+        tally.compare("node's box", node[axis], computed(least));
+        tally.compare("node's box's end", node[axis + 3], computed(least + size));
+        let least = along(ends, axis, n, indices(place, n)[axis]);
+        let most = least + step(ends, axis, n);
+        tally.compare("child's box", child[axis], computed(least));
+        tally.compare("child's box's end", child[axis + 3], computed(most));
+    }
+}
+
+/// The distance between a box's ends.
+fn distance(ends: Ends) -> f64 {
+    let square = |axis: usize| {
+        let d = ends[1][axis] - ends[0][axis];
+        d * d
+    };
+    hardware_sqrt(square(0) + square(1) + square(2))
+}
+
+/// The mean of eight values is computed, the least and the greatest are copied.
 fn octet(random: &mut Random, tally: &mut Tally) {
-    let octet = [(); 8].map(|_| number(random));
+    // One octet in eight is of NaNs alone.
+    let nans = random.next() % 8 == 0;
+    let nan = |random: &mut Random| f64::from_bits(SPECIAL[7 + random.next() as usize % 3]);
+    let octet = [(); 8].map(|_| if nans { nan(random) } else { number(random) });
     let sum = octet.iter().fold(0.0, |sum, value| sum + value);
     tally.compare("average", host::average(&octet), computed(sum / 8.0));
+    let [first, rest @ ..] = octet;
+    let lowest = rest.iter().fold(first, |a, &b| chosen(a, b, b < a));
+    tally.compare("lowest", host::lowest(&octet), lowest.to_bits());
+    let highest = rest.iter().fold(first, |a, &b| chosen(a, b, b > a));
+    tally.compare("highest", host::highest(&octet), highest.to_bits());
 }

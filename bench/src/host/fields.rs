@@ -1,4 +1,4 @@
-//! Dense fields and the grid. Where a call can refuse, its answer is the
+//! Dense fields. Where a call can refuse, its answer is the
 //! number of the refusal, and 0 for none.
 
 use super::{Layout, ROW};
@@ -56,17 +56,6 @@ extern "C" {
         scratch: *mut f64,
         scratch_len: usize,
     ) -> u32;
-    fn bench_active_children(
-        x0: f64,
-        y0: f64,
-        z0: f64,
-        x1: f64,
-        y1: f64,
-        z1: f64,
-        cell: f64,
-        inner: u32,
-        leaf: u32,
-    ) -> u64;
 }
 
 /// The points along each axis of a field in a box.
@@ -127,16 +116,4 @@ pub fn smooth(
             n[0], n[1], n[2], factor, rounds, place, len, spare, spare_len,
         )
     }
-}
-
-/// The active children of a grid in a box. `inner` and `leaf` are block sizes,
-/// and the grid is none that causes 2 and 5 refuse.
-pub fn active_children(
-    [x0, y0, z0]: [f64; 3],
-    [x1, y1, z1]: [f64; 3],
-    cell: f64,
-    inner: u32,
-    leaf: u32,
-) -> u64 {
-    unsafe { bench_active_children(x0, y0, z0, x1, y1, z1, cell, inner, leaf) }
 }

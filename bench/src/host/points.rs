@@ -8,6 +8,34 @@ extern "C" {
     fn bench_max(a: f64, b: f64) -> f64;
     fn bench_distance(x0: f64, y0: f64, z0: f64, x1: f64, y1: f64, z1: f64) -> f64;
     fn bench_average(octet: &[f64; 8]) -> f64;
+    fn bench_lowest(octet: &[f64; 8]) -> f64;
+    fn bench_highest(octet: &[f64; 8]) -> f64;
+    fn bench_half_diagonal(x0: f64, y0: f64, z0: f64, x1: f64, y1: f64, z1: f64) -> f64;
+    fn bench_node_size(cell: f64, inner: u32, leaf: u32) -> f64;
+    fn bench_node_box(
+        x0: f64,
+        y0: f64,
+        z0: f64,
+        x1: f64,
+        y1: f64,
+        z1: f64,
+        cell: f64,
+        inner: u32,
+        leaf: u32,
+        v: usize,
+        out: &mut [f64; 6],
+    );
+    fn bench_child_box(
+        x0: f64,
+        y0: f64,
+        z0: f64,
+        x1: f64,
+        y1: f64,
+        z1: f64,
+        n: u32,
+        c: usize,
+        out: &mut [f64; 6],
+    );
     fn bench_dimensions(x0: f64, y0: f64, z0: f64, x1: f64, y1: f64, z1: f64, out: &mut [f64; 3]);
     fn bench_cell_corner(
         x: f64,
@@ -108,13 +136,47 @@ pub fn average(octet: &[f64; 8]) -> f64 {
     unsafe { bench_average(octet) }
 }
 
+pub fn lowest(octet: &[f64; 8]) -> f64 {
+    unsafe { bench_lowest(octet) }
+}
+
+pub fn highest(octet: &[f64; 8]) -> f64 {
+    unsafe { bench_highest(octet) }
+}
+
+pub fn half_diagonal([[x0, y0, z0], [x1, y1, z1]]: Ends) -> f64 {
+    unsafe { bench_half_diagonal(x0, y0, z0, x1, y1, z1) }
+}
+
+pub fn node_size(cell: f64, inner: u32, leaf: u32) -> f64 {
+    unsafe { bench_node_size(cell, inner, leaf) }
+}
+
+/// The ends of a node's box in a grid.
+pub fn node_box([p, q]: Ends, cell: f64, inner: u32, leaf: u32, v: usize) -> [f64; 6] {
+    let mut out = [0.0; 6];
+    unsafe {
+        bench_node_box(
+            p[0], p[1], p[2], q[0], q[1], q[2], cell, inner, leaf, v, &mut out,
+        )
+    };
+    out
+}
+
+/// The ends of the box of a child of a node that has n children along an axis.
+pub fn child_box([[x0, y0, z0], [x1, y1, z1]]: Ends, n: u32, c: usize) -> [f64; 6] {
+    let mut out = [0.0; 6];
+    unsafe { bench_child_box(x0, y0, z0, x1, y1, z1, n, c, &mut out) };
+    out
+}
+
 pub fn dimensions([[x0, y0, z0], [x1, y1, z1]]: Ends) -> [f64; 3] {
     let mut out = [0.0; 3];
     unsafe { bench_dimensions(x0, y0, z0, x1, y1, z1, &mut out) };
     out
 }
 
-/// One of a cell's eight corners. `corner` is below 8.
+/// One of a cell's eight corners.
 pub fn cell_corner(
     [x, y, z]: [f64; 3],
     cell: f64,
@@ -162,7 +224,7 @@ pub fn corner_point([[x0, y0, z0], [x1, y1, z1]]: Ends, n: u32, corner: usize) -
     out
 }
 
-/// Point p of a leaf that has l points along an axis, l not 0.
+/// Point p of a leaf that has l points along an axis.
 pub fn leaf_point([[x0, y0, z0], [x1, y1, z1]]: Ends, l: u32, p: usize) -> [f64; 3] {
     let mut out = [0.0; 3];
     unsafe { bench_leaf_point(x0, y0, z0, x1, y1, z1, l, p, &mut out) };

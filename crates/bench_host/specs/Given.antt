@@ -1,4 +1,4 @@
--- A model, a box and a grid, from numbers.
+-- A model, a box, a grid and a job's input, from numbers.
 use Prim.Native.Nat.{ℕ, _+_}
 use mathlib.Core.List.{List}
 use lib.ListN.{getD}
@@ -7,6 +7,7 @@ use Rattle.lists.specs.Tabulate.{tabulate}
 use Rattle.geometry.specs.declared.BoundingBox.{BoundingBox}
 use Rattle.geometry.specs.Values.{vec3, box}
 use Rattle.grid.specs.declared.Grid.{Grid}
+use Rattle.sparse_field.specs.declared.Input.{Input}
 use Rattle.model.specs.declared.Part.{Part}
 use Rattle.model.specs.declared.ModelComponent.{ModelComponent}
 use Rattle.model.specs.declared.ImplicitModel.{ImplicitModel}
@@ -33,3 +34,12 @@ componentGiven l p = record { part = partGiven l p }
 
 abbrev pub modelGiven : Flat → ℕ → ImplicitModel
 modelGiven l count = record { parts = tabulate 64 (componentGiven l); count = count }
+
+-- the input of a job. Nine settings: the bounds' least end and their most, the cell's size, the band
+unfoldable pub inputGiven : List Float → (inner leaf : ℕ) → Flat → (count : ℕ) → Input
+inputGiven s inner leaf l count =
+    record {
+      grid = gridGiven (boxGiven (getD s 0 past) (getD s 1 past) (getD s 2 past) (getD s 3 past) (getD s 4 past) (getD s 5 past)) (getD s 6 past) inner leaf;
+      band = record { min = getD s 7 past; max = getD s 8 past };
+      model = modelGiven l count;
+    }

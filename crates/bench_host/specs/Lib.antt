@@ -1,3 +1,4 @@
 -- What the exported functions take and answer, in numbers.
 pub mod Answers
 pub mod Given
+pub mod Jobs

@@ -2,7 +2,7 @@
 ghost use mathlib.Core.Path.{_≡_};
 ghost use mathlib.Core.Bool.{cond};
 ghost use mathlib.Core.List.{map};
-ghost use Prim.Native.Nat.{_<_};
+ghost use Prim.Native.Nat.{_%_};
 ghost use lib.Dec.{eqb};
 ghost use lib.ListN.{length, replicate, getD};
 ghost use Rattle.float.specs.Zero.{plusZero};
@@ -154,7 +154,7 @@ pub extern "C" fn bench_smooth(
     number(dense_field::smooth(n, factor, rounds, values, scratch))
 }
 
-// One corner of a cell.
+// One corner of a cell: they are counted round, so that corner 8 is the first again.
 #[no_mangle]
 pub extern "C" fn bench_cell_corner(
     x: f64,
@@ -170,9 +170,8 @@ pub extern "C" fn bench_cell_corner(
     corner: usize,
     out: &mut [f64; 3],
 ) -> u32
-    requires { ⌜ corner < 8 ⌝ }
     ensures { λ r. ⌜ r ≡ cellCornersOf (vec3 x y z) cell (vec3i nx ny nz) (vec3i i j k) .refused ⌝ }
-    ensures { λ _. ⌜ now (out .exit) ≡ coordinates (getD (cellCornersOf (vec3 x y z) cell (vec3i nx ny nz) (vec3i i j k) .points) corner (vec3 past past past)) ⌝ }
+    ensures { λ _. ⌜ now (out .exit) ≡ coordinates (getD (cellCornersOf (vec3 x y z) cell (vec3i nx ny nz) (vec3i i j k) .points) (corner % 8) (vec3 past past past)) ⌝ }
 {
     let n = Vec3i {
         i: nx,
@@ -183,7 +182,7 @@ pub extern "C" fn bench_cell_corner(
     let at = Vec3i { i, j, k };
     let answer = dense_field::cell_corners(origin, cell, n, at);
     let points = answer.points;
-    let point = points[corner];
+    let point = points[corner % 8];
     put_point(point, out);
     answer.refused
 }

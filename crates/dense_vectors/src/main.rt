@@ -11,20 +11,6 @@ mod sampling;
 mod values;
 mod walks;
 
-// Where the word that begins a line ends, 64 at most.
-fn word_end(line: &[u8]) -> usize
-    ensures { λ r. ⌜ r ≤ 64 ⌝ }
-{
-    let mut at: usize = 0;
-    while at < 64 {
-        if vectors::byte_at(line, at) == 32 {
-            return at;
-        }
-        at += 1;
-    }
-    at
-}
-
 // Which of the words, each ended by byte 10, begins a line and has this length: 0 is the first.
 // Their number where none does.
 fn kind_of(line: &[u8], len: usize, words: &[u8]) -> u64 {
@@ -117,7 +103,7 @@ fn answer(kind: u64, fields: &[u64; 160], count: usize, answers: &mut [u64; 160]
     ensures { λ r. ⌜ (0 < r) × (r ≤ 160) ⌝ }
 {
     if count > 160 {
-        return numbers::off(answers);
+        return vectors::put_off(answers);
     }
     match kind {
         0 => counts::count(fields, answers),
@@ -126,16 +112,16 @@ fn answer(kind: u64, fields: &[u64; 160], count: usize, answers: &mut [u64; 160]
         3 => cells::corners(fields, answers),
         4 => walks::points(fields, answers),
         5 => walks::cells(fields, answers),
-        12 => numbers::off(answers),
+        12 => vectors::put_off(answers),
         _ => answer_values(kind, fields, count, answers),
     }
 }
 
 // Writes the answer of a line's call.
 fn take_line(line: &[u8]) {
-    let mut fields = numbers::zeros();
-    let mut answers = numbers::zeros();
-    let end = word_end(line);
+    let mut fields = vectors::zeros();
+    let mut answers = vectors::zeros();
+    let end = vectors::word_end(line);
     let kind = kind_of(
         line,
         end,

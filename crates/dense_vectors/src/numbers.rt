@@ -1,17 +1,10 @@
 // What the numbers of a case stand for, and the numbers of an answer.
 ghost use Prim.Native.Nat.{_+_, _≤_};
 ghost use lib.ListN.{length};
-ghost use mathlib.Core.Path.{_≡_};
 use dense_field::Outcome;
 use geometry::BoundingBox;
 use geometry::Vec3;
 use geometry::Vec3i;
-
-// Room for the numbers of a case or of an answer. As a call's result it is an array of which a proof
-// knows the length alone.
-pub fn zeros() -> [u64; 160] {
-    [0; 160]
-}
 
 // Room for values.
 pub fn floats() -> [f64; 150] {
@@ -167,12 +160,4 @@ pub fn outcome(done: Outcome) -> u64 {
         Outcome::Done => 0,
         Outcome::Refused(n) => cause(n),
     }
-}
-
-// The answer to a line that is off its form: one number that no call gives.
-pub fn off(answers: &mut [u64; 160]) -> usize
-    ensures { λ r. ⌜ r ≡ 1 ⌝ }
-{
-    answers[0] = 0xffff_ffff_ffff_ffff;
-    1
 }

@@ -5,9 +5,6 @@ use geometry::BoundingBox;
 use geometry::Vec3;
 use grid::Grid;
 
-// The answer to a line that is no case.
-const OFF: u64 = 0xffff_ffff_ffff_ffff;
-
 // A number of 32 bits; a larger one counts as the largest.
 pub fn small(n: u64) -> u32 {
     if n > 4294967295 {
@@ -74,19 +71,6 @@ pub fn octet(fields: &[u64; 160], at: usize) -> [f64; 8]
         number(fields, at + 6),
         number(fields, at + 7),
     ]
-}
-
-// A case without numbers, or an answer.
-pub fn zeros() -> [u64; 160] {
-    [0; 160]
-}
-
-// The answer to a line that is no case.
-pub fn put_off(answers: &mut [u64; 160]) -> usize
-    ensures { λ r. ⌜ (0 < r) × (r ≤ 160) ⌝ }
-{
-    answers[0] = OFF;
-    1
 }
 
 pub fn put_vector(p: Vec3, at: usize, answers: &mut [u64; 160])

@@ -3,11 +3,11 @@ ghost use Prim.Native.Nat.{_<_, _≤_};
 use crate::case::flag;
 use crate::case::has_bit;
 use crate::case::put_bit;
-use crate::case::put_off;
 use crate::case::small;
 use crate::case::wide;
 use crate::words;
 use grid::CornerList;
+use vectors::put_off;
 
 // What the lent list holds before the call.
 const BEFORE: u32 = 0x00a5_a5a5;

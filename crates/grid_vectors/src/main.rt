@@ -33,23 +33,23 @@ fn answer(word: u64, fields: &[u64; 160], answers: &mut [u64; 160]) -> usize
     if e > 0 {
         return e;
     }
-    case::put_off(answers)
+    vectors::put_off(answers)
 }
 
 // The answer to a line.
 fn answer_to(line: &[u8], answers: &mut [u64; 160]) -> usize
     ensures { λ r. ⌜ (0 < r) × (r ≤ 160) ⌝ }
 {
-    let word = words::word_of(line);
-    let mut fields = case::zeros();
-    if vectors::read_fields(line, words::word_end(line), &mut fields) != words::numbers_of(word) {
-        return case::put_off(answers);
+    let word = vectors::word_of(line);
+    let mut fields = vectors::zeros();
+    if vectors::read_fields(line, vectors::word_end(line), &mut fields) != words::numbers_of(word) {
+        return vectors::put_off(answers);
     }
     answer(word, &fields, answers)
 }
 
 fn answer_line(line: &[u8]) {
-    let mut answers = case::zeros();
+    let mut answers = vectors::zeros();
     let count = answer_to(line, &mut answers);
     vectors::write_fields(&answers, count);
 }

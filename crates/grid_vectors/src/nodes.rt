@@ -6,10 +6,10 @@ use crate::case::grid_of;
 use crate::case::number;
 use crate::case::put_bit;
 use crate::case::put_box;
-use crate::case::put_off;
 use crate::case::small;
 use crate::words;
 use grid::Grid;
+use vectors::put_off;
 
 // `size CELL N L`: a node's size.
 fn size(fields: &[u64; 160], answers: &mut [u64; 160]) {

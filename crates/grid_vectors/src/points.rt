@@ -2,10 +2,10 @@
 ghost use Prim.Native.Nat.{_+_, _<_, _≤_};
 use crate::case::bounds;
 use crate::case::cube;
-use crate::case::put_off;
 use crate::case::put_vector;
 use crate::case::small;
 use crate::words;
+use vectors::put_off;
 
 // The most points of an answer.
 const MOST_POINTS: u64 = 50;

@@ -1,5 +1,4 @@
 // The words of the cases, each as the number that its letters make, 8 bits to a letter.
-ghost use Prim.Native.Nat.{_≤_};
 
 pub const BLOCK: u64 = 0x0062_6c6f_636b;
 
@@ -38,35 +37,6 @@ pub const LIST: u64 = 0x6c69_7374;
 pub const LONGLIST: u64 = 0x6c6f_6e67_6c69_7374;
 
 pub const OPEN: u64 = 0x6f70_656e;
-
-// The word that begins a line: its letters up to the first space, at most 8.
-pub fn word_of(line: &[u8]) -> u64 {
-    let mut word: u64 = 0;
-    let mut place: usize = 0;
-    while place < 8 {
-        let b = vectors::byte_at(line, place);
-        if b == 32 {
-            return word;
-        }
-        word = (word << 8) | b;
-        place += 1;
-    }
-    word
-}
-
-// Where the first space of a line stands, or 8.
-pub fn word_end(line: &[u8]) -> usize
-    ensures { λ r. ⌜ r ≤ 8 ⌝ }
-{
-    let mut place: usize = 0;
-    while place < 8 {
-        if vectors::byte_at(line, place) == 32 {
-            return place;
-        }
-        place += 1;
-    }
-    8
-}
 
 // How many numbers follow a word, and 0 where there is no such word.
 pub fn numbers_of(word: u64) -> usize {

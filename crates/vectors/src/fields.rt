@@ -6,6 +6,23 @@ use crate::Hex;
 use crate::byte_at;
 use crate::hex16;
 
+// The answer to a line that is no case: a number that no call gives.
+const OFF: u64 = 0xffff_ffff_ffff_ffff;
+
+// Room for the numbers of a case or of an answer. As a call's result it is an array of which a proof
+// knows the length alone.
+pub fn zeros() -> [u64; 160] {
+    [0; 160]
+}
+
+// Puts the answer to a line that is no case.
+pub fn put_off(answers: &mut [u64; 160]) -> usize
+    ensures { λ r. ⌜ r ≡ 1 ⌝ }
+{
+    answers[0] = OFF;
+    1
+}
+
 // Reads the numbers from a place on into the fields, each a space and its digits, up to the line's
 // byte 10. Returns how many, or 161 where the line is off its form.
 pub fn read_fields(line: &[u8], at: usize, fields: &mut [u64; 160]) -> usize

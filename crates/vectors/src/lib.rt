@@ -7,9 +7,14 @@ ghost use Rattle.vectors.specs.Line.{LineEnd};
 ghost use Rattle.vectors.specs.Text.{byteAt, digitOf, hexAt, hasWord, joined, rowAt};
 
 mod fields; // fields.rt: a line's numbers, read and written
+mod words; // words.rt: the word that begins a line
 
+pub use fields::put_off;
 pub use fields::read_fields;
 pub use fields::write_fields;
+pub use fields::zeros;
+pub use words::word_end;
+pub use words::word_of;
 
 // What stands where a number is looked for.
 pub enum Hex {

@@ -1,7 +1,9 @@
 //! What the benchmark calls of the original's fields.
 
 use crate::parts::Graph;
-pub use crate::types::computation::data::{BlockSize, DenseField, SparseField, SparseFieldConfig};
+pub use crate::types::computation::data::inside::block;
+pub use crate::types::computation::data::sampled::{children, Child};
+pub use crate::types::computation::data::{DenseField, SparseField, SparseFieldConfig};
 pub use crate::types::geometry::{BoundingBox, Vec3, Vec3i};
 
 /// A field of given values, with its origin at (x, y, z).
@@ -25,4 +27,10 @@ pub fn bounds(min: [f64; 3], max: [f64; 3]) -> BoundingBox<f64> {
 pub fn point_count(bounds: &BoundingBox<f64>, cell: f64) -> [usize; 3] {
     let n = DenseField::point_count(bounds, cell);
     [n.i, n.j, n.k]
+}
+
+/// Samples a sparse field that has its bounds, with a band's two limits.
+pub fn sample_sparse(field: &mut SparseField<f64>, graph: &Graph, [min, max]: [f64; 2]) {
+    let sampled = field.sample_from_graph(&graph.graph, min, max);
+    sampled.expect("a field with its bounds set");
 }

@@ -6,8 +6,8 @@
 //! Ours are `parts.rs`, the shapes and operations of a model as components of
 //! the original, and the way to its evaluation; `dense.rs` with `cursors.rs`,
 //! the way to the dense field and to its walks from any cursor; `inside.rs`,
-//! which reads the sparse field's private parts; and `benched.rs`, the way to
-//! what the benchmark calls.
+//! which reads the sparse field's private parts, and `sampled.rs`, which reads
+//! its children; and `benched.rs`, the way to what the benchmark calls.
 
 pub mod benched;
 pub mod dense;
@@ -88,6 +88,7 @@ pub mod types {
             mod sparse_field {
                 shared!("types--computation--data--sparse_field");
                 pub mod inside;
+                pub mod sampled;
             }
             pub use dense_field::*;
             pub use sparse_field::*;

@@ -1,6 +1,6 @@
 //! Writes the lists of stored cases. The same list comes out each time.
 //!
-//! usage: vectors float|model|dense|grid [answers]
+//! usage: vectors float|model|dense|grid|sparse [answers]
 
 mod bits;
 mod dense;
@@ -10,6 +10,7 @@ mod grid_rules;
 mod grids;
 mod models;
 mod random;
+mod sparse;
 
 use std::io::{self, Write};
 use std::process::ExitCode;
@@ -24,8 +25,10 @@ fn main() -> ExitCode {
         ["dense", "answers"] => dense::list().answers,
         ["grid"] => grids::list().cases,
         ["grid", "answers"] => grids::list().answers,
+        ["sparse"] => sparse::list().cases,
+        ["sparse", "answers"] => sparse::list().answers,
         _ => {
-            eprintln!("usage: vectors float|model|dense|grid [answers]");
+            eprintln!("usage: vectors float|model|dense|grid|sparse [answers]");
             return ExitCode::from(2);
         }
     };

@@ -2,6 +2,7 @@
 use borrow.Author.Needs.{needs}
 use mathlib.Core.Path.{ap, _∙_}
 use mathlib.Core.List.{List}
+use Prim.Native.Nat.{_%_}
 use lib.Ieee.{Float}
 use lib.ListN.{getD}
 use Rattle.geometry.specs.Values.{vec3}
@@ -27,7 +28,7 @@ returns : tie.Need-returns
 returns c =
     let a = c .before .before .before .before .before .args in
     let answer = c .before .before .before .before .cell-corners .ensures in
-    let point : CellCorners → List Float = λ r. coordinates (getD (r .points) (a .corner) (vec3 past past past)) in
+    let point : CellCorners → List Float = λ r. coordinates (getD (r .points) (a .corner % 8) (vec3 past past past)) in
     (ap (λ (r : CellCorners). r .refused) answer, c .put-point .ensures ∙ ap point answer)
 
 pub bench-cell-corner-spec : {M : Type 1} → statement M

@@ -1,6 +1,7 @@
 //! Ours: what the private parts of a sparse field hold and answer.
 
 use super::{BlockSize, InternalNode, LeafNode, NodeHandle, SparseField, SparseFieldConfig};
+use crate::parts::Graph;
 use crate::types::computation::data::field_iterator::PointIterator;
 use crate::types::computation::data::DenseField;
 use crate::types::computation::model::{ComputationGraph, Data, ModelComponent, Parameter};
@@ -21,6 +22,13 @@ const BLOCKS: [BlockSize; 6] = [
 /// The block of this size, if there is one.
 pub fn block(n: u64) -> Option<BlockSize> {
     BLOCKS.into_iter().find(|b| b.value() as u64 == n)
+}
+
+/// What became of a child.
+pub enum Child {
+    Empty,
+    Constant(f64),
+    Leaf(Vec<f64>),
 }
 
 /// The nodes of a field with its bounds set.
@@ -79,6 +87,23 @@ impl Nodes {
     /// The active children of all nodes.
     pub fn active(&self) -> usize {
         self.field.n_active_nodes()
+    }
+
+    /// Samples all nodes.
+    pub fn sample(&mut self, graph: &Graph, min_val: f64, max_val: f64) {
+        let done = self.field.sample_from_graph(&graph.graph, min_val, max_val);
+        done.expect("the bounds are set");
+    }
+
+    /// The children of a node.
+    pub fn children(&self, v: usize) -> Vec<Child> {
+        let child = |handle: &NodeHandle<f64>| match handle {
+            NodeHandle::Leaf(leaf) => Child::Leaf(leaf.values.clone()),
+            NodeHandle::Constant(_, value) => Child::Constant(*value),
+            NodeHandle::Empty => Child::Empty,
+            NodeHandle::Internal(_) => unreachable!("a node has no nodes below it"),
+        };
+        self.node(v).children.iter().map(child).collect()
     }
 }
 

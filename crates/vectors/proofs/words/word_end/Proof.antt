@@ -1,14 +1,14 @@
--- `word_end` is safe and ends: each turn looks at one byte.
+-- `word_end` ends, at 64 at most.
 use Prim.Native.Nat.{_-_, _≤_}
 use borrow.Author.Needs.{needs}
-use Rattle.grid_vectors.proofs.words.word_end.Statement.{statement}
-use Rattle.grid_vectors.proofs.words.word_end.Tie as tie
+use Rattle.vectors.proofs.words.word_end.Statement.{statement}
+use Rattle.vectors.proofs.words.word_end.Tie as tie
 
 abbrev Inv-loop : tie.InvT-loop
-Inv-loop line place₀ place = place ≤ 8
+Inv-loop line at₀ at = at ≤ 64
 
 abbrev μ-loop : tie.MeasureT-loop
-μ-loop line place₀ place = 8 - place
+μ-loop line at₀ at = 64 - at
 
 loop-holds : tie.Need-loop-holds Inv-loop μ-loop
 loop-holds c = search needs
@@ -19,8 +19,8 @@ byte-at-requires c κs = search needs
 returns : tie.Need-returns Inv-loop μ-loop
 returns c = search needs
 
-add-place : tie.Need-add-place Inv-loop μ-loop
-add-place c = search needs
+add-at : tie.Need-add-at Inv-loop μ-loop
+add-at c = search needs
 
 loop-less : tie.Need-loop-less Inv-loop μ-loop
 loop-less c = search needs
@@ -40,7 +40,7 @@ word-end-spec =
     loop-holds
     byte-at-requires
     returns
-    add-place
+    add-at
     loop-less
     loop-again
     returns-2)

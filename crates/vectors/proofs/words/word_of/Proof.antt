@@ -1,14 +1,14 @@
--- `word_end` ends, at 64 at most.
+-- `word_of` is safe and ends: each turn takes one letter.
 use Prim.Native.Nat.{_-_, _≤_}
 use borrow.Author.Needs.{needs}
-use Rattle.dense_vectors.proofs.word_end.Statement.{statement}
-use Rattle.dense_vectors.proofs.word_end.Tie as tie
+use Rattle.vectors.proofs.words.word_of.Statement.{statement}
+use Rattle.vectors.proofs.words.word_of.Tie as tie
 
 abbrev Inv-loop : tie.InvT-loop
-Inv-loop line at₀ at = at ≤ 64
+Inv-loop line word₀ place₀ word place = place ≤ 8
 
 abbrev μ-loop : tie.MeasureT-loop
-μ-loop line at₀ at = 64 - at
+μ-loop line word₀ place₀ word place = 8 - place
 
 loop-holds : tie.Need-loop-holds Inv-loop μ-loop
 loop-holds c = search needs
@@ -19,8 +19,8 @@ byte-at-requires c κs = search needs
 returns : tie.Need-returns Inv-loop μ-loop
 returns c = search needs
 
-add-at : tie.Need-add-at Inv-loop μ-loop
-add-at c = search needs
+add-place : tie.Need-add-place Inv-loop μ-loop
+add-place c = search needs
 
 loop-less : tie.Need-loop-less Inv-loop μ-loop
 loop-less c = search needs
@@ -31,8 +31,8 @@ loop-again c = search needs
 returns-2 : tie.Need-returns-2 Inv-loop μ-loop
 returns-2 c = search needs
 
-pub word-end-spec : {M : Type 1} → statement M
-word-end-spec =
+pub word-of-spec : {M : Type 1} → statement M
+word-of-spec =
     tie.close
     (tie.spec
     Inv-loop
@@ -40,7 +40,7 @@ word-end-spec =
     loop-holds
     byte-at-requires
     returns
-    add-at
+    add-place
     loop-less
     loop-again
     returns-2)

@@ -1,0 +1,81 @@
+// What a list holds beside the slices, as numbers: the record, the input of the next open, and how much of
+// each slice is lent. An input is GRID MIN MAX COUNT, 12 numbers, and five numbers for each of 64 parts.
+ghost use Prim.Native.Nat.{_+_, _≤_};
+
+// Where the record's flag stands, its input, its lengths, its counts and its cursor (a kind and three
+// numbers).
+pub const JOB: usize = 0;
+
+pub const INPUT: usize = 1;
+
+pub const LENGTHS: usize = 333;
+
+pub const COUNTS: usize = 338;
+
+pub const CURSOR: usize = 343;
+
+// Where the next input stands, and the lengths that are lent.
+pub const NEXT: usize = 347;
+
+pub const LENT: usize = 679;
+
+// What is held before the first list.
+pub fn start() -> [u64; 684] {
+    [0; 684]
+}
+
+// Copies so many numbers of a line to a place.
+fn copy(fields: &[u64; 160], from: usize, count: usize, held: &mut [u64; 684], at: usize)
+    requires { ⌜ (from + count ≤ 160) × (at + count ≤ 684) ⌝ }
+{
+    let mut i: usize = 0;
+    while i < count {
+        held[at + i] = fields[from + i];
+        i += 1;
+    }
+}
+
+// Sets every number of the record and of the next input to the same one.
+fn set_all(held: &mut [u64; 684], to: usize, number: u64)
+    requires { ⌜ to ≤ 684 ⌝ }
+{
+    let mut i: usize = 0;
+    while i < to {
+        held[i] = number;
+        i += 1;
+    }
+}
+
+// `lend KINDS NUMBERS PLACES STORE CORNERS SEED`: a new list, with a record that has no job and the seed in
+// every other field.
+pub fn lend(fields: &[u64; 160], held: &mut [u64; 684]) {
+    set_all(held, LENT, fields[5]);
+    held[JOB] = 0;
+    copy(fields, 0, 5, held, LENT);
+}
+
+// The first of 31 parts that a line sets: 33 at most.
+fn first_part(place: u64) -> usize
+    ensures { λ r. ⌜ r ≤ 33 ⌝ }
+{
+    if place < 33 { place as usize } else { 33 }
+}
+
+// `parts PLACE PART ..`: 31 parts of the next input from a place on. Those not given are constants of 0.
+pub fn set_parts(fields: &[u64; 160], held: &mut [u64; 684]) {
+    let place = first_part(fields[0]);
+    copy(fields, 1, 155, held, NEXT + 12 + 5 * place);
+}
+
+// `open GRID MIN MAX COUNT`: the other numbers of the next input.
+pub fn set_input(fields: &[u64; 160], held: &mut [u64; 684]) {
+    copy(fields, 0, 12, held, NEXT);
+}
+
+// `forge FIELD VALUE`: one number of the record.
+pub fn forge(fields: &[u64; 160], held: &mut [u64; 684]) {
+    if fields[0] < 347 {
+        let field = fields[0] as usize;
+        held[field] = fields[1];
+    }
+}

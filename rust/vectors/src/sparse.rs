@@ -1,0 +1,23 @@
+//! The lists of opens, steps and drops on a sparse field's job.
+//!
+//! The ledger answers lists that nobody interferes with, and the model of the
+//! records is held to it. That model alone answers where a record is forged or
+//! an element set between two calls.
+
+mod forged;
+mod inputs;
+mod jobs;
+mod original;
+mod random_lists;
+mod script;
+
+use crate::fields::List;
+use script::Script;
+
+pub fn list() -> List {
+    let mut script = Script::default();
+    jobs::lists(&mut script);
+    forged::lists(&mut script);
+    random_lists::lists(&mut script);
+    script.list
+}
