@@ -21,11 +21,9 @@ const CASE_LISTING: [&str; 9] = [
     "(constant 0 7 3ff8000000000000)",
 ];
 
-/// The files of the examples.
-const EXAMPLES: [&str; 2] = [
-    include_str!("../../../../examples/case.job"),
-    include_str!("../../../../examples/bracket.job"),
-];
+/// The texts of the examples.
+const CASE_JOB: &str = include_str!("../../../../examples/case.job");
+const BRACKET_JOB: &str = include_str!("../../../../examples/bracket.job");
 
 /// Patterns of NaN: with digits, signalling, negative, negative and signalling
 /// with digits, all ones.
@@ -38,10 +36,9 @@ const NANS: [u64; 5] = [
 ];
 
 pub fn texts(list: &mut List) {
-    list.exactly(of_lines(&CASE), &of_lines(&CASE_LISTING));
-    for text in EXAMPLES {
-        list.add(text);
-    }
+    assert_eq!(of_lines(&CASE), CASE_JOB);
+    list.exactly(CASE_JOB, &of_lines(&CASE_LISTING));
+    list.add(BRACKET_JOB);
     small_grids(list);
     extreme_grids(list);
     full_slices(list);
@@ -56,6 +53,18 @@ impl List {
     /// The text of a job, and the counts of its answer.
     fn done(&mut self, input: &Input, counts: &str) {
         self.due(written(input), &format!("(done {counts})"));
+    }
+
+    /// A model whose values have these bits, by turns along x.
+    fn values(&mut self, parts: &[Part], at_0: u64, at_1: u64) {
+        let pair = format!(" {at_0:016x} {at_1:016x}");
+        let answer = format!("(done 1 1 1 8 16)\n(leaf 0 0{})\n", pair.repeat(4));
+        self.exactly(written(&one_leaf(parts)), &answer);
+    }
+
+    /// A model with the same value everywhere.
+    fn value(&mut self, parts: &[Part], bits: u64) {
+        self.values(parts, bits, bits);
     }
 }
 
@@ -187,20 +196,6 @@ fn models(list: &mut List) {
 /// One child with eight points, whatever the model.
 fn one_leaf(parts: &[Part]) -> Input {
     with_band(with_parts(one_child(), parts), ALL)
-}
-
-impl List {
-    /// A model whose values have these bits, by turns along x.
-    fn values(&mut self, parts: &[Part], at_0: u64, at_1: u64) {
-        let pair = format!(" {at_0:016x} {at_1:016x}");
-        let answer = format!("(done 1 1 1 8 16)\n(leaf 0 0{})\n", pair.repeat(4));
-        self.exactly(written(&one_leaf(parts)), &answer);
-    }
-
-    /// A model with the same value everywhere.
-    fn value(&mut self, parts: &[Part], bits: u64) {
-        self.values(parts, bits, bits);
-    }
 }
 
 fn constant(bits: u64) -> Part {

@@ -105,7 +105,7 @@ pub fn texts() -> Vec<Fault> {
     faults.extend(floats());
     faults.extend(decimals());
     faults.extend(OFF.map(|(number, line)| with_line(number, spelled(line).as_bytes())));
-    faults.extend(last_lines());
+    faults.extend(later_lines());
     faults.extend(long_texts());
     faults
 }
@@ -266,8 +266,8 @@ pub fn with_parts(count: usize) -> Vec<u8> {
     of_lines(&[&CASE[..HEADER], &parts].concat()).into_bytes()
 }
 
-/// Faults around the last line that a text can have.
-fn last_lines() -> Vec<Fault> {
+/// Faults in later lines, and around the last that a text can have.
+fn later_lines() -> Vec<Fault> {
     let whole = with_parts(MOST_PARTS);
     let mut faults = Vec::new();
     for count in [MOST_PARTS + 1, MOST_PARTS + 2, 200] {
@@ -296,9 +296,9 @@ fn last_lines() -> Vec<Fault> {
     ] {
         faults.push(([&without, last.as_bytes()].concat(), LAST_LINE));
     }
-    let before = with_parts(MOST_PARTS - 2);
-    for last in ["(neg)\n(neg 0)\n", "\n(neg 0)\n(neg 0)\n"] {
-        faults.push(([&before, last.as_bytes()].concat(), LAST_LINE - 1));
+    for before in [3, 10, 30, 50, MOST_PARTS - 2] {
+        let text = [&with_parts(before), &b"(neg)\n(neg 0)\n"[..]].concat();
+        faults.push((text, HEADER + before + 1));
     }
     faults
 }

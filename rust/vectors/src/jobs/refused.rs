@@ -3,7 +3,7 @@
 use super::faults;
 use super::text::written;
 use super::{of_lines, List, CASE};
-use crate::sparse::inputs::{of_grid, scope_case, with_parts};
+use crate::sparse::inputs::{of_grid, scope_case, with_band, with_parts, NONE};
 use ledger::{Input, Part};
 
 pub fn texts(list: &mut List) {
@@ -140,7 +140,10 @@ fn by_six(list: &mut List) {
     for leaf in [32, 64] {
         list.refused(&of_grid([0.0; 3], [0.0; 3], 1.0, 2, leaf), 6);
     }
-    list.refused(&of_grid([0.0; 3], [12.5, 12.0, 12.0], 1.0, 4, 4), 6);
+    let many = of_grid([0.0; 3], [12.5, 12.0, 12.0], 1.0, 4, 4);
+    list.refused(&many, 6);
+    // The store is for active children, also where none becomes a leaf.
+    list.refused(&with_band(many, NONE), 6);
 }
 
 /// Two causes at once: the lower number. A text off its form: 12.
