@@ -311,7 +311,7 @@ pub fn longest() -> Vec<u8> {
     of_lines(&[&header[..], &parts].concat()).into_bytes()
 }
 
-/// Texts of 5,148 bytes and more.
+/// Texts about as long as the longest on its form, and longer ones.
 fn long_texts() -> Vec<Fault> {
     let longest = longest();
     let end = longest.len() - 1;
