@@ -1,6 +1,7 @@
 //! Writes the lists of stored cases. The same list comes out each time.
 //!
-//! usage: vectors float|model|dense|grid|sparse [answers]
+//! usage: vectors float|model|dense|grid|sparse|jobs [answers]
+//!        vectors listing < JOB
 
 mod bits;
 mod dense;
@@ -8,35 +9,52 @@ mod fields;
 mod floats;
 mod grid_rules;
 mod grids;
+mod jobs;
 mod models;
 mod random;
 mod sparse;
 
-use std::io::{self, Write};
+use std::io::{self, Read, Write};
 use std::process::ExitCode;
 
 fn main() -> ExitCode {
     let words: Vec<String> = std::env::args().skip(1).collect();
     let words: Vec<&str> = words.iter().map(String::as_str).collect();
-    let text = match words[..] {
-        ["float"] => floats::list(),
-        ["model"] => models::list(),
-        ["dense"] => dense::list().cases,
-        ["dense", "answers"] => dense::list().answers,
-        ["grid"] => grids::list().cases,
-        ["grid", "answers"] => grids::list().answers,
-        ["sparse"] => sparse::list().cases,
-        ["sparse", "answers"] => sparse::list().answers,
+    let written = match words[..] {
+        ["float"] => floats::list().into_bytes(),
+        ["model"] => models::list().into_bytes(),
+        ["dense"] => dense::list().cases.into_bytes(),
+        ["dense", "answers"] => dense::list().answers.into_bytes(),
+        ["grid"] => grids::list().cases.into_bytes(),
+        ["grid", "answers"] => grids::list().answers.into_bytes(),
+        ["sparse"] => sparse::list().cases.into_bytes(),
+        ["sparse", "answers"] => sparse::list().answers.into_bytes(),
+        ["jobs"] => jobs::list().cases,
+        ["jobs", "answers"] => jobs::list().answers,
+        ["listing"] => match listing() {
+            Ok(lines) => lines,
+            Err(error) => return failed(&error),
+        },
         _ => {
-            eprintln!("usage: vectors float|model|dense|grid|sparse [answers]");
+            eprintln!("usage: vectors float|model|dense|grid|sparse|jobs [answers]");
+            eprintln!("       vectors listing < JOB");
             return ExitCode::from(2);
         }
     };
-    match io::stdout().write_all(text.as_bytes()) {
+    match io::stdout().write_all(&written) {
         Ok(()) => ExitCode::SUCCESS,
-        Err(error) => {
-            eprintln!("vectors: {error}");
-            ExitCode::FAILURE
-        }
+        Err(error) => failed(&error),
     }
+}
+
+/// The listing of the job text on standard input.
+fn listing() -> io::Result<Vec<u8>> {
+    let mut text = Vec::new();
+    io::stdin().read_to_end(&mut text)?;
+    Ok(jobs::listing(&text).into_bytes())
+}
+
+fn failed(error: &io::Error) -> ExitCode {
+    eprintln!("vectors: {error}");
+    ExitCode::FAILURE
 }

@@ -5,9 +5,9 @@
 //! an element set between two calls.
 
 mod forged;
-mod inputs;
+pub mod inputs;
 mod jobs;
-mod original;
+pub mod original;
 mod random_lists;
 mod script;
 
