@@ -40,7 +40,7 @@ use Rattle.sparse_field.specs.Plan as plans
 use Rattle.sparse_field.specs.Plan.{planWith, decideOf, boxOf}
 use Rattle.sparse_field.specs.Runs.{runOf}
 use Rattle.sparse_field.specs.FlatValue.{flatValue}
-use Rattle.sparse_field.specs.Progress.{plan, Sized, Lent, stateIn, Advanced, Ready, readingIn, ZeroCorners, NodeAdvanced, leafProgress}
+use Rattle.sparse_field.specs.Progress.{plan, Sized, Lent, afterStop, IfThrough, stateIn, Advanced, Ready, readingIn, ZeroCorners, NodeAdvanced, Turned, Onward, leafProgress}
 use Rattle.sparse_field.proofs.NodeKinds.{part-needed}
 use Rattle.sparse_field.proofs.RunLaws.{run-corners}
 use Rattle.sparse_field.proofs.Turns.{progress, stopped, advanced-start, advanced-then, filledStore, turn-points}
@@ -171,11 +171,34 @@ pub nodes-upto : (P : Plan) (v₁ v₂ b leaves : ℕ) {m₀ m : Memory} {from :
     → Advanced P b leaves m₀ m from (nodesLeft P v₁) r (activeBefore P v₁ 0) → Advanced P b leaves m₀ m from (nodesLeft P v₂) r (activeBefore P v₂ 0)
 nodes-upto P v₁ v₂ b leaves {m₀} {m} {from} {r} same = subst (λ v. Advanced P b leaves m₀ m from (nodesLeft P v) r (activeBefore P v 0)) same
 
--- a node, and then all nodes after it
-pub node-then : (P : Plan) (v n b leaves : ℕ) {m m₁ m₂ : Memory} {from : List Event} {r₁ r₂ : Progress} {most : ℕ} → NodeAdvanced P v b leaves m m₁ from r₁
-    → r₁ .stop ≡ Through → n ≡ suc v → Advanced P (r₁ .left) (r₁ .leaves) m₁ m₂ (nodesLeft P n) [] r₂ most → Advanced P b leaves m m₂ from [] r₂ most
-node-then P v n b leaves {m} {m₁} {m₂} {from} {r₁} {r₂} {most} node through next rest =
-    advanced-then P (node .advanced) through (subst (λ k. Advanced P (r₁ .left) (r₁ .leaves) m₁ m₂ (nodesLeft P k) [] r₂ most) next rest)
+-- a node's turn, and then all nodes after it
+pub turned : (P : Plan) (v : ℕ) {turn : Progress} {b leaves : ℕ} {m₀ m : Memory} {from : List Event} → NodeAdvanced P v b leaves m₀ m from turn → Turned P v turn m
+turned P v node = record { lent = node .advanced .lent; atMost = node .advanced .atMost; cleared = node .cleared }
+
+module _ (P : Plan) (v : ℕ) {turn r : Progress} {m m₁ : Memory} where
+  pub node-onward : {b leaves : ℕ} {m₀ : Memory} {from : List Event} → NodeAdvanced P v b leaves m₀ m from turn → Onward P v turn m m₁ r
+      → Advanced P b leaves m₀ m₁ from [] r (activeAll P)
+  node-onward node on = record { same = node .advanced .same ∙ on .same; lent = on .lent; atMost = on .atMost }
+
+  pub onward-through : (n : ℕ) → turn .stop ≡ Through → n ≡ suc v → Advanced P (turn .left) (turn .leaves) m m₁ (nodesLeft P n) [] r (activeAll P)
+      → Onward P v turn m m₁ r
+  onward-through n through next rest = record {
+    same = ap (λ x. afterStop P (stateIn m (turn .leaves)) (turn .left) x (nodesLeft P (suc v))) through
+        ∙ ap (λ k. runOf P (turn .left) (nodesLeft P k) (stateIn m (turn .leaves))) (sym next) ∙ rest .same;
+    lent = rest .lent;
+    atMost = rest .atMost;
+  }
+
+-- a turn that has stopped
+pub onward-stopped : (P : Plan) (v : ℕ) {turn : Progress} {m : Memory} (a : Cursor) → Turned P v turn m → turn .stop ≡ At a → Onward P v turn m m turn
+onward-stopped P v {turn} {m} a here stopped =
+    let to : (es : List Event) → afterStop P (stateIn m (turn .leaves)) (turn .left) (turn .stop) es ≡ afterStop P (stateIn m (turn .leaves)) (turn .left) (At a) [] =
+    λ es. ap (λ x. afterStop P (stateIn m (turn .leaves)) (turn .left) x es) stopped in
+    record {
+      same = to (nodesLeft P (suc v)) ∙ sym (to []);
+      lent = here .lent;
+      atMost = subst (λ x. IfThrough x (turn .leaves ≤ activeAll P)) (sym stopped) tt;
+    }
 
 -- ---- the same, from what the code reads
 

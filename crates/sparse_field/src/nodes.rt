@@ -11,7 +11,7 @@ ghost use Rattle.schedule.specs.Totals.{activeBefore, activeAll};
 ghost use Rattle.sparse_field.specs.Calls.{memoryOf};
 ghost use Rattle.sparse_field.specs.Records.{cursorIn};
 ghost use Rattle.sparse_field.specs.Startable.{Startable};
-ghost use Rattle.sparse_field.specs.Progress.{plan, Sized, Lent, Ready, Advanced, NodeAdvanced, ZeroCorners, readingIn};
+ghost use Rattle.sparse_field.specs.Progress.{plan, Sized, Lent, Ready, Advanced, NodeAdvanced, Turned, Onward, ZeroCorners, readingIn};
 use crate::Cursor;
 use crate::Progress;
 use crate::Stop;
@@ -255,17 +255,15 @@ fn run_nodes(
     }
 }
 
-// What is left from corner i of node v on.
-fn from_corner(
+// What is left after node v, whose turn has come to its end or stopped: all nodes after it.
+fn after_node(
     g: Grid,
     band: Band,
     words: &[u32; 192],
     reals: &[f64; 256],
     parts: usize,
     v: usize,
-    i: usize,
-    leaves: u64,
-    budget: u64,
+    turn: Progress,
     scratch: &mut [f64; 4096],
     kinds: &mut [u8],
     numbers: &mut [f64],
@@ -273,90 +271,10 @@ fn from_corner(
     store: &mut [f64],
     corners: &mut [f64],
 ) -> Progress
-    requires { ⌜ Sized g × (i ≤ cube (g .inner + 1)) × (parts ≤ 64) ⌝ }
-    requires { ⌜ Ready (plan g band (now words) (now reals) parts) v 0 leaves (memoryOf (now kinds) (now numbers) (now places) (now store) (now corners)) ⌝ }
-    ensures { λ r. ⌜ Advanced (plan g band (now (words .entry)) (now (reals .entry)) parts) budget leaves (memoryOf (now (kinds .entry)) (now (numbers .entry)) (now (places .entry)) (now (store .entry)) (now (corners .entry))) (memoryOf (now (kinds .exit)) (now (numbers .exit)) (now (places .exit)) (now (store .exit)) (now (corners .exit))) (eventsFrom (plan g band (now (words .entry)) (now (reals .entry)) parts) (at (corner v i)) (readingIn (memoryOf (now (kinds .entry)) (now (numbers .entry)) (now (places .entry)) (now (store .entry)) (now (corners .entry))))) [] r (activeAll (plan g band (now (words .entry)) (now (reals .entry)) parts)) ⌝ }
+    requires { ⌜ Sized g × (v < nodesOf g) × (parts ≤ 64) ⌝ }
+    requires { ⌜ Turned (plan g band (now words) (now reals) parts) v turn (memoryOf (now kinds) (now numbers) (now places) (now store) (now corners)) ⌝ }
+    ensures { λ r. ⌜ Onward (plan g band (now (words .entry)) (now (reals .entry)) parts) v turn (memoryOf (now (kinds .entry)) (now (numbers .entry)) (now (places .entry)) (now (store .entry)) (now (corners .entry))) (memoryOf (now (kinds .exit)) (now (numbers .exit)) (now (places .exit)) (now (store .exit)) (now (corners .exit))) r ⌝ }
 {
-    let turn = node_from_corner(
-        g,
-        band,
-        words,
-        reals,
-        parts,
-        v,
-        i,
-        leaves,
-        budget,
-        scratch,
-        kinds,
-        numbers,
-        places,
-        store,
-        corners,
-    );
-    let stop = turn.stop;
-    if let Stop::At(_) = stop {
-        return turn;
-    }
-    run_nodes(
-        g,
-        band,
-        words,
-        reals,
-        parts,
-        v + 1,
-        turn.leaves,
-        turn.left,
-        scratch,
-        kinds,
-        numbers,
-        places,
-        store,
-        corners,
-    )
-}
-
-// What is left from point p of child c of node v on.
-fn from_point(
-    g: Grid,
-    band: Band,
-    words: &[u32; 192],
-    reals: &[f64; 256],
-    parts: usize,
-    v: usize,
-    c: usize,
-    p: usize,
-    leaves: u64,
-    budget: u64,
-    scratch: &mut [f64; 4096],
-    kinds: &mut [u8],
-    numbers: &mut [f64],
-    places: &mut [u32],
-    store: &mut [f64],
-    corners: &mut [f64],
-) -> Progress
-    requires { ⌜ Sized g × (c < cube (g .inner)) × (p ≤ cube (g .leaf)) × (0 < leaves) × (parts ≤ 64) ⌝ }
-    requires { ⌜ Ready (plan g band (now words) (now reals) parts) v (suc c) leaves (memoryOf (now kinds) (now numbers) (now places) (now store) (now corners)) ⌝ }
-    ensures { λ r. ⌜ Advanced (plan g band (now (words .entry)) (now (reals .entry)) parts) budget leaves (memoryOf (now (kinds .entry)) (now (numbers .entry)) (now (places .entry)) (now (store .entry)) (now (corners .entry))) (memoryOf (now (kinds .exit)) (now (numbers .exit)) (now (places .exit)) (now (store .exit)) (now (corners .exit))) (eventsFrom (plan g band (now (words .entry)) (now (reals .entry)) parts) (at (point v c p)) (readingIn (memoryOf (now (kinds .entry)) (now (numbers .entry)) (now (places .entry)) (now (store .entry)) (now (corners .entry))))) [] r (activeAll (plan g band (now (words .entry)) (now (reals .entry)) parts)) ⌝ }
-{
-    let turn = node_from_point(
-        g,
-        band,
-        words,
-        reals,
-        parts,
-        v,
-        c,
-        p,
-        leaves,
-        budget,
-        scratch,
-        kinds,
-        numbers,
-        places,
-        store,
-        corners,
-    );
     let stop = turn.stop;
     if let Stop::At(_) = stop {
         return turn;
@@ -406,40 +324,74 @@ pub fn run_from(
             left: budget,
             stop: Stop::Through,
         },
-        Cursor::Corner(v, i) => from_corner(
-            g,
-            band,
-            words,
-            reals,
-            parts,
-            v,
-            i,
-            leaves,
-            budget,
-            scratch,
-            kinds,
-            numbers,
-            places,
-            store,
-            corners,
-        ),
-        Cursor::Point(v, c, p) => from_point(
-            g,
-            band,
-            words,
-            reals,
-            parts,
-            v,
-            c,
-            p,
-            leaves,
-            budget,
-            scratch,
-            kinds,
-            numbers,
-            places,
-            store,
-            corners,
-        ),
+        Cursor::Corner(v, i) => {
+            let turn = node_from_corner(
+                g,
+                band,
+                words,
+                reals,
+                parts,
+                v,
+                i,
+                leaves,
+                budget,
+                scratch,
+                kinds,
+                numbers,
+                places,
+                store,
+                corners,
+            );
+            after_node(
+                g,
+                band,
+                words,
+                reals,
+                parts,
+                v,
+                turn,
+                scratch,
+                kinds,
+                numbers,
+                places,
+                store,
+                corners,
+            )
+        }
+        Cursor::Point(v, c, p) => {
+            let turn = node_from_point(
+                g,
+                band,
+                words,
+                reals,
+                parts,
+                v,
+                c,
+                p,
+                leaves,
+                budget,
+                scratch,
+                kinds,
+                numbers,
+                places,
+                store,
+                corners,
+            );
+            after_node(
+                g,
+                band,
+                words,
+                reals,
+                parts,
+                v,
+                turn,
+                scratch,
+                kinds,
+                numbers,
+                places,
+                store,
+                corners,
+            )
+        }
     }
 }

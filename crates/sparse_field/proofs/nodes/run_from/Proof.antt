@@ -1,9 +1,9 @@
--- `nodes::run_from` meets its contract, by the cursor.
+-- `nodes::run_from` meets its contract: the cursor's node, and then all nodes after it.
 use mathlib.Core.Path.{subst}
 use Rattle.sparse_field.specs.Plan.{planWith}
 use Rattle.sparse_field.specs.Progress.{plan}
 use Rattle.sparse_field.specs.Startable.{Startable}
-use Rattle.sparse_field.proofs.NodeLaws.{at-cursor, at-end}
+use Rattle.sparse_field.proofs.NodeLaws.{turned, node-onward, at-cursor, at-end}
 use borrow.Author.Needs.{needs}
 use Rattle.sparse_field.proofs.nodes.run_from.Statement.{statement}
 use Rattle.sparse_field.proofs.nodes.run_from.Tie as tie
@@ -14,29 +14,44 @@ enum-told c = search needs
 enum-known-cursor : tie.Need-enum-known-cursor
 enum-known-cursor c = search needs
 
-from-corner-requires : tie.Need-from-corner-requires
+node-from-corner-requires : tie.Need-node-from-corner-requires
 unfolding planWith
-from-corner-requires c κs =
+node-from-corner-requires c κs =
     let s = c .before .before .before .before .before .before .before .before .before .before .before .before .before .before in
     let a = s .args in
     let here = subst (λ x. Startable (plan (a .g) (a .band) (a .words .now) (a .reals .now) (a .parts)) x (a .leaves)) (c .before .before .before .before .before .before .before .cursor .given .1) (s .pre .1 .1) in
     ((s .pre .0 .0, here .1, s .pre .0 .1), record { lent = s .pre .1 .0; node = here .0; atMost = here .2 })
 
+after-node-requires : tie.Need-after-node-requires
+unfolding planWith
+after-node-requires c κs =
+    let s = c .before .before .before .before .before .before .before .before .before .before .before .before .before .before .before .before .before .before .before .before .before .before .before .before .before .before .before .before .before .before .before in
+    let a = s .args in
+    let here = subst (λ x. Startable (plan (a .g) (a .band) (a .words .now) (a .reals .now) (a .parts)) x (a .leaves)) (c .before .before .before .before .before .before .before .before .before .before .before .before .before .before .before .before .before .before .before .before .before .before .before .before .cursor .given .1) (s .pre .1 .1) in
+    ((s .pre .0 .0, here .0, s .pre .0 .1), turned _ _ (c .before .before .before .before .before .before .before .before .before .before .before .before .before .before .before .before .node-from-corner .ensures))
+
 enum-known-cursor-2 : tie.Need-enum-known-cursor-2
 enum-known-cursor-2 c = search needs
 
-from-point-requires : tie.Need-from-point-requires
+node-from-point-requires : tie.Need-node-from-point-requires
 unfolding planWith
-from-point-requires c κs =
+node-from-point-requires c κs =
     let s = c .before .before .before .before .before .before .before .before .before .before .before .before .before .before in
     let a = s .args in
     let here = subst (λ x. Startable (plan (a .g) (a .band) (a .words .now) (a .reals .now) (a .parts)) x (a .leaves)) (c .before .before .before .before .before .before .before .cursor2 .given .1) (s .pre .1 .1) in
     ((s .pre .0 .0, here .1, here .2, here .3, s .pre .0 .1), record { lent = s .pre .1 .0; node = here .0; atMost = here .4 })
 
+after-node-requires-2 : tie.Need-after-node-requires-2
+unfolding planWith
+after-node-requires-2 c κs =
+    let s = c .before .before .before .before .before .before .before .before .before .before .before .before .before .before .before .before .before .before .before .before .before .before .before .before .before .before .before .before .before .before .before in
+    let a = s .args in
+    let here = subst (λ x. Startable (plan (a .g) (a .band) (a .words .now) (a .reals .now) (a .parts)) x (a .leaves)) (c .before .before .before .before .before .before .before .before .before .before .before .before .before .before .before .before .before .before .before .before .before .before .before .before .cursor2 .given .1) (s .pre .1 .1) in
+    ((s .pre .0 .0, here .0, s .pre .0 .1), turned _ _ (c .before .before .before .before .before .before .before .before .before .before .before .before .before .before .before .before .node-from-point .ensures))
+
 returns : tie.Need-returns
 returns c =
-    let s = c .before .before .before .before .before .before .before in
-    at-cursor _ _ _ _ _ _ (c .enum-told .given .1) (at-end _ _ _ _ (s .pre .1 .0) (s .pre .1 .2))
+    let s = c .before .before .before .before .before .before .before in at-cursor _ _ _ _ _ _ (c .enum-told .given .1) (at-end _ _ _ _ (s .pre .1 .0) (s .pre .1 .2))
 
 same-length : tie.Need-same-length
 same-length c = search needs
@@ -54,7 +69,7 @@ same-length-5 : tie.Need-same-length-5
 same-length-5 c = search needs
 
 returns-2 : tie.Need-returns-2
-returns-2 c = at-cursor _ _ _ _ _ _ (c .before .before .before .before .before .before .before .before .before .before .before .before .before .before .before .before .before .before .cursor .given .1) (c .before .before .before .before .before .before .before .before .before .before .from-corner .ensures)
+returns-2 c = at-cursor _ _ _ _ _ _ (c .before .before .before .before .before .before .before .before .before .before .before .before .before .before .before .before .before .before .before .before .before .before .before .before .before .before .before .before .before .before .before .before .before .before .before .cursor .given .1) (node-onward _ _ (c .before .before .before .before .before .before .before .before .before .before .before .before .before .before .before .before .before .before .before .before .before .before .before .before .before .before .before .node-from-corner .ensures) (c .before .before .before .before .before .before .before .before .before .before .after-node .ensures))
 
 same-length-6 : tie.Need-same-length-6
 same-length-6 c = search needs
@@ -72,7 +87,7 @@ same-length-10 : tie.Need-same-length-10
 same-length-10 c = search needs
 
 returns-3 : tie.Need-returns-3
-returns-3 c = at-cursor _ _ _ _ _ _ (c .before .before .before .before .before .before .before .before .before .before .before .before .before .before .before .before .before .before .cursor2 .given .1) (c .before .before .before .before .before .before .before .before .before .before .from-point .ensures)
+returns-3 c = at-cursor _ _ _ _ _ _ (c .before .before .before .before .before .before .before .before .before .before .before .before .before .before .before .before .before .before .before .before .before .before .before .before .before .before .before .before .before .before .before .before .before .before .before .cursor2 .given .1) (node-onward _ _ (c .before .before .before .before .before .before .before .before .before .before .before .before .before .before .before .before .before .before .before .before .before .before .before .before .before .before .before .node-from-point .ensures) (c .before .before .before .before .before .before .before .before .before .before .after-node2 .ensures))
 
 pub run-from-spec : {M : Type 1} → statement M
 run-from-spec =
@@ -80,9 +95,11 @@ run-from-spec =
     (tie.spec
     enum-told
     enum-known-cursor
-    from-corner-requires
+    node-from-corner-requires
+    after-node-requires
     enum-known-cursor-2
-    from-point-requires
+    node-from-point-requires
+    after-node-requires-2
     returns
     same-length
     same-length-2
