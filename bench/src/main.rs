@@ -28,6 +28,8 @@ fn main() -> ExitCode {
     on_one_thread(sparse::rows);
     measure::head_alone();
     sparse::steps();
+    measure::head_beside();
+    sparse::listing::rows();
     ExitCode::SUCCESS
 }
 
