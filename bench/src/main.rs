@@ -1,7 +1,7 @@
 //! Our functions, through a static library, against the machine's root and
 //! the original's calls, in one process. Prints a table of ratios, with the
-//! word `sparse` the rows of sparse fields alone, or with the word `check`
-//! compares the bits of many results.
+//! word `sparse` the rows of sparse fields and listings alone, or with the word
+//! `check` compares the bits of many results.
 
 mod check;
 mod fields;
@@ -28,6 +28,8 @@ fn main() -> ExitCode {
     on_one_thread(sparse::rows);
     measure::head_alone();
     sparse::steps();
+    measure::head_beside();
+    sparse::listing::rows();
     ExitCode::SUCCESS
 }
 

@@ -175,14 +175,36 @@ pub fn alone(name: &str, call: &mut dyn FnMut()) {
 /// Measures a call in two ways in turn, of which one makes so many steps more,
 /// and prints the time of a step. The call is told whether it is that one.
 pub fn beyond(name: &str, steps: usize, call: &mut dyn FnMut(bool)) {
+    let [more, less] = in_two_ways(call);
+    let time = (more - less) / steps as f64;
+    println!("| {name} | {} |", shown(time));
+}
+
+/// Prints the head of a table of listings.
+pub fn head_beside() {
+    println!("\n| what | listing, ns | its job, ns | reading and writing, ns | beside the job |");
+    println!("|---|---|---|---|---|");
+}
+
+/// Measures a listing and its job in turn, and prints both, with the difference.
+/// The call is told whether it is the listing.
+pub fn beside(name: &str, call: &mut dyn FnMut(bool)) {
+    let [listing, job] = in_two_ways(call);
+    let rest = listing - job;
+    let ratio = rest / job;
+    let [listing, job, rest] = [listing, job, rest].map(shown);
+    println!("| {name} | {listing} | {job} | {rest} | {ratio:.2} |");
+}
+
+/// The medians of a call that is told so and one that is not, made in turn.
+fn in_two_ways(call: &mut dyn FnMut(bool)) -> [f64; 2] {
     let mut times = [Vec::new(), Vec::new()];
     let begun = Instant::now();
     while !enough(times[0].len(), begun) {
         times[0].push(elapsed(Clock::Thread, &mut || call(true)));
         times[1].push(elapsed(Clock::Thread, &mut || call(false)));
     }
-    let time = median(&mut times[0]) - median(&mut times[1]);
-    println!("| {name} | {} |", shown(time / steps as f64));
+    times.map(|mut times| median(&mut times))
 }
 
 /// The time that this thread has run.

@@ -30,14 +30,15 @@ pub fn measured() -> [(&'static str, Vec<Part>); 4] {
     [
         ("one plane", vec![PLANE]),
         ("one sphere", vec![Part::Sphere([0.5, 1.0, -0.25], 2.0)]),
-        ("32 spheres under 31 mins", union()),
+        ("32 spheres under 31 mins", union(32)),
         ("a chain of 64 parts", chain()),
     ]
 }
 
 const PLANE: Part = Part::Plane([0.6, -0.64, 0.48], 0.125);
 
-fn union() -> Vec<Part> {
+/// Spheres, and a min for each after the first.
+pub fn union(count: u32) -> Vec<Part> {
     let centre = |n: u32| {
         [
             (n % 4) as f64,
@@ -45,10 +46,12 @@ fn union() -> Vec<Part> {
             (n / 16) as f64 * 1.5,
         ]
     };
-    let mut parts: Vec<Part> = (0..32).map(|n| Part::Sphere(centre(n), 0.75)).collect();
-    parts.push(Part::Min(0, 1));
-    for next in 2..32 {
-        parts.push(Part::Min(next + 30, next));
+    let spheres = (0..count).map(|n| Part::Sphere(centre(n), 0.75));
+    let mut parts: Vec<Part> = spheres.collect();
+    let mut last = 0;
+    for next in 1..count {
+        parts.push(Part::Min(last, next));
+        last = count + next - 1;
     }
     parts
 }

@@ -1,6 +1,8 @@
 //! The rows about sparse fields: ours against the original's `SparseField`, and
 //! what a step costs beyond its evaluations.
 
+pub mod listing;
+
 use std::hint::black_box;
 
 use crate::host::sparse::{job, Counts, Grid, Lent};

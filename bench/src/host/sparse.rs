@@ -24,6 +24,7 @@ extern "C" {
         corners_len: usize,
         counts: &mut Counts,
     ) -> u32;
+    fn bench_list_job(text: *const u8, text_len: usize, out: *mut u8, out_len: usize) -> usize;
 }
 
 /// The grid of a job, and its band's two limits.
@@ -103,4 +104,9 @@ pub fn job(grid: &Grid, model: &Layout, budgets: &[u64], lent: &mut Lent) -> Cou
     };
     assert_eq!(answer, 0, "a call was refused");
     counts
+}
+
+/// Writes the listing of a job's text, and answers how many bytes it has.
+pub fn list_job(text: &[u8], out: &mut [u8]) -> usize {
+    unsafe { bench_list_job(text.as_ptr(), text.len(), out.as_mut_ptr(), out.len()) }
 }

@@ -13,6 +13,8 @@ use Rattle.dense_field.specs.declared.PointStep.{PointStep}
 use Rattle.dense_field.specs.declared.PointStep.the-variants as point
 use Rattle.dense_field.specs.declared.CellStep.{CellStep}
 use Rattle.dense_field.specs.declared.CellStep.the-variants as cell
+use Rattle.job_text.specs.declared.Listing.{Listing}
+use Rattle.job_text.specs.declared.Listing.the-variants as listing
 
 abbrev pub coordinates : Vec3 → List Float
 coordinates p = p .x ∷ p .y ∷ p .z ∷ []
@@ -55,3 +57,9 @@ unfoldable pub cellLeft : List Float → CellStep → List Float
 cellLeft old (cell.Cell b next) = ends b
 cellLeft old (cell.Done c) = old
 cellLeft old (cell.Refused number) = old
+
+-- how many bytes a listing has, 0 for none
+unfoldable pub listingBytes : Listing → ℕ
+listingBytes (listing.Bytes n) = n
+listingBytes (listing.Refused number) = 0
+listingBytes listing.NotPrintable = 0

@@ -11,6 +11,7 @@ ghost use Rattle.model.specs.Row.{evaluatedRows};
 mod dense; // dense.rt: the dense field's calls
 mod floats; // floats.rt: floats, points and boxes
 mod given; // given.rt: a model from flat arrays
+mod listing; // listing.rt: the listing of a job's text
 mod nodes; // nodes.rt: the grid of a sparse field
 mod sparse; // sparse.rt: a sparse field's jobs
 mod walks; // walks.rt: walks over points and cells
