@@ -1,28 +1,16 @@
 -- A job that is opened and then stepped, by what open and step do to any record and memory.
 use Prim.Native.Nat.{ℕ, zero, suc}
-use mathlib.Core.Bool.{false}
 use mathlib.Core.List.{List, [], _∷_}
 use lib.ListN.{length, getD}
 use Rattle.schedule.specs.Schedule.{Memory}
 use Rattle.schedule.specs.Calls.{opens, steps}
 use Rattle.sparse_field.specs.declared.Input.{Input}
 use Rattle.sparse_field.specs.declared.Counts.{Counts}
-use Rattle.sparse_field.specs.declared.Cursor.the-variants.{End}
-use Rattle.sparse_field.specs.declared.Record.{Record}
 use Rattle.sparse_field.specs.declared.Answer.{Answer}
 use Rattle.sparse_field.specs.declared.Answer.the-variants.{Accepted, Refused}
 use Rattle.sparse_field.specs.declared.Outcome.{Outcome}
+use Rattle.sparse_field.specs.Records.{noRecord}
 use Rattle.sparse_field.specs.Calls.{Handed, called}
-
--- a record without a job
-unfoldable pub idle : Input → Record
-idle i = record {
-  job = false;
-  input = i;
-  lengths = record { kinds = 0; numbers = 0; places = 0; store = 0; corners = 0 };
-  counts = record { nodes = 0; active = 0; leaves = 0; sampled = 0; evaluations = 0 };
-  cursor = End;
-}
 
 -- what a call handed back, with the memory after it
 abbrev pub handedBack : Outcome → Memory → Handed
@@ -30,7 +18,7 @@ handedBack o m = record { outcome = o; memory = m }
 
 -- a job's open
 abbrev pub openedOn : Input → Memory → Handed
-openedOn i m = called (opens i) (idle i) m
+openedOn i m = called (opens i) noRecord m
 
 -- one more step
 abbrev pub steppedOn : (budget : ℕ) → Handed → Handed

@@ -4,18 +4,15 @@ ghost use lib.ListN.{length};
 ghost use Rattle.model.specs.Flat.{flatOf};
 ghost use Rattle.sparse_field.specs.Calls.{memoryOf};
 ghost use Rattle.bench_host.specs.Given.{inputGiven};
-ghost use Rattle.bench_host.specs.Jobs.{idle, handedBack, steppedTo, jobRun, answerNumber, countsList};
+ghost use Rattle.bench_host.specs.Jobs.{handedBack, steppedTo, jobRun, answerNumber, countsList};
 use crate::floats::box_of;
 use crate::given::model_given;
 use grid::Band;
 use grid::Grid;
-use grid::Lengths;
 use sparse_field::Answer;
 use sparse_field::Counts;
-use sparse_field::Cursor;
 use sparse_field::Input;
 use sparse_field::Outcome;
-use sparse_field::Record;
 
 fn answer_number(answer: Answer) -> u32
     ensures { λ r. ⌜ r ≡ answerNumber answer ⌝ }
@@ -57,31 +54,6 @@ fn input_given(
     };
     let model = model_given(words, reals, count);
     Input { grid, band, model }
-}
-
-// A record without a job.
-fn idle_record(input: Input) -> Record
-    ensures { λ r. ⌜ r ≡ idle input ⌝ }
-{
-    Record {
-        job: false,
-        input,
-        lengths: Lengths {
-            kinds: 0,
-            numbers: 0,
-            places: 0,
-            store: 0,
-            corners: 0,
-        },
-        counts: Counts {
-            nodes: 0,
-            active: 0,
-            leaves: 0,
-            sampled: 0,
-            evaluations: 0,
-        },
-        cursor: Cursor::End,
-    }
 }
 
 // A step for each budget, from what the last call handed back.
@@ -127,8 +99,8 @@ fn run_job(
     ensures { λ r. ⌜ r ≡ jobRun input (now (budgets .entry)) (memoryOf (now (kinds .entry)) (now (numbers .entry)) (now (places .entry)) (now (store .entry)) (now (corners .entry))) .outcome ⌝ }
     ensures { λ _. ⌜ memoryOf (now (kinds .exit)) (now (numbers .exit)) (now (places .exit)) (now (store .exit)) (now (corners .exit)) ≡ jobRun input (now (budgets .entry)) (memoryOf (now (kinds .entry)) (now (numbers .entry)) (now (places .entry)) (now (store .entry)) (now (corners .entry))) .memory ⌝ }
 {
-    let idle = idle_record(input);
-    let opened = sparse_field::open(idle, input, kinds, numbers, places, store, corners);
+    let none = sparse_field::no_record();
+    let opened = sparse_field::open(none, input, kinds, numbers, places, store, corners);
     step_each(opened, budgets, kinds, numbers, places, store, corners)
 }
 

@@ -9,8 +9,8 @@ use Rattle.bench_host.specs.Jobs.{handedBack, steppedTo}
 use Rattle.bench_host.proofs.sparse.run_job.Statement.{statement}
 use Rattle.bench_host.proofs.sparse.run_job.Tie as tie
 
-idle-record-requires : tie.Need-idle-record-requires
-idle-record-requires c κs = search needs
+no-record-requires : tie.Need-no-record-requires
+no-record-requires c κs = search needs
 
 open-requires : tie.Need-open-requires
 open-requires c κs = search needs
@@ -39,7 +39,7 @@ returns c =
     let step = c .before .before .before .before .before .before .before .before .before .before .step-each .ensures in
     let opening = c .before .before .before .before .before .before .before .before .before .before .before .before .before .before .before .before .before .before .before .before .before .before .before .before .before .before .«open» .ensures in
     let memory = memoryOf (now (a .kinds)) (now (a .numbers)) (now (a .places)) (now (a .store)) (now (a .corners)) in
-    let opened = (λ i. handedBack (opening .0 i) (opening .1 i)) ∙ ap (λ r. called (opens (a .input)) r memory) (c .before .before .before .before .before .before .before .before .before .before .before .before .before .before .before .before .before .before .before .before .before .before .before .before .before .before .before .before .before .before .before .before .idle-record .ensures) in
+    let opened = (λ i. handedBack (opening .0 i) (opening .1 i)) ∙ ap (λ r. called (opens (a .input)) r memory) (c .before .before .before .before .before .before .before .before .before .before .before .before .before .before .before .before .before .before .before .before .before .before .before .before .before .before .before .before .before .before .before .before .no-record .ensures) in
     let all : Handed → Handed = steppedTo (now (a .budgets)) (length (now (a .budgets))) in
     (step .0 ∙ ap (λ h. all h .outcome) opened, step .1 ∙ ap (λ h. all h .memory) opened)
 
@@ -47,7 +47,7 @@ pub run-job-spec : {M : Type 1} → statement M
 run-job-spec =
     tie.close
     (tie.spec
-    idle-record-requires
+    no-record-requires
     open-requires
     step-each-requires
     same-length
