@@ -1,0 +1,69 @@
+-- `calls::jisampode_drop` meets its contract: the engine's drop.
+use borrow.Author.Needs.{needs}
+use mathlib.Core.Path.{ap, _∙_}
+use denote.Ref.{now}
+use Rattle.schedule.specs.Schedule.{Memory}
+use Rattle.sparse_field.specs.declared.Outcome.{Outcome}
+use Rattle.sparse_field.specs.Calls.{memoryOf, called}
+use Rattle.field_host.specs.Carried.{Carried, carriedOf}
+use Rattle.schedule.specs.Calls.{drops}
+use Rattle.sparse_field.specs.declared.Record.{Record}
+use Rattle.field_host.specs.Hosted.{answerNumber, carriedAfter}
+use Rattle.field_host.proofs.AnyRecord.{drop-from-none}
+use Rattle.field_host.proofs.calls.jisampode_drop.Statement.{statement}
+use Rattle.field_host.proofs.calls.jisampode_drop.Tie as tie
+
+no-record-requires : tie.Need-no-record-requires
+no-record-requires c κs = search needs
+
+drop-requires : tie.Need-drop-requires
+drop-requires c κs = search needs
+
+hand-back-requires : tie.Need-hand-back-requires
+hand-back-requires c κs = search needs
+
+same-length : tie.Need-same-length
+same-length c = search needs
+
+same-length-2 : tie.Need-same-length-2
+same-length-2 c = search needs
+
+same-length-3 : tie.Need-same-length-3
+same-length-3 c = search needs
+
+same-length-4 : tie.Need-same-length-4
+same-length-4 c = search needs
+
+same-length-5 : tie.Need-same-length-5
+same-length-5 c = search needs
+
+returns : tie.Need-returns
+returns c =
+    let a = c .before .before .before .before .before .before .before .before .before .before .before .before .before .before .before .before .before .before .before .before .before .before .before .before .before .before .before .args in
+    let old : Carried = carriedOf (now (a .record-words)) (now (a .record-parts)) (now (a .record-settings)) (now (a .record-reals)) in
+    let m : Memory = memoryOf (now (a .kinds)) (now (a .numbers)) (now (a .places)) (now (a .store)) (now (a .corners)) in
+    let none = c .before .before .before .before .before .before .before .before .before .before .before .before .before .before .before .before .before .before .before .before .before .no-record .ensures in
+    let dropped = c .before .before .before .before .before .before .before .before .before .before .before .before .before .before .before .drop .ensures in
+    let whole = dropped .0 ∙ ap (λ (r : Record). called drops r m .outcome) none in
+    let back = c .hand-back .ensures in
+    let same = drop-from-none old m in (
+      back .0 ∙ ap (λ (o : Outcome). answerNumber (o .answer)) whole ∙ ap (λ h. h .number) same,
+      (
+        back .1 ∙ ap (λ (o : Outcome). carriedAfter o old) whole ∙ ap (λ h. h .carried) same,
+        dropped .1 ∙ ap (λ (r : Record). called drops r m .memory) none ∙ ap (λ h. h .memory) same,
+      ),
+    )
+
+pub jisampode-drop-spec : {M : Type 1} → statement M
+jisampode-drop-spec =
+    tie.close
+    (tie.spec
+    no-record-requires
+    drop-requires
+    hand-back-requires
+    same-length
+    same-length-2
+    same-length-3
+    same-length-4
+    same-length-5
+    returns)

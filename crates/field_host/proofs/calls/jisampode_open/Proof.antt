@@ -1,0 +1,81 @@
+-- `calls::jisampode_open` meets its contract: the engine's open, which looks at no record.
+use borrow.Author.Needs.{needs}
+use mathlib.Core.Path.{ap, _∙_}
+use denote.Ref.{now}
+use Rattle.schedule.specs.Schedule.{Memory}
+use Rattle.sparse_field.specs.declared.Outcome.{Outcome}
+use Rattle.sparse_field.specs.Calls.{memoryOf, called}
+use Rattle.field_host.specs.Carried.{Carried, carriedOf}
+use Rattle.schedule.specs.Calls.{opens}
+use Rattle.model.specs.Flat.{flatOf}
+use Rattle.sparse_field.specs.declared.Input.{Input}
+use Rattle.sparse_field.specs.declared.Record.{Record}
+use Rattle.sparse_field.specs.Records.{noRecord}
+use Rattle.sparse_field.specs.Calls.{Handed}
+use Rattle.field_host.specs.Given.{inputGiven}
+use Rattle.field_host.specs.Hosted.{answerNumber, carriedAfter}
+use Rattle.field_host.proofs.AnyRecord.{open-from-none}
+use Rattle.field_host.proofs.calls.jisampode_open.Statement.{statement}
+use Rattle.field_host.proofs.calls.jisampode_open.Tie as tie
+
+input-given-requires : tie.Need-input-given-requires
+input-given-requires c κs = search needs
+
+no-record-requires : tie.Need-no-record-requires
+no-record-requires c κs = search needs
+
+open-requires : tie.Need-open-requires
+open-requires c κs = search needs
+
+hand-back-requires : tie.Need-hand-back-requires
+hand-back-requires c κs = search needs
+
+same-length : tie.Need-same-length
+same-length c = search needs
+
+same-length-2 : tie.Need-same-length-2
+same-length-2 c = search needs
+
+same-length-3 : tie.Need-same-length-3
+same-length-3 c = search needs
+
+same-length-4 : tie.Need-same-length-4
+same-length-4 c = search needs
+
+same-length-5 : tie.Need-same-length-5
+same-length-5 c = search needs
+
+returns : tie.Need-returns
+returns c =
+    let a = c .before .before .before .before .before .before .before .before .before .before .before .before .before .before .before .before .before .before .before .before .before .before .before .before .before .before .before .before .args in
+    let old : Carried = carriedOf (now (a .record-words)) (now (a .record-parts)) (now (a .record-settings)) (now (a .record-reals)) in
+    let m : Memory = memoryOf (now (a .kinds)) (now (a .numbers)) (now (a .places)) (now (a .store)) (now (a .corners)) in
+    let i : Input = inputGiven (now (a .settings)) (a .inner) (a .leaf) (flatOf (now (a .parts)) (now (a .reals))) (a .count) in
+    let none = c .before .before .before .before .before .before .before .before .before .before .before .before .before .before .before .before .before .before .before .before .before .no-record .ensures in
+    let given = c .before .before .before .before .before .before .before .before .before .before .before .before .before .before .before .before .before .before .before .before .before .before .input-given .ensures in
+    let opened = c .before .before .before .before .before .before .before .before .before .before .before .before .before .before .before .«open» .ensures in
+    let from = ap (λ (r : Record). called (opens (c .before .before .before .before .before .before .before .before .before .before .before .before .before .before .before .before .before .before .before .before .before .before .input-given .result)) r m) none ∙ ap (λ (x : Input). called (opens x) noRecord m) given in
+    let whole = opened .0 ∙ ap (λ (h : Handed). h .outcome) from in
+    let back = c .hand-back .ensures in
+    let same = open-from-none old m i in (
+      back .0 ∙ ap (λ (o : Outcome). answerNumber (o .answer)) whole ∙ ap (λ h. h .number) same,
+      (
+        back .1 ∙ ap (λ (o : Outcome). carriedAfter o old) whole ∙ ap (λ h. h .carried) same,
+        opened .1 ∙ ap (λ (h : Handed). h .memory) from ∙ ap (λ h. h .memory) same,
+      ),
+    )
+
+pub jisampode-open-spec : {M : Type 1} → statement M
+jisampode-open-spec =
+    tie.close
+    (tie.spec
+    input-given-requires
+    no-record-requires
+    open-requires
+    hand-back-requires
+    same-length
+    same-length-2
+    same-length-3
+    same-length-4
+    same-length-5
+    returns)

@@ -1,0 +1,40 @@
+-- `record::put_words` meets its contract.
+use borrow.Author.Needs.{needs}
+use mathlib.Core.List.{[], _∷_}
+use Rattle.field_host.proofs.record.put_words.Statement.{statement}
+use Rattle.field_host.proofs.record.put_words.Tie as tie
+
+cursor-words-requires : tie.Need-cursor-words-requires
+cursor-words-requires c κs = search needs
+
+flag-word-requires : tie.Need-flag-word-requires
+flag-word-requires c κs = search needs
+
+cast-t11 : tie.Need-cast-t11
+cast-t11 c = search needs
+
+cast-t12 : tie.Need-cast-t12
+cast-t12 c = search needs
+
+cast-t13 : tie.Need-cast-t13
+cast-t13 c = search needs
+
+returns : tie.Need-returns
+returns c =
+    let r = c .before .before .before .before .before .before .before .before .before .before .before .args .r in
+    let l = r .lengths in
+    let k = r .counts in
+    let flag = c .before .before .before .before .flag-word .ensures in
+    let at = c .before .before .before .before .before .cursor-words .ensures in
+    λ i.
+    flag i
+    ∷ r .input .grid .inner ∷ r .input .grid .leaf ∷ r .input .model .count
+    ∷ l .kinds ∷ l .numbers ∷ l .places ∷ l .store ∷ l .corners
+    ∷ k .nodes ∷ k .active ∷ k .leaves ∷ k .sampled ∷ k .evaluations
+    ∷ at .0 i ∷ at .1 i ∷ at .2 i ∷ at .3 i
+    ∷ []
+
+pub put-words-spec : {M : Type 1} → statement M
+put-words-spec =
+    tie.close
+    (tie.spec cursor-words-requires flag-word-requires cast-t11 cast-t12 cast-t13 returns)

@@ -1,0 +1,17 @@
+-- `record::unread_record` meets its contract.
+use borrow.Author.Needs.{needs}
+use mathlib.Core.Path.{ap}
+use Rattle.sparse_field.specs.declared.Record.{Record}
+use Rattle.field_host.proofs.record.unread_record.Statement.{statement}
+use Rattle.field_host.proofs.record.unread_record.Tie as tie
+
+no-record-requires : tie.Need-no-record-requires
+no-record-requires c κs = search needs
+
+returns : tie.Need-returns
+returns c =
+    let job = c .before .before .before .before .args .job in
+    ap (λ (n : Record). record { job = job; input = n .input; lengths = n .lengths; counts = n .counts; cursor = n .cursor }) (c .before .before .before .no-record .ensures)
+
+pub unread-record-spec : {M : Type 1} → statement M
+unread-record-spec = tie.close (tie.spec no-record-requires returns)

@@ -1,0 +1,119 @@
+-- A record as a host carries it: 18 words, the model's codes and inputs, nine settings, the model's numbers.
+use Prim.Native.Nat.{ℕ, zero, suc}
+use mathlib.Core.Bool.{Bool, true, false, not, cond, _&&_}
+use mathlib.Core.List.{List, [], _∷_, map}
+use lib.Dec.{eqb, ltb}
+use lib.ListN.{getD}
+use lib.Ieee.{Float}
+use Rattle.model.specs.Part.{partIn}
+use Rattle.model.specs.Flat.{flatOf, layoutOf}
+use Rattle.grid.specs.declared.Lengths.{Lengths}
+use Rattle.sparse_field.specs.declared.Input.{Input}
+use Rattle.sparse_field.specs.declared.Counts.{Counts}
+use Rattle.sparse_field.specs.declared.Cursor.{Cursor}
+use Rattle.sparse_field.specs.declared.Cursor.the-variants.{End, Corner, Point}
+use Rattle.sparse_field.specs.declared.Record.{Record}
+use Rattle.sparse_field.specs.Records.{noRecord}
+use Rattle.field_host.specs.Given.{inputGiven}
+
+pub record Carried : Type 0 where
+  pub words : List ℕ
+  pub parts : List ℕ
+  pub settings : List Float
+  pub reals : List Float
+
+abbrev pub carriedOf : (words parts : List ℕ) (settings reals : List Float) → Carried
+carriedOf words parts settings reals = record { words = words; parts = parts; settings = settings; reals = reals }
+
+-- ---- a record written
+
+unfoldable pub flagWord : Bool → ℕ
+flagWord true = 1
+flagWord false = 0
+
+-- a cursor's kind and its three places, 0 where it has none
+unfoldable pub cursorTag : Cursor → ℕ
+cursorTag End = 0
+cursorTag (Corner v i) = 1
+cursorTag (Point v c p) = 2
+
+unfoldable pub cursorNode : Cursor → ℕ
+cursorNode End = 0
+cursorNode (Corner v i) = v
+cursorNode (Point v c p) = v
+
+unfoldable pub cursorPlace : Cursor → ℕ
+cursorPlace End = 0
+cursorPlace (Corner v i) = i
+cursorPlace (Point v c p) = c
+
+unfoldable pub cursorPoint : Cursor → ℕ
+cursorPoint End = 0
+cursorPoint (Corner v i) = 0
+cursorPoint (Point v c p) = p
+
+abbrev pub cursorWords : Cursor → List ℕ
+cursorWords a = cursorTag a ∷ cursorNode a ∷ cursorPlace a ∷ cursorPoint a ∷ []
+
+-- the flag; inner, leaf and the part count; five lengths; five counts; the cursor
+abbrev pub wordsOf : Record → List ℕ
+wordsOf r =
+    flagWord (r .job)
+    ∷ r .input .grid .inner ∷ r .input .grid .leaf ∷ r .input .model .count
+    ∷ r .lengths .kinds ∷ r .lengths .numbers ∷ r .lengths .places ∷ r .lengths .store ∷ r .lengths .corners
+    ∷ r .counts .nodes ∷ r .counts .active ∷ r .counts .leaves ∷ r .counts .sampled ∷ r .counts .evaluations
+    ∷ cursorWords (r .cursor)
+
+abbrev pub settingsOf : Input → List Float
+settingsOf i =
+    i .grid .bounds .min .x ∷ i .grid .bounds .min .y ∷ i .grid .bounds .min .z
+    ∷ i .grid .bounds .max .x ∷ i .grid .bounds .max .y ∷ i .grid .bounds .max .z
+    ∷ i .grid .cell ∷ i .band .min ∷ i .band .max
+    ∷ []
+
+abbrev pub encoded : Record → Carried
+encoded r =
+    let l = layoutOf (map partIn (r .input .model .parts)) in carriedOf (wordsOf r) (l .words) (settingsOf (r .input)) (l .numbers)
+
+-- ---- arrays of any contents read
+
+-- whether the words are those of some record: a flag of 0 or 1, block sizes and a count of 32 bits, one of three cursors
+unfoldable pub fits : List ℕ → Bool
+fits ws =
+    ltb (getD ws 0 0) 2 && ltb (getD ws 1 0) 4294967296 && ltb (getD ws 2 0) 4294967296 && ltb (getD ws 3 0) 4294967296 && ltb (getD ws 14 0) 3
+
+-- whether the flag says that there is a job
+abbrev pub flagged : List ℕ → Bool
+flagged ws = not (eqb (getD ws 0 0) 0)
+
+abbrev pub lengthsGiven : List ℕ → Lengths
+lengthsGiven ws =
+    record { kinds = getD ws 4 0; numbers = getD ws 5 0; places = getD ws 6 0; store = getD ws 7 0; corners = getD ws 8 0 }
+
+abbrev pub countsGiven : List ℕ → Counts
+countsGiven ws =
+    record { nodes = getD ws 9 0; active = getD ws 10 0; leaves = getD ws 11 0; sampled = getD ws 12 0; evaluations = getD ws 13 0 }
+
+unfoldable pub cursorOf : (tag node place point : ℕ) → Cursor
+cursorOf zero node place point = End
+cursorOf (suc zero) node place point = Corner node place
+cursorOf (suc (suc t)) node place point = Point node place point
+
+abbrev pub cursorGiven : List ℕ → Cursor
+cursorGiven ws = cursorOf (getD ws 14 0) (getD ws 15 0) (getD ws 16 0) (getD ws 17 0)
+
+abbrev pub recordGiven : Input → List ℕ → Record
+recordGiven i ws =
+    record { job = flagged ws; input = i; lengths = lengthsGiven ws; counts = countsGiven ws; cursor = cursorGiven ws }
+
+-- what arrays read as that no record has: without a job, or with a job of the input of which every number is 0, which cause 1 refuses
+abbrev pub unread : Bool → Record
+unread job =
+    record { job = job; input = noRecord .input; lengths = noRecord .lengths; counts = noRecord .counts; cursor = noRecord .cursor }
+
+unfoldable pub decoded : Carried → Record
+decoded c =
+    let ws = c .words in
+    cond (fits ws)
+    (recordGiven (inputGiven (c .settings) (getD ws 1 0) (getD ws 2 0) (flatOf (c .parts) (c .reals)) (getD ws 3 0)) ws)
+    (unread (flagged ws))

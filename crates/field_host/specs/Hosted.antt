@@ -1,0 +1,48 @@
+-- What open, step and drop answer and leave in a record's arrays and in the lent slices, for every contents of both.
+use Prim.Native.Nat.{ℕ}
+use mathlib.Core.Bool.{cond}
+use mathlib.Core.List.{List, [], _∷_}
+use lib.Dec.{eqb}
+use lib.ListN.{getD}
+use Rattle.schedule.specs.Schedule.{Memory}
+use Rattle.sparse_field.specs.declared.Counts.{Counts}
+use Rattle.sparse_field.specs.declared.Answer.{Answer}
+use Rattle.sparse_field.specs.declared.Answer.the-variants.{Accepted, Refused}
+use Rattle.sparse_field.specs.declared.Outcome.{Outcome}
+use Rattle.sparse_field.specs.Calls.{Handed, called}
+use Rattle.sparse_field.specs.Lists.{Call}
+use Rattle.field_host.specs.Carried.{Carried, encoded, fits, decoded}
+
+-- the number of an answer, 0 for an accepted call
+unfoldable pub answerNumber : Answer → ℕ
+answerNumber Accepted = 0
+answerNumber (Refused number) = number
+
+-- the arrays after a call: an accepted one writes its record, a refused one leaves them as they were
+unfoldable pub leftBy : Answer → (next old : Carried) → Carried
+leftBy Accepted next old = next
+leftBy (Refused number) next old = old
+
+abbrev pub carriedAfter : Outcome → Carried → Carried
+carriedAfter o old = leftBy (o .answer) (encoded (o .next)) old
+
+-- what a call of the C interface answers and leaves
+pub record Hosted : Type 0 where
+  pub number : ℕ
+  pub carried : Carried
+  pub memory : Memory
+
+abbrev pub hostedBy : Handed → Carried → Hosted
+hostedBy h old =
+    record { number = answerNumber (h .outcome .answer); carried = carriedAfter (h .outcome) old; memory = h .memory }
+
+-- the engine's call on the record that the arrays read as
+unfoldable pub hosted : Call → Carried → Memory → Hosted
+hosted c old m = hostedBy (called c (decoded old) m) old
+
+-- 7 without a job, then 8 for words that no record has, and else 0
+unfoldable pub wordsNumber : List ℕ → ℕ
+wordsNumber ws = cond (eqb (getD ws 0 0) 0) 7 (cond (fits ws) 0 8)
+
+abbrev pub countsList : Counts → List ℕ
+countsList c = c .nodes ∷ c .active ∷ c .leaves ∷ c .sampled ∷ c .evaluations ∷ []

@@ -1,0 +1,5 @@
+-- What the C functions take and answer, in numbers.
+pub mod Given
+pub mod Carried
+pub mod Hosted
+pub mod Answers

@@ -1,0 +1,17 @@
+// The engine as a station's programmer meets it: C functions on numbers, arrays and lent slices. The
+// header include/jisampode.h describes them.
+mod calls; // calls.rt: open, step and drop
+mod corners; // corners.rt: a node's needed corners
+mod dense; // dense.rt: the dense field's calls
+mod given; // given.rt: a box, a model and a job's input, from numbers
+mod listing; // listing.rt: the listing of a job's text
+mod reading; // reading.rt: a record's counts and cursor
+mod record; // record.rt: a record in four arrays
+mod walks; // walks.rt: walks over points, cells and octets
+
+pub use given::box_in;
+pub use given::box_of;
+pub use given::input_given;
+pub use given::model_given;
+pub use walks::put_box;
+pub use walks::put_point;
