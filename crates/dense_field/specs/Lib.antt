@@ -11,4 +11,5 @@ pub mod Octets
 pub mod Walks
 pub mod Traces
 pub mod Cells
+pub mod Walker
 pub mod Runs
