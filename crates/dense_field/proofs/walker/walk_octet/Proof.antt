@@ -44,6 +44,7 @@ use Rattle.dense_field.specs.Cells.{octetWalkOf}
 use Rattle.dense_field.specs.Walker.{walkerAt}
 use Rattle.dense_field.specs.declared.OctetWalk.{OctetWalk}
 use Rattle.dense_field.specs.declared.walker.DenseCellValueIterator.{DenseCellValueIterator}
+use Rattle.dense_field.proofs.WalkerApart.{finds}
 use Rattle.dense_field.proofs.OctetWalk as S
 use Rattle.dense_field.proofs.OctetWalk.Laws as S′
 use Rattle.dense_field.proofs.walker.DenseCellValueIterator as T
@@ -71,10 +72,6 @@ B κs = T.the-row (namedLft 1 0 tt κs)
 
 abbrev stayed : Stays (octet.ended .signature .params) (octet.ended .kept)
 stayed = (stay-none-slice (0 ∷ []) tt (plain (λ _. f64)) yes, (stay-none (λ _. P.the-row) yes, (stay-none (λ _. P.the-row) yes, tt)))
-
--- what a step of a walker finds
-abbrev finds : DenseCellValueIterator → OctetWalk
-finds w = octetWalkOf (w .«point_count») (now (w .«data»)) (w .current)
 
 module _ {M : Type 1} (𝓤 : URA M) (H : Heap 𝓤) (A : Atoms 𝓤) (mem : Memory → SProp 𝓤) (run : Routine → Fun 𝓤) where
   -- the contracts that the proof cites
