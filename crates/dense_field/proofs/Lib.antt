@@ -8,3 +8,4 @@ pub mod PadLaws
 pub mod OctetLaws
 pub mod RunLaws
 pub mod SampleLaws
+pub mod WalkerApart

@@ -1,12 +1,15 @@
--- Walks: what holds where cause 11 does not apply, and that a walk from its start visits every point, or cell, once, in order, and then is done.
+-- Walks: what holds where cause 11 does not apply, and that a walk from its start visits every point, or cell, once, in order, and then is done. So does the octet walker.
 use mathlib.Core.Path.{_≡_, refl, sym, ap, _∙_}
-use mathlib.Core.Bool.{Bool, true, false, not, _||_}
+use mathlib.Core.Bool.{Bool, true, false, not, cond, _||_}
 use Prim.Native.Nat.{ℕ, zero, suc, _+_, _-_, _*_, _≤_, _<_}
 use native.Mathlib.Nat.{mul-pos, mul-comm, mul-assoc, mul-le-mul-right}
 use native.Mathlib.Numerals.{add-one}
 use native.Mathlib.Omega.{arith}
-use lib.Dec.{ltb, leb}
-use borrow.Author.Tests.{lt-ltb, le-ltb, le-leb, lt-leb, ltb-true, ltb-false, not-false}
+use mathlib.Core.List.{List}
+use lib.Dec.{ltb, leb, eqb}
+use lib.Ieee.{Float}
+use lib.ListN.{length}
+use borrow.Author.Tests.{lt-ltb, le-ltb, le-leb, lt-leb, ne-eqb, eqb-false, ltb-true, ltb-false, not-false}
 use Rattle.lists.proofs.Tests.{or-left, or-right}
 use Rattle.geometry.specs.declared.Vec3i.{Vec3i}
 use Rattle.geometry.specs.declared.BoundingBox.{BoundingBox}
@@ -18,9 +21,15 @@ use Rattle.geometry.proofs.Inverse.{indices-of-place, place-of-indices, column-
 use Rattle.geometry.proofs.Next.{next-of}
 use Rattle.dense_field.specs.declared.PointStep.the-variants as point
 use Rattle.dense_field.specs.declared.CellStep.the-variants as cell
-use Rattle.dense_field.specs.Field.{pointsOf}
-use Rattle.dense_field.specs.Walks.{countRefused, walkRefused, walkPoint, walkCell, pointStep, cellStep}
-use Rattle.dense_field.specs.Traces.{pointAfter, pointTrace, cellAfter, cellTrace}
+use Rattle.dense_field.specs.declared.OctetStep.{OctetStep}
+use Rattle.dense_field.specs.declared.OctetStep.the-variants as octet
+use Rattle.dense_field.specs.declared.OctetWalk.{OctetWalk}
+use Rattle.dense_field.specs.Field.{pointsOf, valuesRefused}
+use Rattle.dense_field.specs.Walks.{countRefused, walkRefused, walkPoint, walkCell, pointStep, cellStep, octetStep}
+use Rattle.dense_field.specs.Octets.{octetOf}
+use Rattle.dense_field.specs.Cells.{noValues, stepValues, octetWalkOf}
+use Rattle.dense_field.specs.Walker.{afterStep}
+use Rattle.dense_field.specs.Traces.{pointAfter, pointTrace, cellAfter, cellTrace, octetCell, octetTrace}
 
 -- the test of the code and that of the definition
 pub leb-not-ltb : (a b : ℕ) → leb b a ≡ not (ltb a b)
@@ -199,6 +208,110 @@ module _ (b : BoundingBox) (n : Vec3i) (box-passed : boxRefused b ≡ false) whe
         (λ p. cell.Cell (walkCell b n (indicesOf p (n .i) (n .j))) (indicesOf (suc p) (n .i) (n .j)))
         (cell.Done (vec3i 0 0 (n .k)))
         (cellTrace b n) x-one y-one z-one refl (λ p. refl) cell-at (λ p. refl) cell-end refl
+
+-- the octet walker stands at each of a field's cells in order, finds its octet there, and is done from there on
+module _ (n : Vec3i) (vs : List Float) (passed : valuesRefused n (length vs) ≡ false) (x-more : 1 < n .i) (y-more : 1 < n .j) (z-more : 1 < n .k) where
+  abbrev pub cells : Vec3i
+  cells = vec3i (n .i - 1) (n .j - 1) (n .k - 1)
+
+  abbrev pub cellIndex : ℕ → Vec3i
+  cellIndex p = indicesOf p (cells .i) (cells .j)
+
+  x-cell : 0 < cells .i
+  x-cell = omega arith
+
+  y-cell : 0 < cells .j
+  y-cell = omega arith
+
+  z-cell : 0 < cells .k
+  z-cell = omega arith
+
+  octet-at : (p : ℕ) → p < pointsOf cells → octetStep n (length vs) (cellIndex p) ≡ octet.Cell (cellIndex (suc p))
+  unfolding octetStep
+  octet-at p h =
+      simp (passed, ne-eqb (cells .i) 0 (λ e. omega arith), ne-eqb (cells .j) 0 (λ e. omega arith), lt-ltb _ _ (column-below p (cells .i) (cells .j) x-cell y-cell), lt-ltb _ _ (line-below p (cells .i) (cells .j) x-cell y-cell), lt-ltb _ _ (slab-below p (cells .i) (cells .j) x-cell y-cell (cells .k) h))
+      (ap octet.Cell (next-index cells p x-cell y-cell))
+
+  octet-end : octetStep n (length vs) (vec3i 0 0 (cells .k)) ≡ octet.Done (vec3i 0 0 (cells .k))
+  unfolding octetStep
+  octet-end = simp (passed, ne-eqb (cells .i) 0 (λ e. omega arith), ne-eqb (cells .j) 0 (λ e. omega arith), le-ltb (cells .k) (cells .k) (omega arith))
+
+  -- the step of the walker at the cell p, and the step after a given one
+  abbrev stepAt : ℕ → OctetStep
+  stepAt p = octetStep n (length vs) (octetCell n vs p)
+
+  abbrev after : OctetStep → OctetStep
+  after (octet.Cell next) = octetStep n (length vs) next
+  after (octet.Done c) = octetStep n (length vs) c
+  after (octet.Refused number) = octet.Refused number
+
+  goes-on : (p : ℕ) → stepAt (suc p) ≡ after (stepAt p)
+  unfolding octetCell octetWalkOf afterStep
+  goes-on p = one (stepAt p) refl
+    where
+      one : (s : OctetStep) → stepAt p ≡ s → octetStep n (length vs) (afterStep s (octetCell n vs p)) ≡ after s
+      one (octet.Cell next) e = refl
+      one (octet.Done c) e = refl
+      one (octet.Refused number) e = e
+
+  starts : stepAt 0 ≡ octetStep n (length vs) (vec3i 0 0 0)
+  unfolding octetCell
+  starts = refl
+
+  octet-steps : (p : ℕ) → p < pointsOf cells → stepAt p ≡ octet.Cell (cellIndex (suc p))
+  octet-steps =
+      visits cells (octetStep n (length vs)) after (λ p. octet.Cell (cellIndex (suc p))) (octet.Done (vec3i 0 0 (cells .k)))
+      stepAt x-cell y-cell z-cell starts goes-on octet-at (λ p. refl) octet-end refl
+
+  octet-stops : (q : ℕ) → stepAt (pointsOf cells + q) ≡ octet.Done (vec3i 0 0 (cells .k))
+  octet-stops =
+      is-done cells (octetStep n (length vs)) after (λ p. octet.Cell (cellIndex (suc p))) (octet.Done (vec3i 0 0 (cells .k)))
+      stepAt x-cell y-cell z-cell starts goes-on octet-at (λ p. refl) octet-end refl
+
+  cell-visited : (p : ℕ) → p < pointsOf cells → octetCell n vs p ≡ cellIndex p
+  unfolding octetCell octetWalkOf afterStep
+  cell-visited zero h = first-index cells x-cell y-cell
+  cell-visited (suc p) h = ap (λ (s : OctetStep). afterStep s (octetCell n vs p)) (octet-steps p (omega arith))
+
+  pub octet-walk : (p : ℕ) → p < pointsOf cells → octetTrace n vs p ≡ record { step = octet.Cell (cellIndex (suc p)); values = octetOf n vs (cellIndex p) }
+  unfolding octetTrace octetWalkOf stepValues
+  octet-walk p h = λ i. record { step = octet-steps p h i; values = stepValues (octet-steps p h i) (octetOf n vs (cell-visited p h i)) }
+
+  pub octet-walk-done : (q : ℕ) → octetTrace n vs (pointsOf cells + q) ≡ record { step = octet.Done (vec3i 0 0 (cells .k)); values = noValues }
+  unfolding octetTrace octetWalkOf stepValues
+  octet-walk-done q = λ i. record { step = octet-stops q i; values = stepValues (octet-stops q i) (octetOf n vs (octetCell n vs (pointsOf cells + q))) }
+
+above : (m : ℕ) → (m ≡ 0 → ⊥) → 0 < m
+above zero h = absurd (h refl)
+above (suc m) h = omega arith
+
+-- "A field with a dimension of 1 has no cells: the walker is done from the start"
+module _ (n : Vec3i) (vs : List Float) (passed : valuesRefused n (length vs) ≡ false) (no-cell : pointsOf (vec3i (n .i - 1) (n .j - 1) (n .k - 1)) ≡ 0) where
+  done-at-once : octetStep n (length vs) (vec3i 0 0 0) ≡ octet.Done (vec3i 0 0 0)
+  unfolding octetStep
+  done-at-once = simp (passed) (one (eqb (n .i - 1) 0) (eqb (n .j - 1) 0) (ltb 0 (n .k - 1)) refl refl refl)
+    where
+      one : (x y z : Bool) → eqb (n .i - 1) 0 ≡ x → eqb (n .j - 1) 0 ≡ y → ltb 0 (n .k - 1) ≡ z
+          → cond (x || y || not z) (octet.Done (vec3i 0 0 0)) (cond (not (ltb 0 (n .i - 1)) || not (ltb 0 (n .j - 1))) (octet.Refused 10) (octet.Cell (nextIndices (vec3i 0 0 0) (n .i - 1) (n .j - 1)))) ≡ octet.Done (vec3i 0 0 0)
+      one true y z ex ey ez = refl
+      one false true z ex ey ez = refl
+      one false false false ex ey ez = refl
+      one false false true ex ey ez =
+          let x-above : 0 < n .i - 1 = above (n .i - 1) (eqb-false (n .i - 1) 0 ex) in
+          let y-above : 0 < n .j - 1 = above (n .j - 1) (eqb-false (n .j - 1) 0 ey) in
+          let some : 0 < pointsOf (vec3i (n .i - 1) (n .j - 1) (n .k - 1)) = mul-pos (mul-pos x-above y-above) (ltb-true 0 (n .k - 1) ez) in
+          absurd (omega arith)
+
+  stays-first : (p : ℕ) → octetCell n vs p ≡ vec3i 0 0 0
+  unfolding octetCell octetWalkOf afterStep
+  stays-first zero = refl
+  stays-first (suc p) = ap (λ (s : OctetStep). afterStep s (octetCell n vs p)) (ap (octetStep n (length vs)) (stays-first p) ∙ done-at-once)
+
+  pub octet-walk-none : (p : ℕ) → octetTrace n vs p ≡ record { step = octet.Done (vec3i 0 0 0); values = noValues }
+  unfolding octetTrace octetWalkOf stepValues
+  octet-walk-none p =
+      let at : octetStep n (length vs) (octetCell n vs p) ≡ octet.Done (vec3i 0 0 0) = ap (octetStep n (length vs)) (stays-first p) ∙ done-at-once in
+      λ i. record { step = at i; values = stepValues (at i) (octetOf n vs (octetCell n vs p)) }
 
 -- no two places have the same indices, and each point of the grid has a place below the product
 pub visited-once : (n : Vec3i) (p q : ℕ) → indicesOf p (n .i) (n .j) ≡ indicesOf q (n .i) (n .j) → p ≡ q

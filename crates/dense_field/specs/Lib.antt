@@ -9,6 +9,7 @@ pub mod Threshold
 pub mod Smoothing
 pub mod Octets
 pub mod Walks
-pub mod Traces
 pub mod Cells
+pub mod Walker
+pub mod Traces
 pub mod Runs

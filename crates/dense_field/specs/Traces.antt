@@ -1,5 +1,7 @@
 -- A walk from its start: the answers of repeated steps, each from the cursor that the one before it hands on.
 use Prim.Native.Nat.{ℕ, zero, suc}
+use mathlib.Core.List.{List}
+use lib.Ieee.{Float}
 use Rattle.geometry.specs.declared.Vec3i.{Vec3i}
 use Rattle.geometry.specs.declared.BoundingBox.{BoundingBox}
 use Rattle.geometry.specs.Values.{vec3i}
@@ -7,7 +9,10 @@ use Rattle.dense_field.specs.declared.PointStep.{PointStep}
 use Rattle.dense_field.specs.declared.PointStep.the-variants as point
 use Rattle.dense_field.specs.declared.CellStep.{CellStep}
 use Rattle.dense_field.specs.declared.CellStep.the-variants as cell
+use Rattle.dense_field.specs.declared.OctetWalk.{OctetWalk}
 use Rattle.dense_field.specs.Walks.{pointStep, cellStep}
+use Rattle.dense_field.specs.Cells.{octetWalkOf}
+use Rattle.dense_field.specs.Walker.{afterStep}
 
 unfoldable pub pointAfter : BoundingBox → Vec3i → PointStep → PointStep
 pointAfter b n (point.Point p next) = pointStep b n next
@@ -27,3 +32,11 @@ cellAfter b n (cell.Refused number) = cell.Refused number
 unfoldable pub cellTrace : BoundingBox → Vec3i → ℕ → CellStep
 cellTrace b n zero = cellStep b n (vec3i 0 0 0)
 cellTrace b n (suc p) = cellAfter b n (cellTrace b n p)
+
+-- the cell of an octet walker after p times `next` from its start, and what step p finds
+unfoldable pub octetCell : Vec3i → List Float → ℕ → Vec3i
+octetCell n vs zero = vec3i 0 0 0
+octetCell n vs (suc p) = afterStep (octetWalkOf n vs (octetCell n vs p) .step) (octetCell n vs p)
+
+unfoldable pub octetTrace : Vec3i → List Float → ℕ → OctetWalk
+octetTrace n vs p = octetWalkOf n vs (octetCell n vs p)

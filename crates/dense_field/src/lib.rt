@@ -7,6 +7,7 @@ mod octets;
 mod pad;
 mod sampling;
 mod smoothing;
+mod walker;
 mod walks;
 
 pub use count::point_count;
@@ -20,6 +21,8 @@ pub use octets::octet_step;
 pub use pad::padding;
 pub use sampling::sample;
 pub use smoothing::smooth;
+pub use walker::DenseCellValueIterator;
+pub use walker::walk_octet;
 pub use walks::cell_step;
 pub use walks::point_step;
 

@@ -94,7 +94,7 @@ pub fn octets(fields: &[u64; 160], values: &mut [f64], answers: &mut [u64; 160])
     let n = numbers::counts_at(fields, 0);
     let cursor = numbers::counts_at(fields, 3);
     numbers::values_at(fields, 6, values);
-    let found = dense_field::octet_step(n, values, cursor);
+    let found = dense_field::walk_octet(values, n, cursor);
     let step = found.step;
     let eight = found.values;
     let at = put_step(answers, step);
