@@ -1,3 +1,4 @@
 pub mod Fitting
 pub mod AnyRecord
 pub mod RecordBack
+pub mod HostDemand

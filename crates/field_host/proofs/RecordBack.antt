@@ -92,7 +92,7 @@ tag-below (Point v c p) = omega arith
 -- ---- the record
 
 module _ (r : Record) (inner : r .input .grid .inner < 4294967296) (leaf : r .input .grid .leaf < 4294967296)
-  (count : r .input .model .count < 4294967296) (long : length (r .input .model .parts) ≡ 64) where
+    (count : r .input .model .count < 4294967296) (long : length (r .input .model .parts) ≡ 64) where
   pub fits-encoded : fits (wordsOf r) ≡ true
   unfolding fits
   fits-encoded =

@@ -111,9 +111,10 @@ abbrev pub unread : Bool → Record
 unread job =
     record { job = job; input = noRecord .input; lengths = noRecord .lengths; counts = noRecord .counts; cursor = noRecord .cursor }
 
+-- the input in the arrays
+abbrev pub inputIn : Carried → Input
+inputIn c =
+    inputGiven (c .settings) (getD (c .words) 1 0) (getD (c .words) 2 0) (flatOf (c .parts) (c .reals)) (getD (c .words) 3 0)
+
 unfoldable pub decoded : Carried → Record
-decoded c =
-    let ws = c .words in
-    cond (fits ws)
-    (recordGiven (inputGiven (c .settings) (getD ws 1 0) (getD ws 2 0) (flatOf (c .parts) (c .reals)) (getD ws 3 0)) ws)
-    (unread (flagged ws))
+decoded c = cond (fits (c .words)) (recordGiven (inputIn c) (c .words)) (unread (flagged (c .words)))

@@ -3,3 +3,4 @@ pub mod Given
 pub mod Carried
 pub mod Hosted
 pub mod Answers
+pub mod Lists

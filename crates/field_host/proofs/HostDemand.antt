@@ -1,0 +1,170 @@
+-- DEMAND 3 for the C interface: for every list of the C functions' opens, steps and drops on one record and one set of lent memory, refused calls among
+-- them, answers, counts and every lent element equal those of the ledger. `onStation` is made of `hosted`, which the contracts of the three functions name.
+use Prim.Native.Nat.{ℕ, zero, suc, _<_}
+use mathlib.Core.Path.{_≡_, refl, sym, ap, subst, _∙_}
+use mathlib.Core.Bool.{Bool, true, false, not, cond}
+use mathlib.Core.List.{List, map}
+use native.Mathlib.Omega.{arith}
+use lib.Dec.{eqb}
+use lib.Ieee.{Float}
+use lib.ListN.{length, getD, length-replicate}
+use borrow.Author.Tests.{eq-eqb}
+use Rattle.lists.proofs.Tables.{length-tabulate}
+use Rattle.float.specs.Zero.{plusZero}
+use Rattle.model.specs.declared.Part.the-variants.{Constant}
+use Rattle.model.specs.declared.ModelComponent.{ModelComponent}
+use Rattle.model.specs.Flat.{Flat, flatOf}
+use Rattle.model.proofs.Accepted.{count-le}
+use Rattle.schedule.specs.Schedule.{Memory}
+use Rattle.schedule.specs.Opened.{Lengths, lengthsOf}
+use Rattle.schedule.specs.JobRecord.{noJob}
+use Rattle.schedule.specs.Calls.{opens, steps, drops, accepted, refused, run}
+use Rattle.schedule.specs.Engine.{Engine, advanced, engineCall, engineOpen, engineStepJob}
+use Rattle.schedule.specs.Possible.{impossible}
+use Rattle.schedule.specs.Ledger.{ledgerCall, firstLedger}
+use Rattle.schedule.specs.Agree.{Agree}
+use Rattle.schedule.specs.Implements.{Implements}
+use Rattle.schedule.proofs.Implements.{viewRun, implements-ledger}
+use Rattle.schedule.proofs.Possible.{possible}
+use Rattle.sparse_field.specs.declared.Input.{Input}
+use Rattle.sparse_field.specs.declared.Record.{Record}
+use Rattle.sparse_field.specs.declared.Answer.the-variants.{Accepted, Refused}
+use Rattle.sparse_field.specs.Records.{sparse, lent, jobIn, recordIn, byFlag, recordOut, noRecord, noModel}
+use Rattle.sparse_field.specs.Calls.{Handed, handed, called, openedRecord, openedMemory, steppedEngine}
+use Rattle.sparse_field.specs.Lists.{Call, Held, onHeld, engineIn, answerIn}
+use Rattle.sparse_field.proofs.Opening.{sized, nothing, sparse-laws}
+use Rattle.sparse_field.proofs.CallLaws.{refusedBy, acceptedWith, step-none, step-impossible, step-accepted, drop-accepted}
+use Rattle.sparse_field.proofs.Demand.{implemented}
+use Rattle.field_host.specs.Given.{inputGiven}
+use Rattle.field_host.specs.Carried.{Carried, inputIn, fits, flagged, recordGiven, unread, decoded, encoded}
+use Rattle.field_host.specs.Hosted.{answerNumber, leftBy, carriedAfter, hosted}
+use Rattle.field_host.specs.Lists.{HostCall, opensWith, stepsBy, dropsAll, callOf, Station, answerOf, onStation, engineAt}
+use Rattle.field_host.proofs.RecordBack.{record-back}
+
+-- ---- inputs that arrays carry
+
+-- an input of 64 parts whose block sizes and part count have 32 bits
+record Codable (i : Input) : Type 0 where
+  inner : i .grid .inner < 4294967296
+  leaf : i .grid .leaf < 4294967296
+  count : i .model .count < 4294967296
+  long : length (i .model .parts) ≡ 64
+
+back : (r : Record) → Codable (r .input) → decoded (encoded r) ≡ r
+back r c = record-back r (c .inner) (c .leaf) (c .count) (c .long)
+
+-- an input without a cause
+no-cause-codable : (i : Input) (l : Lengths) → sparse .cause l i ≡ 0 → length (i .model .parts) ≡ 64 → Codable i
+no-cause-codable i l none long =
+    let free = nothing i l none in
+    let size = sized (i .grid) (i .model) (lent l) free in
+    record {
+      inner = omega (arith, size .innerMost);
+      leaf = omega (arith, size .leafMost);
+      count = omega (arith, count-le (i .model) (free .four));
+      long = long;
+    }
+
+given-long : (s : List Float) (inner leaf : ℕ) (l : Flat) (count : ℕ) → length (inputGiven s inner leaf l count .model .parts) ≡ 64
+unfolding inputGiven
+given-long s inner leaf l count = length-tabulate 64 _
+
+-- a model without parts
+none-long : length (noModel .parts) ≡ 64
+none-long = length-replicate {A = ModelComponent} 64 (record { part = Constant plusZero })
+
+decoded-long : (c : Carried) → length (decoded c .input .model .parts) ≡ 64
+unfolding decoded
+decoded-long c = by (fits (c .words))
+  where
+    by : (b : Bool) → length (cond b (recordGiven (inputIn c) (c .words)) (unread (flagged (c .words))) .input .model .parts) ≡ 64
+    by true = given-long (c .settings) (getD (c .words) 1 0) (getD (c .words) 2 0) (flatOf (c .parts) (c .reals)) (getD (c .words) 3 0)
+    by false = none-long
+
+no-record-codable : Codable (noRecord .input)
+no-record-codable = record { inner = omega arith; leaf = omega arith; count = omega arith; long = none-long }
+
+-- ---- one call
+
+module _ (s : Station) where
+  abbrev old : Carried
+  old = s .carried
+
+  abbrev found : Record
+  found = decoded (s .carried)
+
+  abbrev m : Memory
+  m = s .memory
+
+  -- of what a call hands back: its number is its answer, and the arrays read as its record
+  record HandedOn (h : Handed) : Type 0 where
+    answer : answerOf (answerNumber (h .outcome .answer)) ≡ answerIn (h .outcome .answer)
+    next : decoded (carriedAfter (h .outcome) old) ≡ h .outcome .next
+
+  refused-on : (n : ℕ) → HandedOn (refusedBy (suc n) found m)
+  unfolding answerNumber leftBy
+  refused-on n = record { answer = refl; next = refl }
+
+  accepted-on : (r : Record) (after : Memory) → Codable (r .input) → HandedOn (acceptedWith r after)
+  unfolding answerNumber leftBy
+  accepted-on r after c = record { answer = refl; next = back r c }
+
+  open-on : (i : Input) → length (i .model .parts) ≡ 64 → HandedOn (called (opens i) found m)
+  unfolding called engineCall engineOpen advanced
+  open-on i long = by (sparse .cause (lengthsOf m) i) refl
+    where
+      by : (n : ℕ) → sparse .cause (lengthsOf m) i ≡ n
+          → HandedOn (let o = engineOpen sparse i (record { jobRecord = recordIn found; memory = m }) n in handed found (o .answer) (o .next))
+      by zero none = accepted-on (openedRecord i (lengthsOf m)) (openedMemory i (lengthsOf m)) (no-cause-codable i (lengthsOf m) none long)
+      by (suc n) some = refused-on n
+
+  step-on : (n : ℕ) → HandedOn (called (steps n) found m)
+  unfolding engineStepJob advanced
+  step-on n = by (found .job) refl
+    where
+      judged : (b : Bool) → found .job ≡ true → impossible sparse (jobIn found) m ≡ b → HandedOn (called (steps n) found m)
+      judged true flag e = subst HandedOn (sym (step-impossible n found m flag e)) (refused-on 7)
+      judged false flag e =
+          subst HandedOn (sym (step-accepted n found m flag e))
+          (accepted-on _ _ (no-cause-codable (found .input) (lengthsOf m) (possible sparse (jobIn found) m e .noCause) (decoded-long old)))
+
+      by : (b : Bool) → found .job ≡ b → HandedOn (called (steps n) found m)
+      by true flag = judged (impossible sparse (jobIn found) m) flag refl
+      by false flag = subst HandedOn (sym (step-none n found m flag)) (refused-on 6)
+
+  handed-on : (c : HostCall) → HandedOn (called (callOf c) found m)
+  handed-on (opensWith settings inner leaf l count) =
+      open-on (inputGiven settings inner leaf l count) (given-long settings inner leaf l count)
+  handed-on (stepsBy n) = step-on n
+  handed-on dropsAll = subst HandedOn (sym (drop-accepted found m)) (accepted-on noRecord _ no-record-codable)
+
+-- the engine's own calls, on the record that the arrays read as
+abbrev heldAt : Station → Held
+heldAt s = record { held = decoded (s .carried); memory = s .memory }
+
+pub host-implemented : Implements sparse HostCall Station callOf engineAt onStation
+unfolding hosted
+host-implemented = record {
+  answer = λ c s. handed-on s c .answer ∙ implemented .answer (callOf c) (heldAt s);
+  next = λ c s.
+      (λ t. record { jobRecord = recordIn (handed-on s c .next t); memory = called (callOf c) (decoded (s .carried)) (s .memory) .memory })
+      ∙ implemented .next (callOf c) (heldAt s);
+}
+
+-- ---- the theorem
+
+-- arrays whose first word is 0 have no job, whatever else they hold
+no-flag : (c : Carried) → getD (c .words) 0 0 ≡ 0 → decoded c .job ≡ false
+unfolding decoded
+no-flag c none = by (fits (c .words))
+  where
+    by : (b : Bool) → cond b (recordGiven (inputIn c) (c .words)) (unread (flagged (c .words))) .job ≡ false
+    by true = ap not (eq-eqb _ _ none)
+    by false = ap not (eq-eqb _ _ none)
+
+-- any list of calls, from arrays of any contents whose first word is 0 and any contents of the memory
+pub host-demand-three : (cs : List HostCall) (s : Station) → getD (s .carried .words) 0 0 ≡ 0
+    → Agree sparse (viewRun sparse HostCall Station callOf engineAt onStation host-implemented (run onStation cs s)) (run (ledgerCall sparse) (map callOf cs) (firstLedger sparse (s .memory)))
+host-demand-three cs s none =
+    implements-ledger sparse HostCall Station callOf engineAt onStation host-implemented sparse-laws cs s
+    (ap (λ b. byFlag b (decoded (s .carried))) (no-flag (s .carried) none))
