@@ -1,4 +1,5 @@
 pub mod Fitting
 pub mod AnyRecord
 pub mod RecordBack
+pub mod Unread
 pub mod HostDemand

@@ -168,6 +168,6 @@ pub extern "C" fn jisampode_octet_step(
         j: ny,
         k: nz,
     };
-    let walk = dense_field::octet_step(n, values, indices_in(cursor));
+    let walk = dense_field::walk_octet(values, n, indices_in(cursor));
     put_octet_step(walk, cursor, octet)
 }

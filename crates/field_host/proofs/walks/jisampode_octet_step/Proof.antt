@@ -13,8 +13,8 @@ use Rattle.field_host.proofs.walks.jisampode_octet_step.Tie as tie
 indices-in-requires : tie.Need-indices-in-requires
 indices-in-requires c κs = search needs
 
-octet-step-requires : tie.Need-octet-step-requires
-octet-step-requires c κs = search needs
+walk-octet-requires : tie.Need-walk-octet-requires
+walk-octet-requires c κs = search needs
 
 put-octet-step-requires : tie.Need-put-octet-step-requires
 put-octet-step-requires c κs = search needs
@@ -24,7 +24,7 @@ returns c =
     let a = c .before .before .before .before .before .before .before .args in
     let n = vec3i (a .nx) (a .ny) (a .nz) in
     let at = c .before .before .before .before .indices-in .ensures in
-    let walk = c .before .before .before .octet-step .ensures ∙ ap (λ (x : Vec3i). octetWalkOf n (now (a .values)) x) at in
+    let walk = c .before .before .before .walk-octet .ensures ∙ ap (λ (x : Vec3i). octetWalkOf n (now (a .values)) x) at in
     let put = c .put-octet-step .ensures in (
       put .0 ∙ ap (λ (w : OctetWalk). octetNumber (w .step)) walk,
       (
@@ -35,4 +35,4 @@ returns c =
 
 pub jisampode-octet-step-spec : {M : Type 1} → statement M
 jisampode-octet-step-spec =
-    tie.close (tie.spec indices-in-requires octet-step-requires put-octet-step-requires returns)
+    tie.close (tie.spec indices-in-requires walk-octet-requires put-octet-step-requires returns)
