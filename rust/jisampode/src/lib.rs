@@ -1,0 +1,3 @@
+//! The field engine of a print-preparation station.
+
+pub mod sys;
