@@ -8,10 +8,15 @@ fn main() {
     println!("cargo:rerun-if-env-changed=JISAMPODE_LIB_DIR");
     let folder = match env::var_os("JISAMPODE_LIB_DIR") {
         Some(folder) => PathBuf::from(folder),
-        None => PathBuf::from(env::var_os("CARGO_MANIFEST_DIR").expect("cargo names the crate's folder"))
-            .join("../../target/staticlib"),
+        None => PathBuf::from(
+            env::var_os("CARGO_MANIFEST_DIR").expect("cargo names the crate's folder"),
+        )
+        .join("../../target/staticlib"),
     };
     println!("cargo:rustc-link-search=native={}", folder.display());
     println!("cargo:rustc-link-lib=static=field_host");
-    println!("cargo:rerun-if-changed={}", folder.join("libfield_host.a").display());
+    println!(
+        "cargo:rerun-if-changed={}",
+        folder.join("libfield_host.a").display()
+    );
 }

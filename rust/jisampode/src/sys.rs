@@ -1,5 +1,6 @@
 //! The engine's C functions, as include/jisampode.h declares them. A slice is a
 //! pointer and a length.
+#![allow(missing_docs)]
 
 pub const MOST_PARTS: usize = 64;
 pub const PARTS: usize = 192;
@@ -7,7 +8,11 @@ pub const REALS: usize = 256;
 pub const SETTINGS: usize = 9;
 pub const WORDS: usize = 18;
 pub const LISTING_BYTES: usize = 88176;
+pub const ACCEPTED: u32 = 0;
 pub const DONE: u32 = 100;
+pub const AT_END: u64 = 0;
+pub const AT_CORNER: u64 = 1;
+pub const AT_POINT: u64 = 2;
 
 extern "C" {
     pub fn jisampode_open(
