@@ -13,10 +13,14 @@ fn main() {
         )
         .join("../../target/staticlib"),
     };
+    let archive = folder.join("libfield_host.a");
+    if !archive.exists() {
+        println!(
+            "cargo:warning=no {}: run `rt staticlib field_host`, or name its folder by JISAMPODE_LIB_DIR",
+            archive.display()
+        );
+    }
     println!("cargo:rustc-link-search=native={}", folder.display());
     println!("cargo:rustc-link-lib=static=field_host");
-    println!(
-        "cargo:rerun-if-changed={}",
-        folder.join("libfield_host.a").display()
-    );
+    println!("cargo:rerun-if-changed={}", archive.display());
 }
