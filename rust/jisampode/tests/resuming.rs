@@ -19,9 +19,7 @@ fn a_job_goes_on_where_it_was() {
 #[test]
 fn two_jobs_take_turns() {
     let builders = [case(), large()];
-    let mut memories = builders
-        .each_ref()
-        .map(|builder| OwnedMemory::for_job(builder).unwrap());
+    let mut memories = [0, 1].map(|job: usize| OwnedMemory::for_job(&builders[job]).unwrap());
     let mut records: Vec<Record> = builders
         .iter()
         .zip(&mut memories)
