@@ -205,9 +205,9 @@ uint32_t jisampode_drop(
 
 /*
  * Nodes, active children, leaves so far, sampled (leaves × L³) and evaluations so
- * far. A job makes at most as many evaluations as all its nodes need corners
- * (jisampode_corner_list) and, for each active child, L³ more. Refused by 7 without
- * a job, and by 8 where the words are those of no record.
+ * far. The most evaluations that a job can make are the corners that its nodes need
+ * (jisampode_corner_list), and L³ for each active child. Refused by 7 without a job,
+ * and by 8 where the words are those of no record.
  */
 uint32_t jisampode_counts(const uint64_t record_words[JISAMPODE_WORDS],
                           uint64_t counts[5]);

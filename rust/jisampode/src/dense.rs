@@ -1,5 +1,7 @@
 //! A dense field: a value at every point of a grid.
 
+use std::fmt;
+
 use crate::bounds::Bounds;
 use crate::engine::{self, certain};
 use crate::model::Model;
@@ -137,5 +139,14 @@ impl<'a> DenseField<'a> {
     /// where the field has no cells, there is nothing to come.
     pub fn octets_from(&self, cell: [usize; 3]) -> Result<Octets<'_>, Refusal> {
         Octets::new(self.dimensions, self.values, cell)
+    }
+}
+
+/// Shows the dimensions alone, so that no value of a client comes into a log.
+impl fmt::Debug for DenseField<'_> {
+    fn fmt(&self, f: &mut fmt::Formatter<'_>) -> fmt::Result {
+        f.debug_struct("DenseField")
+            .field("dimensions", &self.dimensions)
+            .finish_non_exhaustive()
     }
 }

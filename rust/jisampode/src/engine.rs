@@ -33,10 +33,10 @@ fn walked<T>(answer: u32, found: T) -> Result<Option<T>, Refusal> {
     accepted(answer).map(|()| Some(found))
 }
 
-/// The result of a call whose arguments the engine has accepted before. Panics
-/// where it refuses them now.
+/// The result of a call that the engine has no cause to refuse. Panics where it
+/// does.
 pub fn certain<T>(result: Result<T, Refusal>) -> T {
-    result.unwrap_or_else(|refusal| panic!("the engine accepted it before, and now: {refusal}"))
+    result.unwrap_or_else(|refusal| panic!("a call that cannot be refused was {refusal}"))
 }
 
 pub fn open(

@@ -1,7 +1,10 @@
 //! The sparse field of a job, to be read.
 
+use std::fmt;
+
 use crate::memory::Memory;
 use crate::record::{Counts, Cursor, Record};
+use crate::sys;
 
 /// A child of a node.
 #[derive(Debug, Clone, Copy, PartialEq)]
@@ -33,9 +36,6 @@ pub struct Field<'a> {
     /// The children up to here are decided.
     decided: usize,
 }
-
-const EMPTY: u8 = 0;
-const LEAF: u8 = 2;
 
 impl<'a> Field<'a> {
     pub(crate) fn new(
@@ -121,7 +121,7 @@ impl<'a> Field<'a> {
     /// ```
     pub fn active(self) -> impl Iterator<Item = (usize, usize, Child<'a>)> {
         (0..self.kinds.len())
-            .filter(move |&place| self.kinds[place] != EMPTY)
+            .filter(move |&place| self.kinds[place] != sys::EMPTY)
             .map(move |place| {
                 let (node, child) = (place / self.children, place % self.children);
                 (node, child, self.child_at(place))
@@ -139,13 +139,24 @@ impl<'a> Field<'a> {
 
     fn child_at(&self, place: usize) -> Child<'a> {
         match self.kinds[place] {
-            EMPTY => Child::Empty,
-            LEAF => {
+            sys::EMPTY => Child::Empty,
+            sys::LEAF => {
                 let start = self.places[place] as usize * self.points;
                 Child::Leaf(&self.store[start..start + self.points])
             }
             _ if place < self.decided => Child::Constant(self.numbers[place]),
             _ => Child::Undecided,
         }
+    }
+}
+
+/// Shows sizes alone, so that no value of a client comes into a log.
+impl fmt::Debug for Field<'_> {
+    fn fmt(&self, f: &mut fmt::Formatter<'_>) -> fmt::Result {
+        f.debug_struct("Field")
+            .field("nodes", &self.nodes())
+            .field("children_of_node", &self.children)
+            .field("points_of_leaf", &self.points)
+            .finish_non_exhaustive()
     }
 }

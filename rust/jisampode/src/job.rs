@@ -14,7 +14,9 @@ use crate::refusal::Refusal;
 /// A job of a sparse field. [`JobBuilder::open`] makes one.
 ///
 /// A job has its memory for itself while it lives, and zeroes it when it goes out
-/// of scope, wherever it has come to. The memory cannot be used meanwhile:
+/// of scope, wherever it has come to. (A job that [`std::mem::forget`] takes zeroes
+/// nothing; the next open in that memory does.) The memory cannot be used
+/// meanwhile:
 ///
 /// ```compile_fail,E0502
 /// # use jisampode::{Bounds, JobBuilder, Model, OwnedMemory};
@@ -255,7 +257,9 @@ impl<'m> Job<'m> {
     /// Refused by [`Refusal::NoJob`], and by [`Refusal::Record`] where no job of
     /// this memory can have the record: its lengths are others, or its kinds are
     /// not those of the job. Then record and memory are as they were. Values that
-    /// were changed meanwhile cannot be told.
+    /// were changed meanwhile are not noticed.
+    ///
+    /// Takes time that grows with the number of children, as a step does.
     pub fn resume(record: &mut Record, mut memory: Memory<'m>) -> Result<Job<'m>, Refused<'m>> {
         // A step with a budget of 0 judges the record and changes nothing.
         match engine::step(0, record, &mut memory) {

@@ -56,7 +56,7 @@
 //! max copy their operand, and a copied NaN keeps its bits.
 
 #![deny(unsafe_code)]
-#![warn(missing_docs)]
+#![warn(missing_docs, missing_debug_implementations)]
 
 mod bounds;
 mod builder;

@@ -148,14 +148,14 @@ pub(crate) struct LaidOut {
 impl LaidOut {
     fn put(&mut self, place: usize, part: Part) {
         match part {
-            Part::Constant(value) => self.shape(place, 0, [0.0; 3], value),
-            Part::Sphere { centre, radius } => self.shape(place, 1, centre, radius),
-            Part::Plane { normal, offset } => self.shape(place, 2, normal, offset),
-            Part::Min(a, b) => self.operation(place, 3, a, b),
-            Part::Max(a, b) => self.operation(place, 4, a, b),
-            Part::Add(a, b) => self.operation(place, 5, a, b),
-            Part::Sub(a, b) => self.operation(place, 6, a, b),
-            Part::Neg(a) => self.operation(place, 7, a, 0),
+            Part::Constant(value) => self.shape(place, sys::CONSTANT, [0.0; 3], value),
+            Part::Sphere { centre, radius } => self.shape(place, sys::SPHERE, centre, radius),
+            Part::Plane { normal, offset } => self.shape(place, sys::PLANE, normal, offset),
+            Part::Min(a, b) => self.operation(place, sys::MIN, a, b),
+            Part::Max(a, b) => self.operation(place, sys::MAX, a, b),
+            Part::Add(a, b) => self.operation(place, sys::ADD, a, b),
+            Part::Sub(a, b) => self.operation(place, sys::SUB, a, b),
+            Part::Neg(a) => self.operation(place, sys::NEG, a, 0),
         }
     }
 

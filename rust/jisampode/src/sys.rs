@@ -1,5 +1,5 @@
-//! The engine's C functions, as include/jisampode.h declares them. A slice is a
-//! pointer and a length.
+//! The engine's C functions and numbers, as include/jisampode.h declares them. A
+//! slice is a pointer and a length.
 #![allow(missing_docs)]
 
 pub const MOST_PARTS: usize = 64;
@@ -10,9 +10,26 @@ pub const WORDS: usize = 18;
 pub const LISTING_BYTES: usize = 88176;
 pub const ACCEPTED: u32 = 0;
 pub const DONE: u32 = 100;
+
+/// Where a job has come to.
 pub const AT_END: u64 = 0;
 pub const AT_CORNER: u64 = 1;
 pub const AT_POINT: u64 = 2;
+
+/// Codes of parts.
+pub const CONSTANT: u32 = 0;
+pub const SPHERE: u32 = 1;
+pub const PLANE: u32 = 2;
+pub const MIN: u32 = 3;
+pub const MAX: u32 = 4;
+pub const ADD: u32 = 5;
+pub const SUB: u32 = 6;
+pub const NEG: u32 = 7;
+
+/// Kinds of children.
+pub const EMPTY: u8 = 0;
+pub const ACTIVE: u8 = 1;
+pub const LEAF: u8 = 2;
 
 extern "C" {
     pub fn jisampode_open(

@@ -2,6 +2,7 @@
 //! a dense field. The first step is tried out when a walk is made, so that a walk
 //! that is refused is refused then.
 
+use std::fmt;
 use std::iter::FusedIterator;
 
 use crate::bounds::Bounds;
@@ -188,3 +189,13 @@ impl Iterator for Octets<'_> {
 }
 
 impl FusedIterator for Octets<'_> {}
+
+/// Shows dimensions and cursor alone, so that no value of a client comes into a log.
+impl fmt::Debug for Octets<'_> {
+    fn fmt(&self, f: &mut fmt::Formatter<'_>) -> fmt::Result {
+        f.debug_struct("Octets")
+            .field("dimensions", &self.dimensions)
+            .field("cursor", &self.cursor)
+            .finish_non_exhaustive()
+    }
+}

@@ -92,4 +92,7 @@ fn nothing_shows_values() {
     let shown = format!("{job:?} {:?}", job.memory());
     assert!(shown.contains("evaluations: 59"));
     assert!(!shown.contains("1.5"));
+    let shown = format!("{:?}", job.field());
+    assert!(shown.contains("nodes: 1"));
+    assert!(!shown.contains("1.5"));
 }
