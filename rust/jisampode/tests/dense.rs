@@ -1,6 +1,6 @@
 //! Dense fields: the scope's examples, and cause 9.
 
-use jisampode::{point_count, Bounds, DenseField, Dimensions, Model, Refusal};
+use jisampode::{point_count, Bounds, DenseField, Dimensions, Model, Part, Points, Refusal};
 
 fn n(x: usize, y: usize, z: usize) -> Dimensions {
     Dimensions::new(x, y, z)
@@ -35,6 +35,37 @@ fn sampling() {
     let empty = Model::new();
     assert_eq!(field.sample(&empty, [0.0; 3], 1.0), Err(Refusal::Model));
     assert_eq!(field.values(), before);
+}
+
+#[test]
+fn every_part() {
+    let shape = |point: [f64; 3]| point[0] + 2.0 * point[1] + 4.0 * point[2] - 3.0;
+    let ball = |point: [f64; 3]| {
+        let [x, y, z] = point.map(|at| (at - 1.0) * (at - 1.0));
+        ((x + y) + z).sqrt() - 0.5
+    };
+    type Value<'a> = &'a dyn Fn(f64, f64) -> f64;
+    let operations: [(Part, Value); 5] = [
+        (Part::Min(0, 1), &|a, b| a.min(b)),
+        (Part::Max(0, 1), &|a, b| a.max(b)),
+        (Part::Add(0, 1), &|a, b| a + b),
+        (Part::Sub(0, 1), &|a, b| a - b),
+        (Part::Neg(0), &|a, _| -a),
+    ];
+    let bounds = Bounds::new([0.0; 3], [3.0; 3]);
+    for (operation, value) in operations {
+        let mut model = Model::new();
+        model.plane([1.0, 2.0, 4.0], 3.0).unwrap();
+        model.sphere([1.0; 3], 0.5).unwrap();
+        model.push(operation).unwrap();
+        let mut values = [0.0; 64];
+        let mut field = DenseField::new(n(4, 4, 4), &mut values).unwrap();
+        field.sample(&model, [0.0; 3], 1.0).unwrap();
+        let points = Points::new(bounds, n(4, 4, 4)).unwrap();
+        for (point, &sampled) in points.zip(field.values()) {
+            assert_eq!(sampled, value(shape(point), ball(point)), "{operation:?}");
+        }
+    }
 }
 
 #[test]

@@ -41,6 +41,13 @@ fn the_case() {
     assert_eq!(case().lengths(), Ok(lengths));
 }
 
+/// That just the lengths that the builder names are enough.
+fn exact(builder: &JobBuilder) {
+    let lengths = builder.lengths().unwrap();
+    assert!(opens(builder, lengths));
+    assert!(!shorter(lengths).iter().any(|&less| opens(builder, less)));
+}
+
 #[test]
 fn many_grids() {
     // Ends at a node's border, one float beside it, and in between.
@@ -54,14 +61,23 @@ fn many_grids() {
             let max = [0, 1, 2].map(|axis| min[axis] + sizes[axis]);
             for (inner, leaf) in blocks {
                 for cell in [1.0, 0.7] {
-                    let builder = case()
-                        .bounds(Bounds::new(min, max))
-                        .cell(cell)
-                        .blocks(inner, leaf);
-                    let lengths = builder.lengths().unwrap();
-                    assert!(opens(&builder, lengths));
-                    assert!(!shorter(lengths).iter().any(|&less| opens(&builder, less)));
+                    let bounds = Bounds::new(min, max);
+                    exact(&case().bounds(bounds).cell(cell).blocks(inner, leaf));
                 }
+            }
+        }
+    }
+}
+
+#[test]
+fn far_from_the_origin() {
+    // Floats are 2 apart from 2⁵³ on, and 16 apart at 10¹⁷: steps are rounded, and
+    // children touch that would not.
+    for start in [9007199254740992.0, 1e17] {
+        for cell in [0.25, 1.25, 1.5, 40.0] {
+            for extent in [0.0, 2.0, 100.0] {
+                let bounds = Bounds::new([start, 0.0, -start], [start + extent, 1.0, -start]);
+                exact(&case().bounds(bounds).cell(cell).blocks(4, 2));
             }
         }
     }
