@@ -1,7 +1,7 @@
 /*
  * A station in C: it lends memory to one job and then to the next, shows how far
  * each has come, and looks at what is left in the memory. Then the bits of NaNs, a
- * dense field, and a job as text.
+ * dense field, walks, and a job as text.
  *
  *   rt staticlib field_host
  *   cc -std=c99 -Iinclude examples/station.c target/staticlib/libfield_host.a -o station
@@ -335,6 +335,32 @@ static void dense_field(void)
           "a scratch that is too short");
 }
 
+/* The points and the cells of a grid in bounds. */
+static void walks(void)
+{
+    const double bounds[6] = {0, 0, 0, 2, 4, 6};
+    size_t cursor[3] = {0, 0, 0};
+    double point[3] = {0};
+    size_t points = 0;
+    uint32_t answer;
+    while ((answer = jisampode_point_step(bounds, 3, 3, 3, cursor, point)) == 0) {
+        points++;
+    }
+    check(answer == JISAMPODE_DONE && points == 27, "a walk over 27 points");
+    check(point[0] == 2 && point[1] == 4 && point[2] == 6, "the last point");
+
+    size_t start[3] = {1, 1, 1};
+    double cell[6] = {0};
+    check(jisampode_cell_step(bounds, 2, 2, 2, start, cell) == 0, "a cell");
+    check(cell[0] == 1 && cell[1] == 2 && cell[2] == 3, "the cell's lowest corner");
+    check(cell[3] == 2 && cell[4] == 4 && cell[5] == 6, "the cell's highest corner");
+    check(jisampode_cell_step(bounds, 2, 2, 2, start, cell) == JISAMPODE_DONE,
+          "no cell after the last");
+    check(jisampode_cell_step(bounds, 0, 2, 2, start, cell) == JISAMPODE_REFUSED_WALK,
+          "a count of 0");
+    printf("walks: %zu points, the last %g %g %g\n", points, point[0], point[1], point[2]);
+}
+
 /* The small job as text. */
 static void job_as_text(void)
 {
@@ -372,6 +398,7 @@ int main(void)
     refusals(&s);
     nan_bits(&s);
     dense_field();
+    walks();
     job_as_text();
     printf("%s\n", failures == 0 ? "all as expected" : "not as expected");
     return failures == 0 ? 0 : 1;

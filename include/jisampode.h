@@ -61,7 +61,7 @@ enum {
     /* The record is one that no job of this memory can have. */
     JISAMPODE_REFUSED_RECORD = 8,
     /* A dense field's dimension is 0, their product is above 16,777,216, the
-       values are not just as many, or the scratch is shorter. */
+       values are not exactly that many, or the scratch is shorter. */
     JISAMPODE_REFUSED_DIMENSIONS = 9,
     /* A cell is outside the field: its i or j is past the last. */
     JISAMPODE_REFUSED_OUTSIDE = 10,
