@@ -2,7 +2,8 @@
  * Jisampode: the field engine of a print-preparation station.
  *
  * Link libfield_host.a, which `rt staticlib field_host` writes to
- * target/staticlib/. It needs nothing else: no heap, no threads, no files.
+ * target/staticlib/. It needs memcpy and memset, and nothing else: no heap, no
+ * threads, no files.
  *
  * WHAT EVERY CALL KEEPS TO
  *
@@ -60,9 +61,9 @@ enum {
     /* The record is one that no job of this memory can have. */
     JISAMPODE_REFUSED_RECORD = 8,
     /* A dense field's dimension is 0, their product is above 16,777,216, the
-       values are not that many, or the scratch is shorter. */
+       values are not exactly that many, or the scratch is shorter. */
     JISAMPODE_REFUSED_DIMENSIONS = 9,
-    /* A cell is outside the field. */
+    /* A cell is outside the field: its i or j is past the last. */
     JISAMPODE_REFUSED_OUTSIDE = 10,
     /* A walk with a count below 2 points or 1 cell or above 16,777,216 along an
        axis, or a cursor's i or j not below its count. */
@@ -142,7 +143,8 @@ enum {
 };
 
 /*
- * Opens a job, in place of the one that the record has.
+ * Opens a job, in place of the one that the record has. What the record and the
+ * slices hold before does not matter.
  *
  * settings: the bounds' lowest x, y, z, their highest x, y, z, the cell size, the
  * band's lower and upper limit. With n the inner and L the leaf size, kinds,
@@ -171,7 +173,8 @@ uint32_t jisampode_open(
 
 /*
  * Makes as many evaluations as the budget allows and the job has left. A finished
- * job makes none. Refused by 7 and 8.
+ * job makes none. The record is judged first, in time that grows with the number
+ * of children. Refused by 7 and 8.
  */
 uint32_t jisampode_step(
     uint64_t budget,
@@ -202,8 +205,9 @@ uint32_t jisampode_drop(
 
 /*
  * Nodes, active children, leaves so far, sampled (leaves × L³) and evaluations so
- * far. Refused by 7 without a job, and by 8 where the words are those of no
- * record.
+ * far. The most evaluations that a job can make are the corners that its nodes need
+ * (jisampode_corner_list), and L³ for each active child. Refused by 7 without a job,
+ * and by 8 where the words are those of no record.
  */
 uint32_t jisampode_counts(const uint64_t record_words[JISAMPODE_WORDS],
                           uint64_t counts[5]);
@@ -224,7 +228,7 @@ uint32_t jisampode_cursor(const uint64_t record_words[JISAMPODE_WORDS],
  * The corners that a node's active children need: each once, in no promised
  * order, then zeros. kinds are the node's n³ kinds, of which those that are not 0
  * are active; the list has at least (n + 1)³ places. count[0] is how many.
- * Refused by 2 and 6.
+ * Refused by 2, and by 6 where the kinds are not n³ or the list is shorter.
  */
 uint32_t jisampode_corner_list(uint32_t inner,
                                const uint8_t *kinds, size_t kinds_length,
@@ -269,7 +273,8 @@ uint32_t jisampode_smooth(size_t nx, size_t ny, size_t nz,
 /* A walk starts with the cursor (0, 0, 0). A step that returns 0 has written what
    stands at the cursor, and moved the cursor on, x fastest. */
 
-/* The points of a grid of nx × ny × nz points in bounds. Refused by 1 and 11. */
+/* The points of a grid of nx × ny × nz points in bounds, from the lowest to the
+   highest. Refused by 1 and 11. */
 uint32_t jisampode_point_step(const double bounds[6],
                               size_t nx, size_t ny, size_t nz,
                               size_t cursor[3], double point[3]);
@@ -281,7 +286,9 @@ uint32_t jisampode_cell_step(const double bounds[6],
                              size_t cursor[3], double cell[6]);
 
 /* The values at the corners of a field's cells: (0,0,0) (1,0,0) (1,1,0) (0,1,0),
-   then the same with k + 1. Refused by 9 and 10. */
+   then the same with k + 1. The cells are (nx - 1) × (ny - 1) × (nz - 1). Refused
+   by 9, and by 10 for a cursor whose i or j is past the last; done where its k is,
+   or where there are no cells. */
 uint32_t jisampode_octet_step(size_t nx, size_t ny, size_t nz,
                               const double *values, size_t values_length,
                               size_t cursor[3], double octet[8]);

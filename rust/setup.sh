@@ -1,12 +1,13 @@
 # shellcheck shell=bash
-# Sourced by `rust/compare` and `bench/run`, in the repository's folder.
+# Sourced by `rust/compare`, `rust/station` and `bench/run`, in the repository's
+# folder.
 
 # What the original's files use.
 registry=/usr/share/cargo/registry
 used="rayon hashbrown num-traits log smallvec"
 
-# Whether a cargo is there that can build the original: Rust 1.65 or newer,
-# with a linker.
+# Whether a cargo is there that can build the original and the wrapper: Rust 1.65
+# or newer, with a linker.
 rust_there() {
     if ! command -v cargo > /dev/null && [ -x "${HOME:-}/.cargo/bin/cargo" ]; then
         PATH=$HOME/.cargo/bin:$PATH

@@ -1,0 +1,182 @@
+//! What a job is opened with.
+
+use std::error::Error;
+use std::fmt;
+
+use crate::bounds::Bounds;
+use crate::engine;
+use crate::job::Job;
+use crate::lengths;
+use crate::memory::{Lengths, Memory};
+use crate::model::Model;
+use crate::record::Record;
+use crate::refusal::Refusal;
+use crate::sys;
+
+/// What a job is opened with: bounds, cell size, block sizes, band and model.
+///
+/// Nothing is set at first. A setting that is left out is refused as a wrong one
+/// is: bounds and cell by [`Refusal::Bounds`], block sizes by [`Refusal::Blocks`],
+/// the band by [`Refusal::Band`], the model by [`Refusal::Model`].
+///
+/// One builder can open many jobs.
+///
+/// ```
+/// use jisampode::{Bounds, JobBuilder, Model, Refusal};
+///
+/// # fn main() -> Result<(), Refusal> {
+/// let mut model = Model::new();
+/// model.sphere([0.5; 3], 0.4)?;
+/// let builder = JobBuilder::new()
+///     .bounds(Bounds::new([0.0; 3], [1.0; 3]))
+///     .cell(0.125)
+///     .blocks(4, 4)
+///     .band(-0.1, 0.1)
+///     .model(model);
+/// assert_eq!(builder.lengths()?.corners, 125);
+///
+/// // Without a band it is refused.
+/// let no_band = builder.clone().band(f64::NAN, 0.1);
+/// assert_eq!(no_band.lengths(), Err(Refusal::Band));
+/// # Ok(())
+/// # }
+/// ```
+#[derive(Debug, Clone)]
+pub struct JobBuilder {
+    bounds: Bounds,
+    cell: f64,
+    inner: u32,
+    leaf: u32,
+    band: [f64; 2],
+    model: Model,
+}
+
+impl JobBuilder {
+    /// A builder with nothing set.
+    pub fn new() -> JobBuilder {
+        JobBuilder {
+            bounds: Bounds::new([f64::NAN; 3], [f64::NAN; 3]),
+            cell: f64::NAN,
+            inner: 0,
+            leaf: 0,
+            band: [f64::NAN; 2],
+            model: Model::new(),
+        }
+    }
+
+    /// Where the field is.
+    pub fn bounds(mut self, bounds: Bounds) -> JobBuilder {
+        self.bounds = bounds;
+        self
+    }
+
+    /// The distance between points of a leaf.
+    pub fn cell(mut self, cell: f64) -> JobBuilder {
+        self.cell = cell;
+        self
+    }
+
+    /// Children of a node along an axis, and points of a leaf along an axis: each
+    /// 2, 4, 8, 16, 32 or 64.
+    pub fn blocks(mut self, inner: u32, leaf: u32) -> JobBuilder {
+        self.inner = inner;
+        self.leaf = leaf;
+        self
+    }
+
+    /// The values that leaves are kept for. A child that no value of the band can
+    /// be in becomes a constant.
+    pub fn band(mut self, lower: f64, upper: f64) -> JobBuilder {
+        self.band = [lower, upper];
+        self
+    }
+
+    /// The model that is evaluated.
+    pub fn model(mut self, model: Model) -> JobBuilder {
+        self.model = model;
+        self
+    }
+
+    /// The lengths that a job needs: each slice may be longer, and none shorter.
+    ///
+    /// Refused by causes 1 to 5, as [`open`](JobBuilder::open).
+    pub fn lengths(&self) -> Result<Lengths, Refusal> {
+        // The engine judges the settings. On no memory at all an open is refused,
+        // by 6 where no lower cause applies.
+        match self.call(&mut Record::default(), &mut Memory::default()) {
+            Err(refusal) if refusal != Refusal::Short => Err(refusal),
+            _ => {
+                let blocks = (u64::from(self.inner), u64::from(self.leaf));
+                Ok(lengths::needed(self.bounds, self.cell, blocks))
+            }
+        }
+    }
+
+    /// Opens a job in lent memory, which is zeroed whole first.
+    ///
+    /// Refused by causes 1 to 6. Then the memory comes back with the refusal, with
+    /// every element as it was.
+    ///
+    /// ```
+    /// # use jisampode::{Bounds, JobBuilder, Memory, Model, OwnedMemory, Refusal};
+    /// # let mut model = Model::new();
+    /// # model.plane([1.0, 0.0, 0.0], 0.0).unwrap();
+    /// # let builder = JobBuilder::new()
+    /// #     .bounds(Bounds::new([0.0; 3], [2.0; 3]))
+    /// #     .cell(1.0)
+    /// #     .blocks(2, 2)
+    /// #     .band(-0.25, 0.0)
+    /// #     .model(model);
+    /// let mut owned = OwnedMemory::for_job(&builder).unwrap();
+    /// let refused = builder.clone().cell(0.5).open(owned.lend()).unwrap_err();
+    /// assert_eq!(refused.refusal, Refusal::Short);
+    ///
+    /// let job = builder.open(refused.memory).unwrap();
+    /// assert_eq!(job.counts().active, 8);
+    /// ```
+    pub fn open<'m>(&self, mut memory: Memory<'m>) -> Result<Job<'m>, Refused<'m>> {
+        let mut record = Record::default();
+        match self.call(&mut record, &mut memory) {
+            Ok(()) => Ok(Job::opened(record, memory)),
+            Err(refusal) => Err(Refused { refusal, memory }),
+        }
+    }
+
+    /// Opens a job in place of the one that the record has.
+    pub(crate) fn call(&self, record: &mut Record, memory: &mut Memory<'_>) -> Result<(), Refusal> {
+        let [x0, y0, z0, x1, y1, z1] = self.bounds.flat();
+        let [lower, upper] = self.band;
+        let settings: [f64; sys::SETTINGS] = [x0, y0, z0, x1, y1, z1, self.cell, lower, upper];
+        let blocks = (self.inner, self.leaf);
+        engine::open(&settings, blocks, &self.model.laid_out(), record, memory)
+    }
+}
+
+impl Default for JobBuilder {
+    fn default() -> JobBuilder {
+        JobBuilder::new()
+    }
+}
+
+/// A refusal, with the memory that was lent. Every element of it is as it was.
+#[derive(Debug)]
+pub struct Refused<'m> {
+    /// The cause.
+    pub refusal: Refusal,
+    /// The memory that was lent.
+    pub memory: Memory<'m>,
+}
+
+impl From<Refused<'_>> for Refusal {
+    fn from(refused: Refused<'_>) -> Refusal {
+        refused.refusal
+    }
+}
+
+impl fmt::Display for Refused<'_> {
+    fn fmt(&self, f: &mut fmt::Formatter<'_>) -> fmt::Result {
+        self.refusal.fmt(f)
+    }
+}
+
+impl Error for Refused<'_> {}

@@ -1,0 +1,292 @@
+//! A job on lent memory.
+
+use std::fmt;
+use std::mem;
+
+use crate::builder::{JobBuilder, Refused};
+use crate::engine::{self, certain};
+use crate::field::Field;
+use crate::memory::Memory;
+use crate::progress::{self, Progress};
+use crate::record::{Counts, Cursor, Record};
+use crate::refusal::Refusal;
+
+/// A job of a sparse field. [`JobBuilder::open`] makes one.
+///
+/// A job has its memory for itself while it lives, and zeroes it when it goes out
+/// of scope, wherever it has come to. (A job that [`std::mem::forget`] takes zeroes
+/// nothing; the next open in that memory does.) The memory cannot be used
+/// meanwhile:
+///
+/// ```compile_fail,E0502
+/// # use jisampode::{Bounds, JobBuilder, Model, OwnedMemory};
+/// # let mut model = Model::new();
+/// # model.plane([1.0, 0.0, 0.0], 0.0).unwrap();
+/// # let builder = JobBuilder::new()
+/// #     .bounds(Bounds::new([0.0; 3], [2.0; 3]))
+/// #     .cell(1.0)
+/// #     .blocks(2, 2)
+/// #     .band(-0.25, 0.0)
+/// #     .model(model);
+/// let mut memory = OwnedMemory::for_job(&builder).unwrap();
+/// let mut job = builder.open(memory.lend()).unwrap();
+/// let value = memory.store[0]; // the job has it
+/// job.finish().unwrap();
+/// ```
+///
+/// A second job cannot have the same memory:
+///
+/// ```compile_fail,E0499
+/// # use jisampode::{Bounds, JobBuilder, Model, OwnedMemory};
+/// # let mut model = Model::new();
+/// # model.plane([1.0, 0.0, 0.0], 0.0).unwrap();
+/// # let builder = JobBuilder::new()
+/// #     .bounds(Bounds::new([0.0; 3], [2.0; 3]))
+/// #     .cell(1.0)
+/// #     .blocks(2, 2)
+/// #     .band(-0.25, 0.0)
+/// #     .model(model);
+/// let mut memory = OwnedMemory::for_job(&builder).unwrap();
+/// let mut job = builder.open(memory.lend()).unwrap();
+/// let other = builder.open(memory.lend()); // the first job has it
+/// job.finish().unwrap();
+/// ```
+///
+/// A job cannot outlive its memory:
+///
+/// ```compile_fail,E0597
+/// # use jisampode::{Bounds, JobBuilder, Model, OwnedMemory};
+/// # let mut model = Model::new();
+/// # model.plane([1.0, 0.0, 0.0], 0.0).unwrap();
+/// # let builder = JobBuilder::new()
+/// #     .bounds(Bounds::new([0.0; 3], [2.0; 3]))
+/// #     .cell(1.0)
+/// #     .blocks(2, 2)
+/// #     .band(-0.25, 0.0)
+/// #     .model(model);
+/// let mut job = {
+///     let mut memory = OwnedMemory::for_job(&builder).unwrap();
+///     builder.open(memory.lend()).unwrap() // the memory ends here
+/// };
+/// job.finish().unwrap();
+/// ```
+///
+/// When the job is over the memory can be used again, and holds zeros:
+///
+/// ```
+/// # use jisampode::{Bounds, JobBuilder, Model, OwnedMemory};
+/// # let mut model = Model::new();
+/// # model.plane([1.0, 0.0, 0.0], 0.0).unwrap();
+/// # let builder = JobBuilder::new()
+/// #     .bounds(Bounds::new([0.0; 3], [2.0; 3]))
+/// #     .cell(1.0)
+/// #     .blocks(2, 2)
+/// #     .band(-0.25, 0.0)
+/// #     .model(model);
+/// let mut memory = OwnedMemory::for_job(&builder).unwrap();
+/// {
+///     let mut job = builder.open(memory.lend()).unwrap();
+///     job.step(30).unwrap(); // and no more
+/// }
+/// assert!(memory.store.iter().all(|value| value.to_bits() == 0));
+/// ```
+pub struct Job<'m> {
+    record: Record,
+    memory: Memory<'m>,
+    most: u64,
+}
+
+impl<'m> Job<'m> {
+    /// The job of a record that the engine has accepted with this memory.
+    pub(crate) fn opened(record: Record, memory: Memory<'m>) -> Job<'m> {
+        let mut job = Job {
+            record,
+            memory,
+            most: 0,
+        };
+        job.find_most();
+        job
+    }
+
+    fn find_most(&mut self) {
+        self.most = progress::most(&self.record, self.counts(), &self.memory);
+    }
+
+    /// Makes as many evaluations as the budget allows and the job has left. A
+    /// budget of 0 changes nothing, and neither does a step of a finished job.
+    ///
+    /// The engine judges the record at each step, in time that grows with the
+    /// number of children: a budget of thousands is better than many small ones. A
+    /// job's record and memory are its own, so it has no cause to refuse a step.
+    pub fn step(&mut self, budget: u64) -> Result<Progress, Refusal> {
+        engine::step(budget, &mut self.record, &mut self.memory)?;
+        Ok(self.progress())
+    }
+
+    /// Makes all evaluations that are left.
+    pub fn finish(&mut self) -> Result<Counts, Refusal> {
+        self.step(u64::MAX)?;
+        Ok(self.counts())
+    }
+
+    /// How far the job has come.
+    pub fn progress(&self) -> Progress {
+        Progress {
+            done: self.counts().evaluations,
+            most: self.most,
+            finished: self.is_finished(),
+        }
+    }
+
+    /// Nodes, active children, leaves, their points, and evaluations.
+    pub fn counts(&self) -> Counts {
+        certain(self.record.counts())
+    }
+
+    /// The next evaluation, or the end.
+    pub fn cursor(&self) -> Cursor {
+        certain(self.record.cursor())
+    }
+
+    /// Whether every evaluation is made.
+    pub fn is_finished(&self) -> bool {
+        self.cursor() == Cursor::End
+    }
+
+    /// The field, as far as it has come.
+    pub fn field(&self) -> Field<'_> {
+        Field::new(&self.record, self.counts(), self.cursor(), &self.memory)
+    }
+
+    /// The five slices whole, to be read. What the job does not use is 0.
+    pub fn memory(&self) -> &Memory<'m> {
+        &self.memory
+    }
+
+    /// Opens another job in the same memory, which is zeroed whole first. Refused
+    /// by causes 1 to 6; then the old job is as it was.
+    ///
+    /// ```
+    /// # use jisampode::{Bounds, JobBuilder, Model, OwnedMemory, Refusal};
+    /// # fn main() -> Result<(), Refusal> {
+    /// # let mut model = Model::new();
+    /// # model.sphere([2.0; 3], 1.0)?;
+    /// let large = JobBuilder::new()
+    ///     .bounds(Bounds::new([0.0; 3], [4.0; 3]))
+    ///     .cell(1.0)
+    ///     .blocks(2, 2)
+    ///     .band(-9.0, 9.0)
+    ///     .model(model);
+    /// let small = large.clone().bounds(Bounds::new([0.0; 3], [2.0; 3]));
+    ///
+    /// let mut memory = OwnedMemory::for_job(&large)?;
+    /// let mut job = large.open(memory.lend())?;
+    /// job.finish()?;
+    /// job.reopen(&small)?;
+    /// job.finish()?;
+    /// let used = job.counts().sampled as usize;
+    /// assert!(job.memory().store[used..].iter().all(|value| value.to_bits() == 0));
+    /// # Ok(())
+    /// # }
+    /// ```
+    pub fn reopen(&mut self, builder: &JobBuilder) -> Result<(), Refusal> {
+        builder.call(&mut self.record, &mut self.memory)?;
+        self.find_most();
+        Ok(())
+    }
+
+    /// Ends the job, and hands back its memory, zeroed.
+    pub fn into_memory(mut self) -> Memory<'m> {
+        self.end();
+        mem::take(&mut self.memory)
+    }
+
+    /// Lays the job aside: its record, and its memory as it is, not zeroed. Until it
+    /// is resumed nothing should touch the memory.
+    ///
+    /// So can a structure own both the memory and the job:
+    ///
+    /// ```
+    /// use jisampode::{Job, JobBuilder, OwnedMemory, Record, Refusal};
+    ///
+    /// struct Station {
+    ///     memory: OwnedMemory,
+    ///     record: Record,
+    /// }
+    ///
+    /// impl Station {
+    ///     fn take(&mut self, builder: &JobBuilder) -> Result<(), Refusal> {
+    ///         let job = builder.open(self.memory.lend())?;
+    ///         (self.record, _) = job.suspend();
+    ///         Ok(())
+    ///     }
+    ///
+    ///     /// Whether the job is finished.
+    ///     fn work(&mut self, budget: u64) -> Result<bool, Refusal> {
+    ///         let mut job = Job::resume(&mut self.record, self.memory.lend())?;
+    ///         let progress = job.step(budget)?;
+    ///         (self.record, _) = job.suspend();
+    ///         Ok(progress.finished)
+    ///     }
+    /// }
+    /// # use jisampode::{Bounds, Model};
+    /// # fn main() -> Result<(), Refusal> {
+    /// # let mut model = Model::new();
+    /// # model.plane([1.0, 0.0, 0.0], 0.0)?;
+    /// # let builder = JobBuilder::new()
+    /// #     .bounds(Bounds::new([0.0; 3], [2.0; 3]))
+    /// #     .cell(1.0)
+    /// #     .blocks(2, 2)
+    /// #     .band(-0.25, 0.0)
+    /// #     .model(model);
+    /// # let memory = OwnedMemory::for_job(&builder)?;
+    /// # let mut station = Station { memory, record: Record::default() };
+    /// # station.take(&builder)?;
+    /// # assert!(!station.work(58)?);
+    /// # assert!(station.work(58)?);
+    /// # assert_eq!(station.record.counts()?.evaluations, 59);
+    /// # Ok(())
+    /// # }
+    /// ```
+    pub fn suspend(mut self) -> (Record, Memory<'m>) {
+        (mem::take(&mut self.record), mem::take(&mut self.memory))
+    }
+
+    /// Takes up a job that was laid aside, and leaves a record without a job.
+    ///
+    /// Refused by [`Refusal::NoJob`], and by [`Refusal::Record`] where no job of
+    /// this memory can have the record: its lengths are others, or its kinds are
+    /// not those of the job. Then record and memory are as they were. Values that
+    /// were changed meanwhile are not noticed.
+    ///
+    /// Takes time that grows with the number of children, as a step does.
+    pub fn resume(record: &mut Record, mut memory: Memory<'m>) -> Result<Job<'m>, Refused<'m>> {
+        // A step with a budget of 0 judges the record and changes nothing.
+        match engine::step(0, record, &mut memory) {
+            Ok(()) => Ok(Job::opened(mem::take(record), memory)),
+            Err(refusal) => Err(Refused { refusal, memory }),
+        }
+    }
+
+    fn end(&mut self) {
+        engine::drop(&mut self.record, &mut self.memory);
+    }
+}
+
+/// Zeroes the memory.
+impl Drop for Job<'_> {
+    fn drop(&mut self) {
+        self.end();
+    }
+}
+
+/// Shows counts, cursor and lengths alone, so that no value of a client comes into
+/// a log.
+impl fmt::Debug for Job<'_> {
+    fn fmt(&self, f: &mut fmt::Formatter<'_>) -> fmt::Result {
+        f.debug_struct("Job")
+            .field("record", &self.record)
+            .field("memory", &self.memory)
+            .finish()
+    }
+}

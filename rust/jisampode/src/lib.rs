@@ -1,0 +1,89 @@
+//! The field engine of a print-preparation station.
+//!
+//! A client's job is an implicit model: a short list of shapes and operations
+//! that gives a value at every point of space. The engine samples the model on a
+//! grid, in memory that the station lends it, and keeps a sparse field: leaves
+//! with values near the surface, single numbers elsewhere. A job makes its
+//! evaluations in steps, each with a budget.
+//!
+//! ```
+//! use jisampode::{Bounds, Child, JobBuilder, Model, OwnedMemory, Refusal};
+//!
+//! fn main() -> Result<(), Refusal> {
+//!     let mut model = Model::new();
+//!     model.plane([1.0, 0.0, 0.0], 0.0)?;
+//!     let builder = JobBuilder::new()
+//!         .bounds(Bounds::new([0.0; 3], [2.0; 3]))
+//!         .cell(1.0)
+//!         .blocks(2, 2)
+//!         .band(-0.25, 0.0)
+//!         .model(model);
+//!
+//!     let mut memory = OwnedMemory::for_job(&builder)?;
+//!     let mut job = builder.open(memory.lend())?;
+//!     while !job.is_finished() {
+//!         let progress = job.step(10)?;
+//!         println!("{:3.0} %", 100.0 * progress.fraction());
+//!     }
+//!
+//!     assert_eq!(job.counts().evaluations, 59);
+//!     assert_eq!(job.field().child(0, 1), Some(Child::Constant(1.5)));
+//!     assert_eq!(job.field().leaves().count(), 4);
+//!     Ok(())
+//! }
+//! ```
+//!
+//! # What the engine keeps to, and what this crate adds
+//!
+//! The engine's code is proved against contracts before the archive that this
+//! crate links is built: what each call returns, and what every lent element
+//! holds afterwards. An accepted open zeroes all that it is lent, so that no value
+//! of an earlier job is left.
+//!
+//! This crate adds Rust's rules. While a [`Job`] lives, nothing else can read or
+//! write its memory or its record. When it goes out of scope, finished or not, its
+//! memory is zeroed.
+//!
+//! # Refusals
+//!
+//! The engine judges what it is given. A call that can be refused returns a
+//! [`Refusal`], which has the number of its cause. A refused call changes nothing
+//! that it was lent.
+//!
+//! # NaN
+//!
+//! A NaN that a call computes has the bits 7ff8000000000000. Constants, min and
+//! max copy their operand, and a copied NaN keeps its bits.
+
+#![deny(unsafe_code)]
+#![warn(missing_docs, missing_debug_implementations)]
+
+mod bounds;
+mod builder;
+mod dense;
+#[allow(unsafe_code)]
+mod engine;
+mod field;
+mod job;
+mod lengths;
+mod listing;
+mod memory;
+mod model;
+mod progress;
+mod record;
+mod refusal;
+pub mod sys;
+mod walks;
+
+pub use bounds::Bounds;
+pub use builder::{JobBuilder, Refused};
+pub use dense::{point_count, DenseField, Dimensions};
+pub use field::{Child, Field};
+pub use job::Job;
+pub use listing::{list_job, list_job_into, listed_refusal, LISTING_BYTES};
+pub use memory::{Lengths, Memory, OwnedMemory};
+pub use model::{Model, Part, MOST_PARTS};
+pub use progress::Progress;
+pub use record::{Counts, Cursor, Record};
+pub use refusal::Refusal;
+pub use walks::{Cells, Octets, Points};

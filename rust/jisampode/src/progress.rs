@@ -1,0 +1,52 @@
+//! How far a job has come.
+
+use crate::engine;
+use crate::memory::Memory;
+use crate::record::{Counts, Record};
+
+/// How far a job has come: evaluations so far, and the most that it can make.
+///
+/// The most is known from the start: every needed corner, and every point of every
+/// active child. A child that becomes a constant has no points to evaluate, so a
+/// job may finish with fewer.
+///
+/// ```
+/// use jisampode::Progress;
+///
+/// let progress = Progress { done: 27, most: 91, finished: false };
+/// assert_eq!(format!("{:.1} %", 100.0 * progress.fraction()), "29.7 %");
+/// ```
+#[derive(Debug, Clone, Copy, PartialEq, Eq)]
+pub struct Progress {
+    /// Evaluations so far.
+    pub done: u64,
+    /// No job of this grid makes more.
+    pub most: u64,
+    /// Whether the job is at its end.
+    pub finished: bool,
+}
+
+impl Progress {
+    /// From 0 to 1, for a bar: 1 exactly when the job is finished.
+    pub fn fraction(&self) -> f64 {
+        if self.finished {
+            return 1.0;
+        }
+        self.done as f64 / self.most as f64
+    }
+}
+
+/// The most evaluations that a job can make: the needed corners of all nodes, and
+/// L³ points for each active child. The kinds stay nonzero at just the active
+/// children while a job lives, so it comes out the same at any time.
+pub(crate) fn most(record: &Record, counts: Counts, memory: &Memory<'_>) -> u64 {
+    let inner = record.inner();
+    let children = (inner as usize).pow(3);
+    let mut list = vec![0; (inner as usize + 1).pow(3)];
+    let nodes = memory.kinds.chunks_exact(children);
+    let corners: u64 = nodes
+        .take(counts.nodes as usize)
+        .map(|kinds| engine::corner_count(inner, kinds, &mut list))
+        .sum();
+    corners + counts.active * u64::from(record.leaf()).pow(3)
+}
