@@ -3,5 +3,7 @@
 
 pub mod bits;
 pub mod dense_rules;
+pub mod digest;
 pub mod inputs;
+pub mod jobs;
 pub mod random;

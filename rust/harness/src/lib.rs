@@ -1,0 +1,9 @@
+//! The engine's C interface between guard bytes, and lists of calls on it.
+
+pub mod arrays;
+mod forging;
+pub mod guarded;
+pub mod host;
+pub mod lists;
+mod poison;
+mod tally;
