@@ -175,7 +175,10 @@ fn scale(random: &mut Random) -> (f64, [f64; 3]) {
         11 => (full(random).abs(), [0, 1, 2].map(|_| full(random) * 1e15)),
         // Numbers below the normal ones, and squares that vanish.
         12 => (5e-324 * (1 + random.below(9)) as f64, [0.0; 3]),
-        13 => (full(random).abs() * 1e-300, near(random).map(|x| x * 1e-300)),
+        13 => (
+            full(random).abs() * 1e-300,
+            near(random).map(|x| x * 1e-300),
+        ),
         // Squares and node ends that are infinite.
         14 => (full(random).abs() * 1e300, near(random).map(|x| x * 1e305)),
         _ => {
@@ -244,7 +247,11 @@ pub fn faulty(random: &mut Random, number: u64, input: Input) -> Input {
             1 => input.max[axis] = not_finite(random),
             2 => {
                 let below = input.min[axis].next_after(false);
-                input.max[axis] = if below == input.min[axis] { -1.0 } else { below };
+                input.max[axis] = if below == input.min[axis] {
+                    -1.0
+                } else {
+                    below
+                };
                 input.min[axis] = input.min[axis].max(0.0);
             }
             _ => {
@@ -271,8 +278,10 @@ pub fn faulty(random: &mut Random, number: u64, input: Input) -> Input {
         4 => match random.below(3) {
             0 => input.count = random.pick(&[0, 65, 66, 1 << 31, u32::MAX]),
             _ => {
-                let place = random.below(input.count.into()) as u32;
-                let outside = random.pick(&[place, place + 1, 63, 64, u32::MAX]).max(place);
+                let place = random.below(input.parts.len() as u64) as u32;
+                let outside = random
+                    .pick(&[place, place + 1, 63, 64, u32::MAX])
+                    .max(place);
                 let inside = random.below(u64::from(place).max(1)) as u32;
                 input.parts[place as usize] = match random.below(4) {
                     0 => Part::Min(outside, inside),
@@ -287,7 +296,8 @@ pub fn faulty(random: &mut Random, number: u64, input: Input) -> Input {
             1 => input.max[axis] = input.min[axis] + input.cell * 1e6,
             2 => input.max = input.min.map(|x| x + input.cell * 2e4),
             _ => {
-                let node = input.cell * f64::from(input.inner * (input.leaf - 1));
+                let blocks = f64::from(input.inner) * (f64::from(input.leaf) - 1.0);
+                let node = input.cell * blocks;
                 input.max[axis] = input.min[axis] + node * random.pick(&[1024.0, 1024.5, 1025.0]);
             }
         },

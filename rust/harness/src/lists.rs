@@ -162,18 +162,24 @@ impl List<'_> {
         self.open_with(opening)
     }
 
-    /// An open with a fault for one of the causes 1 to 5, or a code above 7.
+    /// An open with faults for one of the causes 1 to 5 or for several, or with a
+    /// code above 7.
     fn open_refused(&mut self) -> Result<(), String> {
-        let input = self.any_input();
-        let cause = 1 + self.random.below(6);
-        if cause < 6 {
-            let faulty = jobs::faulty(&mut self.random, cause, input);
-            let opening = self.opening(&faulty);
-            return self.open_with(opening);
+        let mut input = self.any_input();
+        let parts = input.parts.len() as u64;
+        for _ in 0..self.random.pick(&[1, 1, 2, 3]) {
+            let cause = 1 + self.random.below(5);
+            input = jobs::faulty(&mut self.random, cause, input);
+        }
+        let no_code = self.random.below(6);
+        if no_code == 0 {
+            input = self.any_input();
         }
         let mut opening = self.opening(&input);
-        let place = self.random.below(opening.count.into()) as usize;
-        opening.model.parts[place] = self.random.pick(&[8, 9, 255, 1 << 31, u32::MAX]);
+        if no_code <= 1 {
+            let place = self.random.below(parts) as usize;
+            opening.model.parts[place] = self.random.pick(&[8, 9, 255, 1 << 31, u32::MAX]);
+        }
         self.open_with(opening)
     }
 
