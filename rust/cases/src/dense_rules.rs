@@ -62,3 +62,17 @@ pub fn walk_refusal(least: usize, bounds: Bounds, n: Triple, at: Triple) -> usiz
         0
     }
 }
+
+/// Whether 9 or 10 refuses an octet walk's step. Past the last one it is done,
+/// and so is a walk over a dimension of 1.
+pub fn octet_refusal(n: Triple, at: Triple, len: usize) -> usize {
+    if values_refused(n, len) {
+        9
+    } else if n.contains(&1) || at[2] >= n[2] - 1 {
+        0
+    } else if at[0] >= n[0] - 1 || at[1] >= n[1] - 1 {
+        10
+    } else {
+        0
+    }
+}

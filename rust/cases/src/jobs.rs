@@ -4,6 +4,7 @@ use crate::inputs::{coordinate, exact, of_grid, random_band, with_band, with_par
 use crate::random::Random;
 use ledger::grid::{cause, Grid};
 use ledger::input::MOST_PARTS;
+use ledger::record::Record;
 use ledger::{Input, Lengths, Part};
 
 /// Numbers for which an operation may have a rule of its own. The last six are
@@ -227,6 +228,12 @@ fn within(input: &Input, size: Size) -> bool {
     evaluations * u64::from(input.count) <= size.work
 }
 
+/// The cause by which open refuses an input, whatever is lent: one of 1 to 5.
+pub fn refusal(input: &Input) -> Option<u32> {
+    let nothing = Record::none().lengths;
+    cause(input, nothing).filter(|&cause| cause < 6)
+}
+
 /// An input that no cause refuses, of at most this size.
 pub fn accepted(random: &mut Random, size: Size) -> Input {
     loop {
@@ -307,4 +314,38 @@ pub fn faulty(random: &mut Random, number: u64, input: Input) -> Input {
 
 fn not_finite(random: &mut Random) -> f64 {
     f64::from_bits(random.pick(&SPECIAL[12..]))
+}
+
+/// A job that runs through, with budgets that pause it.
+pub struct Job {
+    pub input: Input,
+    /// The last one is all that remains.
+    pub budgets: Vec<u64>,
+    /// Chooses first contents.
+    pub random: Random,
+}
+
+/// The job of a number. A few inputs have a fault.
+pub fn numbered(seed: u64, number_of_job: u64) -> Job {
+    let mut random = Random::new(seed ^ number_of_job.wrapping_mul(0x2545_f491_4f6c_dd1d));
+    let size = match random.below(100) {
+        0 => LARGE,
+        1..=49 => MIDDLE,
+        _ => SMALL,
+    };
+    let mut input = accepted(&mut random, size);
+    if random.below(20) == 0 {
+        let cause = 1 + random.below(5);
+        let faulty = faulty(&mut random, cause, input.clone());
+        if refusal(&faulty).is_some() {
+            input = faulty;
+        }
+    }
+    let mut budgets: Vec<u64> = (0..random.below(4)).map(|_| random.below(100)).collect();
+    budgets.push(u64::MAX);
+    Job {
+        input,
+        budgets,
+        random,
+    }
 }

@@ -2,6 +2,7 @@
 //! stored cases, the list harness and the differential harness use them.
 
 pub mod bits;
+pub mod dense;
 pub mod dense_rules;
 pub mod digest;
 pub mod inputs;

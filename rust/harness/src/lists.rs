@@ -25,7 +25,10 @@ pub fn run(first: u64, count: u64, seed: u64) -> Result<Tally, String> {
         for call in 0..calls {
             let done = list.random_call().and_then(|()| list.forgings());
             done.map_err(|what| {
-                format!("list {number} of seed {seed}, call {call} of {calls}: {what}")
+                format!(
+                    "list {number} of seed {seed}, call {call} of {calls}: {what}\n\
+                     repeat with: harness lists 1 {seed} {number}"
+                )
             })?;
         }
         tally.lists += 1;

@@ -160,12 +160,11 @@ fn refused(list: &mut List, walk: Walk) {
 
 fn octets(list: &mut List, n: Triple, at: Triple, values: &[f64]) -> Option<Triple> {
     let none = [0.0; 8];
-    let (answer, next) = if values_refused(n, values.len()) {
-        (Row::new().count(9).results(&none), None)
+    let refused = octet_refusal(n, at, values.len());
+    let (answer, next) = if refused != 0 {
+        (Row::new().count(refused).results(&none), None)
     } else if n.contains(&1) || at[2] >= n[2] - 1 {
         (Row::new().count(0).count(0).counts(at).results(&none), None)
-    } else if at[0] >= n[0] - 1 || at[1] >= n[1] - 1 {
-        (Row::new().count(10).results(&none), None)
     } else {
         let (found, next) = octet_step(values, n.into(), at.into());
         answer(found.map(|v| v.to_vec()), triple(next))
