@@ -32,7 +32,7 @@ fn guard_byte(at: usize) -> u8 {
 impl<T: Element> Guarded<T> {
     pub fn new(elements: &[T]) -> Guarded<T> {
         let bytes = size_of::<T>() * elements.len();
-        let words = GUARD / 8 + bytes.div_ceil(8) + GUARD / 8;
+        let words = GUARD / 8 + (bytes + 7) / 8 + GUARD / 8;
         let mut guarded = Guarded {
             words: vec![0; words],
             length: elements.len(),
