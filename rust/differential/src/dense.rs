@@ -4,7 +4,7 @@ use crate::{Expected, Tally};
 use cases::bits::result;
 use cases::dense::{numbered, Case, Walk};
 use cases::dense_rules::{octet_refusal, walk_refusal, Bounds, Point, Triple};
-use harness::answers;
+use harness::answers::{self, one_nan};
 use original::dense::{cell_step, octet_step, point_count, point_step, sample};
 use original::jobs::model;
 use original::types::computation::data::inside::{block, needed_corners};
@@ -20,7 +20,7 @@ pub fn compare(seed: u64, number: u64, tally: &mut Tally) -> Result<(), String> 
         0 => Expected::Original(answer(&case)),
         cause => Expected::Refused(cause as u64),
     };
-    let compared = answers::dense(&case).and_then(|got| tally.compare(got, expected));
+    let compared = answers::dense(&case, one_nan).and_then(|got| tally.compare(got, expected));
     compared.map_err(|what| format!("{what}\n{case:?}"))
 }
 

@@ -1,6 +1,6 @@
 //! What the C interface answers to a whole job and to a call on a dense field,
-//! as numbers: the refusal's number or 0, then the results, with one pattern
-//! for NaN.
+//! as numbers: the refusal's number or 0, then the results. Where answers are
+//! compared with the original's, every NaN has one pattern.
 
 use crate::arrays::{Model, Opening};
 use crate::guarded::Guarded;
@@ -73,17 +73,25 @@ pub fn job(job: &Job) -> Result<Vec<u64>, String> {
     Ok(numbers)
 }
 
-fn one_nan(bits: u64) -> u64 {
+/// What a float's bits count as.
+pub type Bits = fn(u64) -> u64;
+
+/// Any NaN counts as any other.
+pub fn one_nan(bits: u64) -> u64 {
     result(f64::from_bits(bits))
 }
 
-fn bits(floats: &[f64]) -> Vec<u64> {
+pub fn as_it_is(bits: u64) -> u64 {
+    bits
+}
+
+fn bits_of(floats: &[f64]) -> Vec<u64> {
     floats.iter().map(|x| x.to_bits()).collect()
 }
 
 /// A call on a dense field, steps of a walk, or a corner list. A refused call
 /// is held to have changed nothing, and guard bytes to what they were.
-pub fn dense(case: &Case) -> Result<Vec<u64>, String> {
+pub fn dense(case: &Case, float: Bits) -> Result<Vec<u64>, String> {
     match case {
         Case::Count(bounds, cell) => Ok(count(bounds, *cell)),
         Case::Sample {
@@ -95,7 +103,7 @@ pub fn dense(case: &Case) -> Result<Vec<u64>, String> {
         } => {
             let model = Model::of(parts);
             let before = vec![100.0; *length];
-            changed(&before, &mut [], |values, length, _| unsafe {
+            changed(float, &before, &mut [], |values, length, _| unsafe {
                 sys::jisampode_sample(
                     model.parts.as_ptr(),
                     model.reals.as_ptr().cast(),
@@ -112,12 +120,16 @@ pub fn dense(case: &Case) -> Result<Vec<u64>, String> {
                 )
             })
         }
-        Case::Padding(n, value, values) => changed(values, &mut [], |values, length, _| unsafe {
-            sys::jisampode_padding(n[0], n[1], n[2], *value, values, length)
-        }),
-        Case::Threshold(n, limit, values) => changed(values, &mut [], |values, length, _| unsafe {
-            sys::jisampode_threshold(n[0], n[1], n[2], *limit, values, length)
-        }),
+        Case::Padding(n, value, values) => {
+            changed(float, values, &mut [], |values, length, _| unsafe {
+                sys::jisampode_padding(n[0], n[1], n[2], *value, values, length)
+            })
+        }
+        Case::Threshold(n, limit, values) => {
+            changed(float, values, &mut [], |values, length, _| unsafe {
+                sys::jisampode_threshold(n[0], n[1], n[2], *limit, values, length)
+            })
+        }
         Case::Smooth {
             n,
             factor,
@@ -128,28 +140,33 @@ pub fn dense(case: &Case) -> Result<Vec<u64>, String> {
             let mut scratch = vec![100.0f64.to_bits(); *scratch];
             let (i, j, k) = (n[0], n[1], n[2]);
             let (factor, rounds) = (*factor, *rounds);
-            changed(values, &mut scratch, |values, length, scratch| unsafe {
-                let (first, other) = (scratch.floats(), scratch.length());
-                sys::jisampode_smooth(i, j, k, factor, rounds, values, length, first, other)
-            })
+            changed(
+                float,
+                values,
+                &mut scratch,
+                |values, length, scratch| unsafe {
+                    let (first, other) = (scratch.floats(), scratch.length());
+                    sys::jisampode_smooth(i, j, k, factor, rounds, values, length, first, other)
+                },
+            )
         }
-        Case::Points(bounds, walk) => walked::<3>(walk, |cursor, point| unsafe {
+        Case::Points(bounds, walk) => walked::<3>(float, walk, |cursor, point| unsafe {
             let ([nx, ny, nz], bounds) = (walk.n, flat(bounds));
             sys::jisampode_point_step(bounds.as_ptr(), nx, ny, nz, cursor, point)
         }),
-        Case::Cells(bounds, walk) => walked::<6>(walk, |cursor, cell| unsafe {
+        Case::Cells(bounds, walk) => walked::<6>(float, walk, |cursor, cell| unsafe {
             let ([nx, ny, nz], bounds) = (walk.n, flat(bounds));
             sys::jisampode_cell_step(bounds.as_ptr(), nx, ny, nz, cursor, cell)
         }),
         Case::Octets(walk, values) => {
-            let mut lent = Guarded::new(&bits(values));
+            let mut lent = Guarded::new(&bits_of(values));
             let length = lent.length();
             let first = lent.floats();
-            let steps = walked::<8>(walk, |cursor, octet| unsafe {
+            let steps = walked::<8>(float, walk, |cursor, octet| unsafe {
                 let [nx, ny, nz] = walk.n;
                 sys::jisampode_octet_step(nx, ny, nz, first, length, cursor, octet)
             });
-            if lent.elements() != bits(values) || !lent.guards_hold() {
+            if lent.elements() != bits_of(values) || !lent.guards_hold() {
                 return Err("an octet walk has changed the values".into());
             }
             steps
@@ -175,11 +192,12 @@ fn count(bounds: &Bounds, cell: f64) -> Vec<u64> {
 /// A call that changes a field's values, and a scratch. An accepted call has
 /// the values and how many numbers of the scratch are not 0.
 fn changed(
+    float: Bits,
     before: &[f64],
     scratch: &mut [u64],
     call: impl Fn(*mut f64, usize, &mut Guarded<u64>) -> u32,
 ) -> Result<Vec<u64>, String> {
-    let mut values = Guarded::new(&bits(before));
+    let mut values = Guarded::new(&bits_of(before));
     let mut lent = Guarded::new(scratch);
     let length = values.length();
     let answer = call(values.floats(), length, &mut lent);
@@ -187,13 +205,13 @@ fn changed(
         return Err("a guard byte beside values or scratch has changed".into());
     }
     if answer != 0 {
-        if values.elements() != bits(before) || lent.elements() != scratch {
+        if values.elements() != bits_of(before) || lent.elements() != scratch {
             return Err("a refused call has changed its values or its scratch".into());
         }
         return Ok(vec![answer.into()]);
     }
     let mut numbers = vec![0];
-    numbers.extend(values.elements().iter().map(|&x| one_nan(x)));
+    numbers.extend(values.elements().iter().map(|&x| float(x)));
     let left = lent.elements().iter().filter(|&&x| x != 0).count();
     numbers.push(left as u64);
     Ok(numbers)
@@ -202,6 +220,7 @@ fn changed(
 /// Steps of a walk: for each 1, what it hands out and the next cursor; where it
 /// is done or refused its answer, and no more.
 fn walked<const N: usize>(
+    float: Bits,
     walk: &Walk,
     step: impl Fn(*mut usize, *mut f64) -> u32,
 ) -> Result<Vec<u64>, String> {
@@ -222,7 +241,7 @@ fn walked<const N: usize>(
             break;
         }
         numbers.push(1);
-        numbers.extend(out.elements().iter().map(|&x| one_nan(x)));
+        numbers.extend(out.elements().iter().map(|&x| float(x)));
         numbers.extend(cursor.elements().iter().map(|&n| n as u64));
     }
     Ok(numbers)

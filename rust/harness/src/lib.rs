@@ -2,6 +2,7 @@
 
 pub mod answers;
 pub mod arrays;
+pub mod dense;
 mod forging;
 pub mod guarded;
 pub mod host;

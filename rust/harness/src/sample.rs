@@ -1,6 +1,6 @@
 //! The digests of the first jobs and dense cases, from the C interface alone.
 
-use crate::answers;
+use crate::answers::{self, one_nan};
 use cases::digest::{Digest, SAMPLE, SEED};
 use cases::{dense, jobs};
 
@@ -13,7 +13,7 @@ pub fn replay() -> Result<String, String> {
     for number in 0..SAMPLE {
         let job = answers::job(&jobs::numbered(SEED, number))
             .map_err(|what| format!("job {number} of seed {SEED}: {what}"))?;
-        let dense = answers::dense(&dense::numbered(SEED, number))
+        let dense = answers::dense(&dense::numbered(SEED, number), one_nan)
             .map_err(|what| format!("dense case {number} of seed {SEED}: {what}"))?;
         of_jobs.add(&job);
         of_dense.add(&dense);
