@@ -234,11 +234,46 @@ pub fn refusal(input: &Input) -> Option<u32> {
     cause(input, nothing).filter(|&cause| cause < 6)
 }
 
+/// Sets the band so that an active child's values meet a limit exactly, or miss
+/// it by one float.
+fn to_the_limit(random: &mut Random, input: &mut Input) {
+    let grid = Grid::new(input);
+    let v = random.below(grid.nodes());
+    let active: Vec<u64> = (0..grid.children())
+        .filter(|&c| grid.is_active(v, c))
+        .collect();
+    if active.is_empty() {
+        return;
+    }
+    let corner = |(corner, needed)| match needed {
+        true => grid.corner_value(v, corner),
+        false => 0.0,
+    };
+    let corners: Vec<f64> = (0..).zip(grid.needed(v)).map(corner).collect();
+    let limits = grid.limits(v, random.pick(&active), &corners);
+    let [above, below] = limits.map(|limit| match random.below(3) {
+        0 => limit.next_after(true),
+        1 => limit.next_after(false),
+        _ => limit,
+    });
+    if above.is_nan() || below.is_nan() {
+        return;
+    }
+    [input.band_min, input.band_max] = match random.below(3) {
+        0 => [above, f64::INFINITY],
+        1 => [f64::NEG_INFINITY, below],
+        _ => [above, below],
+    };
+}
+
 /// An input that no cause refuses, of at most this size.
 pub fn accepted(random: &mut Random, size: Size) -> Input {
     loop {
-        let input = any(random, size);
+        let mut input = any(random, size);
         if within(&input, size) {
+            if random.below(6) == 0 {
+                to_the_limit(random, &mut input);
+            }
             return input;
         }
     }
