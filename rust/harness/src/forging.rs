@@ -94,7 +94,7 @@ fn kinds(random: &mut Random, host: &mut Host) {
 
 /// One change of the record or of an element. Sometimes none.
 pub fn forge(random: &mut Random, host: &mut Host) {
-    match random.below(16) {
+    match random.below(18) {
         0 => {}
         1..=3 => {
             let words = host.words.elements_mut();
@@ -123,11 +123,18 @@ pub fn forge(random: &mut Random, host: &mut Host) {
         }
         11 | 12 => kinds(random, host),
         13 => {
-            let [numbers, store, corners] = [&mut host.numbers, &mut host.store, &mut host.corners];
-            let slices = [numbers, store, corners];
-            let at = random.below(3) as usize;
-            for (_, slice) in slices.into_iter().enumerate().filter(|(i, _)| *i == at) {
-                float(random, slice.elements_mut());
+            let slice = match random.below(3) {
+                0 => &mut host.numbers,
+                1 => &mut host.store,
+                _ => &mut host.corners,
+            };
+            float(random, slice.elements_mut());
+        }
+        14 => {
+            let places = host.places.elements_mut();
+            if !places.is_empty() {
+                let at = random.below(places.len() as u64) as usize;
+                places[at] = random.next() as u32;
             }
         }
         _ => likely(random, host),

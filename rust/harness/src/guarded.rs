@@ -1,7 +1,7 @@
 //! Elements with guard bytes on both sides.
 
 use std::marker::PhantomData;
-use std::mem::size_of;
+use std::mem::{size_of, size_of_val};
 use std::slice;
 
 /// Guard bytes on each side.
@@ -31,7 +31,7 @@ fn guard_byte(at: usize) -> u8 {
 
 impl<T: Element> Guarded<T> {
     pub fn new(elements: &[T]) -> Guarded<T> {
-        let bytes = size_of::<T>() * elements.len();
+        let bytes = size_of_val(elements);
         let words = GUARD / 8 + (bytes + 7) / 8 + GUARD / 8;
         let mut guarded = Guarded {
             words: vec![0; words],

@@ -2,7 +2,7 @@
 //! slices' lengths and their first contents. A model of the records judges
 //! calls on forged ones.
 
-use crate::arrays::{count_numbers, cursor_numbers, Model, Opening, Reading, RecordArrays};
+use crate::arrays::{count_numbers, cursor_numbers, Opening, Reading, RecordArrays};
 use crate::forging::forge;
 use crate::host::Host;
 use crate::poison;
@@ -263,7 +263,6 @@ impl List<'_> {
             counts,
             ..Record::none()
         });
-        expected.model = Model::of(&opening.model.read());
         let words = self.host.words.elements();
         expected.words[14..].copy_from_slice(&words[14..]);
         self.host.holds_record(&expected)
