@@ -282,6 +282,11 @@ impl List<'_> {
             return Err(format!("finished is {finished:?}, the ledger's {due:?}"));
         }
         self.tally.finished += u64::from(due == Some(true));
+        if let (Some(counts), Some(opening)) = (self.ledger.counts(), &self.opened) {
+            let children = counts.nodes * u64::from(opening.inner).pow(3);
+            let values = counts.active * u64::from(opening.leaf).pow(3);
+            self.tally.job([children, values, counts.evaluations]);
+        }
         Ok(())
     }
 

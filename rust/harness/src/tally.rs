@@ -18,9 +18,18 @@ pub struct Tally {
     /// Opens and drops with a forged record.
     pub forged_others: u64,
     pub elements: u64,
+    /// The most children, values of the store and evaluations of one job.
+    pub largest: [u64; 3],
 }
 
 impl Tally {
+    /// A job of this size after a call.
+    pub fn job(&mut self, sizes: [u64; 3]) {
+        for (largest, size) in self.largest.iter_mut().zip(sizes) {
+            *largest = size.max(*largest);
+        }
+    }
+
     pub fn calls(&self) -> u64 {
         self.accepted.iter().chain(&self.refused).sum()
     }
@@ -38,9 +47,11 @@ impl Display for Tally {
             "lists: accepted {opens} opens, {steps} steps, {drops} drops; refused {}",
             refused.join(", ")
         )?;
+        let [children, values, evaluations] = self.largest;
         writeln!(
             to,
-            "lists: {} evaluations, {} calls after which a job was finished",
+            "lists: {} evaluations, {} calls after which a job was finished; jobs of up to \
+             {children} children, {values} values of the store, {evaluations} evaluations",
             self.evaluations, self.finished
         )?;
         writeln!(
