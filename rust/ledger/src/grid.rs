@@ -232,15 +232,23 @@ impl<'a> Grid<'a> {
         self.input.value(point)
     }
 
-    /// What an active child becomes, where its node's corners hold these
+    /// hi + h and lo - h of an active child, where its node's corners hold these
     /// values.
-    pub fn decide(&self, v: u64, c: u64, corners: &[f64]) -> Decision {
+    pub fn limits(&self, v: u64, c: u64, corners: &[f64]) -> [f64; 2] {
         let child = self.child_box(v, c);
         let h = distance(child.min, child.max) / 2.0;
         let values = self.octet(c).map(|corner| corners[corner as usize]);
         let low = values[1..].iter().fold(values[0], |a, &b| min(a, b));
         let high = values[1..].iter().fold(values[0], |a, &b| max(a, b));
-        if high + h < self.input.band_min || low - h > self.input.band_max {
+        [high + h, low - h]
+    }
+
+    /// What an active child becomes, where its node's corners hold these
+    /// values.
+    pub fn decide(&self, v: u64, c: u64, corners: &[f64]) -> Decision {
+        let [above, below] = self.limits(v, c, corners);
+        if above < self.input.band_min || below > self.input.band_max {
+            let values = self.octet(c).map(|corner| corners[corner as usize]);
             let sum = values.iter().fold(0.0, |sum, value| sum + value);
             Decision::Constant(computed(sum / 8.0))
         } else {

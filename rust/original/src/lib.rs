@@ -7,10 +7,12 @@
 //! the original, and the way to its evaluation; `dense.rs` with `cursors.rs`,
 //! the way to the dense field and to its walks from any cursor; `inside.rs`,
 //! which reads the sparse field's private parts, and `sampled.rs`, which reads
-//! its children; and `benched.rs`, the way to what the benchmark calls.
+//! its children; `jobs.rs`, the fields of the ledger's inputs; and `benched.rs`,
+//! the way to what the benchmark calls.
 
 pub mod benched;
 pub mod dense;
+pub mod jobs;
 pub mod parts;
 
 /// Asked for by the original's model; nothing here reads it.

@@ -12,18 +12,9 @@ mod walks;
 use crate::bits::*;
 use crate::fields::List;
 use crate::random::Random;
+use cases::dense_rules::*;
 
 pub use original::types::geometry::{BoundingBox, Vec3, Vec3i};
-
-/// Indices or numbers of points along the axes.
-type Triple = [usize; 3];
-
-type Point = [f64; 3];
-
-type Bounds = [Point; 2];
-
-/// The most points of a field, and the most along an axis of a walk.
-const MOST: usize = 16_777_216;
 
 const ORIGIN: Point = [0.0, 0.0, 0.0];
 
@@ -76,33 +67,6 @@ impl Row {
     fn bounds(self, bounds: Bounds) -> Row {
         self.floats(&bounds[0]).floats(&bounds[1])
     }
-}
-
-/// Cause 1 for a point.
-fn point_refused(p: Point) -> bool {
-    p.iter().any(|x| !x.is_finite())
-}
-
-/// Cause 1 for bounds.
-fn bounds_refused([min, max]: Bounds) -> bool {
-    point_refused(min) || point_refused(max) || (0..3).any(|axis| max[axis] < min[axis])
-}
-
-/// Cause 1 for a cell's size.
-fn cell_refused(cell: f64) -> bool {
-    !(cell.is_finite() && cell > 0.0)
-}
-
-/// Cause 9 for dimensions: one of them 0, or a product above the limit.
-fn dimensions_refused(n: Triple) -> bool {
-    let most = MOST as u128;
-    let [x, y, z] = n.map(|n| n as u128);
-    x == 0 || y == 0 || z == 0 || x > most || y > most || x * y > most || x * y * z > most
-}
-
-/// Cause 9 for dimensions and a number of values.
-fn values_refused(n: Triple, len: usize) -> bool {
-    dimensions_refused(n) || len != n[0] * n[1] * n[2]
 }
 
 fn vec3([x, y, z]: Point) -> Vec3<f64> {

@@ -3,7 +3,6 @@
 //! usage: vectors float|model|dense|grid|sparse|jobs [answers]
 //!        vectors listing < JOB
 
-mod bits;
 mod dense;
 mod fields;
 mod floats;
@@ -11,9 +10,9 @@ mod grid_rules;
 mod grids;
 mod jobs;
 mod models;
-mod random;
 mod sparse;
 
+use cases::{bits, random};
 use std::io::{self, Read, Write};
 use std::process::ExitCode;
 

@@ -5,13 +5,13 @@
 //! an element set between two calls.
 
 mod forged;
-pub mod inputs;
 mod jobs;
 pub mod original;
 mod random_lists;
 mod script;
 
 use crate::fields::List;
+pub use cases::inputs;
 use script::Script;
 
 pub fn list() -> List {

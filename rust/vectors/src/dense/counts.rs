@@ -11,21 +11,8 @@ pub fn write(list: &mut List, random: &mut Random) {
     far_and_near(list);
 }
 
-/// The counts by the rule, which may be infinite.
-fn refusal(bounds: Bounds, cell: f64) -> usize {
-    if bounds_refused(bounds) || cell_refused(cell) {
-        return 1;
-    }
-    let most = MOST as f64;
-    let points = [0, 1, 2].map(|a| ((bounds[1][a] - bounds[0][a]) / cell).floor() + 1.0);
-    if points.iter().any(|&n| n > most) || dimensions_refused(points.map(|n| n as usize)) {
-        return 9;
-    }
-    0
-}
-
 fn case(list: &mut List, bounds: Bounds, cell: f64) {
-    let refused = refusal(bounds, cell);
+    let refused = count_refusal(bounds, cell);
     let mut answer = Row::new().count(refused);
     if refused == 0 {
         let n = original::dense::point_count(&bounding_box(bounds), cell);

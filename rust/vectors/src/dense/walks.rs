@@ -31,18 +31,6 @@ fn triple((i, j, k): (usize, usize, usize)) -> Triple {
     [i, j, k]
 }
 
-/// Whether 1 or 11 refuses a walk that has at least so many points or cells on
-/// each axis.
-fn refusal(least: usize, bounds: Bounds, n: Triple, at: Triple) -> usize {
-    if bounds_refused(bounds) {
-        1
-    } else if n.iter().any(|&n| n < least || n > MOST) || at[0] >= n[0] || at[1] >= n[1] {
-        11
-    } else {
-        0
-    }
-}
-
 /// An accepted step's answer.
 fn answer(found: Option<Vec<f64>>, next: Triple) -> (Row, Option<Triple>) {
     match found {
@@ -55,7 +43,7 @@ fn answer(found: Option<Vec<f64>>, next: Triple) -> (Row, Option<Triple>) {
 }
 
 fn points(list: &mut List, bounds: Bounds, n: Triple, at: Triple) -> Option<Triple> {
-    let refused = refusal(2, bounds, n, at);
+    let refused = walk_refusal(2, bounds, n, at);
     let (answer, next) = if refused == 0 {
         let (point, next) = point_step(bounding_box(bounds), n.into(), at.into());
         answer(point.map(|p| coordinates(p).to_vec()), triple(next))
@@ -68,7 +56,7 @@ fn points(list: &mut List, bounds: Bounds, n: Triple, at: Triple) -> Option<Trip
 }
 
 fn cells(list: &mut List, bounds: Bounds, n: Triple, at: Triple) -> Option<Triple> {
-    let refused = refusal(1, bounds, n, at);
+    let refused = walk_refusal(1, bounds, n, at);
     let (answer, next) = if refused == 0 {
         let (cell, next) = cell_step(bounding_box(bounds), n.into(), at.into());
         let numbers = cell.map(|b| [coordinates(b.min), coordinates(b.max)].concat());
@@ -172,12 +160,11 @@ fn refused(list: &mut List, walk: Walk) {
 
 fn octets(list: &mut List, n: Triple, at: Triple, values: &[f64]) -> Option<Triple> {
     let none = [0.0; 8];
-    let (answer, next) = if values_refused(n, values.len()) {
-        (Row::new().count(9).results(&none), None)
+    let refused = octet_refusal(n, at, values.len());
+    let (answer, next) = if refused != 0 {
+        (Row::new().count(refused).results(&none), None)
     } else if n.contains(&1) || at[2] >= n[2] - 1 {
         (Row::new().count(0).count(0).counts(at).results(&none), None)
-    } else if at[0] >= n[0] - 1 || at[1] >= n[1] - 1 {
-        (Row::new().count(10).results(&none), None)
     } else {
         let (found, next) = octet_step(values, n.into(), at.into());
         answer(found.map(|v| v.to_vec()), triple(next))

@@ -195,7 +195,7 @@ pub fn long_model() -> Vec<Part> {
 }
 
 /// A number that is often whole.
-fn coordinate(random: &mut Random) -> f64 {
+pub fn coordinate(random: &mut Random) -> f64 {
     match random.below(4) {
         0 => random.between(-4, 4) as f64 / 8.0,
         1 => random.between(-1000, 1000) as f64 / 300.0,
@@ -228,7 +228,7 @@ fn random_model(random: &mut Random) -> Vec<Part> {
     (0..count).map(|place| random_part(random, place)).collect()
 }
 
-fn random_band(random: &mut Random) -> [f64; 2] {
+pub fn random_band(random: &mut Random) -> [f64; 2] {
     match random.below(6) {
         0 => ALL,
         1 => NONE,

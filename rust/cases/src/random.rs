@@ -1,6 +1,7 @@
 //! A small generator of numbers (splitmix64), so that the lists come out the
 //! same on every machine.
 
+#[derive(Clone)]
 pub struct Random {
     state: u64,
 }
