@@ -2,10 +2,9 @@
 -- them, answers, counts and every lent element equal those of the ledger. `onStation` is made of `hosted`, which the contracts of the three functions name.
 use Prim.Native.Nat.{ℕ, zero, suc, _<_}
 use mathlib.Core.Path.{_≡_, refl, sym, ap, subst, _∙_}
-use mathlib.Core.Bool.{Bool, true, false, not, cond}
+use mathlib.Core.Bool.{Bool, true, false, cond}
 use mathlib.Core.List.{List, map}
 use native.Mathlib.Omega.{arith}
-use lib.Dec.{eqb}
 use lib.Ieee.{Float}
 use lib.ListN.{length, getD, length-replicate}
 use borrow.Author.Tests.{eq-eqb}
@@ -17,9 +16,8 @@ use Rattle.model.specs.Flat.{Flat, flatOf}
 use Rattle.model.proofs.Accepted.{count-le}
 use Rattle.schedule.specs.Schedule.{Memory}
 use Rattle.schedule.specs.Opened.{Lengths, lengthsOf}
-use Rattle.schedule.specs.JobRecord.{noJob}
-use Rattle.schedule.specs.Calls.{opens, steps, drops, accepted, refused, run}
-use Rattle.schedule.specs.Engine.{Engine, advanced, engineCall, engineOpen, engineStepJob}
+use Rattle.schedule.specs.Calls.{opens, steps, drops, refused, run}
+use Rattle.schedule.specs.Engine.{advanced, engineCall, engineOpen, engineStepJob}
 use Rattle.schedule.specs.Possible.{impossible}
 use Rattle.schedule.specs.Ledger.{ledgerCall, firstLedger}
 use Rattle.schedule.specs.Agree.{Agree}
@@ -28,10 +26,9 @@ use Rattle.schedule.proofs.Implements.{viewRun, implements-ledger}
 use Rattle.schedule.proofs.Possible.{possible}
 use Rattle.sparse_field.specs.declared.Input.{Input}
 use Rattle.sparse_field.specs.declared.Record.{Record}
-use Rattle.sparse_field.specs.declared.Answer.the-variants.{Accepted, Refused}
-use Rattle.sparse_field.specs.Records.{sparse, lent, jobIn, recordIn, byFlag, recordOut, noRecord, noModel}
-use Rattle.sparse_field.specs.Calls.{Handed, handed, called, openedRecord, openedMemory, steppedEngine}
-use Rattle.sparse_field.specs.Lists.{Call, Held, onHeld, engineIn, answerIn}
+use Rattle.sparse_field.specs.Records.{sparse, lent, jobIn, recordIn, byFlag, noRecord, noModel}
+use Rattle.sparse_field.specs.Calls.{Handed, handed, called, openedRecord, openedMemory}
+use Rattle.sparse_field.specs.Lists.{Held, answerIn}
 use Rattle.sparse_field.proofs.Opening.{sized, nothing, sparse-laws}
 use Rattle.sparse_field.proofs.CallLaws.{refusedBy, acceptedWith, step-none, step-impossible, step-accepted, drop-accepted}
 use Rattle.sparse_field.proofs.Demand.{implemented}
@@ -159,8 +156,8 @@ unfolding decoded
 no-flag c none = by (fits (c .words))
   where
     by : (b : Bool) → cond b (recordGiven (inputIn c) (c .words)) (unread (flagged (c .words))) .job ≡ false
-    by true = ap not (eq-eqb _ _ none)
-    by false = ap not (eq-eqb _ _ none)
+    by true = simp (eq-eqb _ _ none)
+    by false = simp (eq-eqb _ _ none)
 
 -- any list of calls, from arrays of any contents whose first word is 0 and any contents of the memory
 pub host-demand-three : (cs : List HostCall) (s : Station) → getD (s .carried .words) 0 0 ≡ 0

@@ -1,7 +1,6 @@
 // A record in four arrays: 18 words, the model's codes and inputs, nine settings, the model's numbers.
 // Reading takes any arrays. Those that no record has read as a record that step refuses by 8.
 ghost use mathlib.Core.Path.{_≡_};
-ghost use mathlib.Core.Bool.{true};
 ghost use Rattle.field_host.specs.Carried.{carriedOf, fits, lengthsGiven, countsGiven, cursorGiven, cursorOf, flagWord, cursorTag, cursorNode, cursorPlace, cursorPoint, unread, recordGiven, decoded, wordsOf, settingsOf, encoded};
 use crate::given::input_given;
 use grid::Lengths;
@@ -9,9 +8,6 @@ use sparse_field::Counts;
 use sparse_field::Cursor;
 use sparse_field::Input;
 use sparse_field::Record;
-
-// How many words a record has.
-pub const WORDS: usize = 18;
 
 // Whether the words are those of some record: a flag of 0 or 1, block sizes and a count of 32 bits, one
 // of three cursors.

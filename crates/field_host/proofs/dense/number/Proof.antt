@@ -1,6 +1,6 @@
 -- `dense::number` meets its contract: each case has its number.
 use borrow.Author.Needs.{needs}
-use mathlib.Core.Path.{refl, sym, ap, _∙_}
+use mathlib.Core.Path.{refl}
 use Rattle.field_host.specs.Answers.{outcomeNumber}
 use Rattle.field_host.proofs.dense.number.Statement.{statement}
 use Rattle.field_host.proofs.dense.number.Tie as tie

@@ -1,5 +1,4 @@
 -- `given::part_from` meets its contract: each code gives the part at its place of the list.
-use borrow.Author.Needs.{needs}
 use mathlib.Core.Path.{_≡_, refl, sym}
 use mathlib.Core.List.{[], _∷_}
 use Prim.Native.Nat.{ℕ, _<_}

@@ -1,5 +1,4 @@
 -- `record::cursor_of` meets its contract, for each tag.
-use borrow.Author.Needs.{needs}
 use Prim.Native.Nat.{ℕ, zero, suc}
 use Rattle.sparse_field.specs.declared.Cursor.the-variants.{Point}
 use mathlib.Core.Path.{_≡_, refl}

@@ -1,33 +1,26 @@
+-- `record::cursor_words` meets its contract.
 use borrow.Author.Needs.{needs}
 use Rattle.field_host.specs.Carried.{cursorTag, cursorNode, cursorPlace, cursorPoint}
 use Rattle.field_host.proofs.record.cursor_words.Statement.{statement}
 use Rattle.field_host.proofs.record.cursor_words.Tie as tie
-use Rattle.field_host.proofs.record.cursor_words.Reads as reads
-use Rattle.field_host.proofs.record.cursor_words.Lts as lts
 
--- src/record.rt:151:24
 enum-told : tie.Need-enum-told
 enum-told c = search needs
 
--- src/record.rt:157:24
 enum-known-cursor : tie.Need-enum-known-cursor
 enum-known-cursor c = search needs
 
--- src/record.rt:163:23
 enum-known-cursor-2 : tie.Need-enum-known-cursor-2
 enum-known-cursor-2 c = search needs
 
--- src/record.rt:147:1
 returns : tie.Need-returns
 unfolding cursorTag cursorNode cursorPlace cursorPoint
 returns c = search needs
 
--- src/record.rt:147:1
 returns-2 : tie.Need-returns-2
 unfolding cursorTag cursorNode cursorPlace cursorPoint
 returns-2 c = search needs
 
--- src/record.rt:147:1
 returns-3 : tie.Need-returns-3
 unfolding cursorTag cursorNode cursorPlace cursorPoint
 returns-3 c = search needs

@@ -1,7 +1,7 @@
 -- `record::decode` meets its contract: words that fit are read, others are not.
 use borrow.Author.Needs.{needs}
 use borrow.Author.Tests.{not-true, not-false}
-use mathlib.Core.Path.{_≡_, sym, ap, _∙_}
+use mathlib.Core.Path.{sym, ap, _∙_}
 use denote.Ref.{now}
 use Rattle.sparse_field.specs.declared.Input.{Input}
 use native.Mathlib.Omega.{arith}

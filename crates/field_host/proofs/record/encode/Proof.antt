@@ -1,7 +1,6 @@
 -- `record::encode` meets its contract.
 use borrow.Author.Needs.{needs}
 use Rattle.field_host.specs.Carried.{carriedOf}
-use mathlib.Core.Path.{ap}
 use Rattle.field_host.proofs.record.encode.Statement.{statement}
 use Rattle.field_host.proofs.record.encode.Tie as tie
 

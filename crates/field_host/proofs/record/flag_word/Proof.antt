@@ -1,16 +1,13 @@
+-- `record::flag_word` meets its contract.
 use borrow.Author.Needs.{needs}
 use Rattle.field_host.specs.Carried.{flagWord}
 use Rattle.field_host.proofs.record.flag_word.Statement.{statement}
 use Rattle.field_host.proofs.record.flag_word.Tie as tie
-use Rattle.field_host.proofs.record.flag_word.Reads as reads
-use Rattle.field_host.proofs.record.flag_word.Lts as lts
 
--- src/record.rt:172:1
 returns : tie.Need-returns
 unfolding flagWord
 returns c = search needs
 
--- src/record.rt:172:1
 returns-2 : tie.Need-returns-2
 unfolding flagWord
 returns-2 c = search needs

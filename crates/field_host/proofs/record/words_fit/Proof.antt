@@ -4,7 +4,6 @@ use Prim.Native.Nat.{_<_}
 use denote.Ref.{now}
 use lib.ListN.{getD}
 use native.Mathlib.Omega.{arith}
-use mathlib.Core.Path.{refl}
 use borrow.Author.Tests.{lt-ltb, le-ltb}
 use mathlib.Core.Bool.{and-false}
 use Rattle.field_host.specs.Carried.{fits}

@@ -5,7 +5,6 @@ use denote.Ref.{now}
 use Rattle.geometry.specs.declared.Vec3i.{Vec3i}
 use Rattle.geometry.specs.declared.BoundingBox.{BoundingBox}
 use Rattle.geometry.specs.Values.{vec3i}
-use Rattle.dense_field.specs.declared.CellStep.{CellStep}
 use Rattle.dense_field.specs.Walks.{cellStep}
 use Rattle.field_host.specs.Given.{boxIn}
 use Rattle.field_host.specs.Answers.{cellNumber, cellCursor, cellLeft}
