@@ -4,3 +4,4 @@ pub mod Carried
 pub mod Hosted
 pub mod Answers
 pub mod Lists
+pub mod Needed

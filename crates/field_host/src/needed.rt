@@ -1,0 +1,69 @@
+// How long the slices of a job have to be.
+ghost use mathlib.Core.Path.{_≡_};
+ghost use mathlib.Core.Bool.{false};
+ghost use Rattle.grid.specs.Causes.{refusedByTwo, refusedByFive};
+ghost use Rattle.model.specs.Flat.{flatOf};
+ghost use Rattle.field_host.specs.Given.{inputGiven};
+ghost use Rattle.field_host.specs.Needed.{neededLengths, lengthList, anyRefusal, refusalNumber, lengthsLeft};
+use crate::given::input_given;
+use grid::Grid;
+use grid::Lengths;
+use grid::Refusal;
+use sparse_field::Input;
+
+// The lengths that a grid's jobs need.
+fn needed_lengths(g: Grid) -> Lengths
+    requires { ⌜ (refusedByTwo g ≡ false) × (refusedByFive g ≡ false) ⌝ }
+    ensures { λ r. ⌜ r ≡ neededLengths g ⌝ }
+{
+    let inner = g.inner as usize;
+    let children = grid::node_total(g) * grid::cube_of(inner);
+    let store = grid::active_children(g) as usize * grid::cube_of(g.leaf as usize);
+    Lengths {
+        kinds: children,
+        numbers: children,
+        places: children,
+        store,
+        corners: grid::cube_of(inner + 1),
+    }
+}
+
+// The cause that an open of the input meets on the longest slices.
+fn any_refusal(input: Input) -> Refusal
+    ensures { λ r. ⌜ r ≡ anyRefusal input ⌝ }
+{
+    let most = 18446744073709551615;
+    let longest = Lengths {
+        kinds: most,
+        numbers: most,
+        places: most,
+        store: most,
+        corners: most,
+    };
+    grid::open_refusal(input.grid, input.band, input.model, longest)
+}
+
+// Writes the lengths of kinds, numbers, places, store and corners that an open of this input needs.
+// Refused by the causes 1 to 5 of an open.
+#[no_mangle]
+pub extern "C" fn jisampode_lengths(
+    settings: &[f64; 9],
+    inner: u32,
+    leaf: u32,
+    parts: &[u32; 192],
+    reals: &[f64; 256],
+    count: u32,
+    lengths: &mut [usize; 5],
+) -> u32
+    ensures { λ r. ⌜ r ≡ refusalNumber (anyRefusal (inputGiven (now (settings .entry)) inner leaf (flatOf (now (parts .entry)) (now (reals .entry))) count)) ⌝ }
+    ensures { λ _. ⌜ now (lengths .exit) ≡ lengthsLeft (now (lengths .entry)) (anyRefusal (inputGiven (now (settings .entry)) inner leaf (flatOf (now (parts .entry)) (now (reals .entry))) count)) (inputGiven (now (settings .entry)) inner leaf (flatOf (now (parts .entry)) (now (reals .entry))) count .grid) ⌝ }
+{
+    let input = input_given(settings, inner, leaf, parts, reals, count);
+    let refusal = any_refusal(input);
+    if let Refusal::By(number) = refusal {
+        return number;
+    }
+    let l = needed_lengths(input.grid);
+    *lengths = [l.kinds, l.numbers, l.places, l.store, l.corners];
+    0
+}
