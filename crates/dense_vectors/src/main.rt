@@ -142,8 +142,8 @@ fn take_lines(text: &[u8]) {
 }
 
 // Room for the whole of standard input.
-fn room() -> [u8; 524288] {
-    [0; 524288]
+fn room() -> [u8; 655360] {
+    [0; 655360]
 }
 
 fn main() {

@@ -5,7 +5,8 @@ use crate::types::computation::data::inside::{block, Nodes};
 use crate::types::geometry::{BoundingBox, Vec3};
 use ledger::{Input, Part};
 
-fn part(part: &Part) -> parts::Part {
+/// A part, as the original's.
+pub fn part(part: &Part) -> parts::Part {
     match *part {
         Part::Const(value) => parts::Part::Const(value),
         Part::Sphere(centre, radius) => parts::Part::Sphere(centre, radius),

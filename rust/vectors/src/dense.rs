@@ -6,6 +6,7 @@ mod cells;
 mod counts;
 mod indices;
 mod sampling;
+mod seeded;
 mod values;
 mod walks;
 
@@ -27,6 +28,7 @@ pub fn list() -> List {
     cells::write(&mut list, &mut random);
     walks::write(&mut list, &mut random);
     indices::write(&mut list);
+    seeded::write(&mut list);
     list
 }
 

@@ -8,6 +8,7 @@ mod faults;
 mod listing;
 mod mutations;
 mod refused;
+mod seeded;
 mod text;
 
 #[cfg(test)]
@@ -88,5 +89,6 @@ pub fn list() -> List {
         list.due(text, &format!("(refused 12 {line})"));
     }
     mutations::texts(&mut list);
+    seeded::texts(&mut list);
     list
 }

@@ -11,7 +11,7 @@ pub fn write(list: &mut List, random: &mut Random) {
     far_and_near(list);
 }
 
-fn case(list: &mut List, bounds: Bounds, cell: f64) {
+pub fn case(list: &mut List, bounds: Bounds, cell: f64) {
     let refused = count_refusal(bounds, cell);
     let mut answer = Row::new().count(refused);
     if refused == 0 {

@@ -14,13 +14,13 @@ const BEFORE: f64 = 100.0;
 
 /// A call's arguments. The count of parts is apart from the parts that are
 /// given: those past them are constants of 0.
-struct Call {
-    origin: Point,
-    cell: f64,
-    n: Triple,
-    len: usize,
-    count: usize,
-    parts: Vec<Part>,
+pub struct Call {
+    pub origin: Point,
+    pub cell: f64,
+    pub n: Triple,
+    pub len: usize,
+    pub count: usize,
+    pub parts: Vec<Part>,
 }
 
 pub fn write(list: &mut List, random: &mut Random) {
@@ -99,7 +99,7 @@ fn numbers(part: &Part) -> [u64; 5] {
     }
 }
 
-fn case(list: &mut List, call: Call) {
+pub fn case(list: &mut List, call: Call) {
     let refused = call.refusal();
     let values = if refused == 0 {
         let model = call.model().unwrap();

@@ -49,26 +49,26 @@ fn answer(n: Triple, values: &[f64], call: impl Fn(&mut DenseField<f64>)) -> Row
     Row::new().count(0).results(field.data())
 }
 
-fn pad(list: &mut List, n: Triple, value: f64, values: &[f64]) {
+pub fn pad(list: &mut List, n: Triple, value: f64, values: &[f64]) {
     let answer = answer(n, values, |field| field.padding(value));
     let case = Row::new().counts(n).floats(&[value]).floats(values);
     put(list, "pad", case, answer);
 }
 
-fn threshold(list: &mut List, n: Triple, limit: f64, values: &[f64]) {
+pub fn threshold(list: &mut List, n: Triple, limit: f64, values: &[f64]) {
     let answer = answer(n, values, |field| field.threshold(limit));
     let case = Row::new().counts(n).floats(&[limit]).floats(values);
     put(list, "threshold", case, answer);
 }
 
-struct Smoothing {
-    n: Triple,
-    factor: f64,
-    rounds: u32,
-    scratch: usize,
+pub struct Smoothing {
+    pub n: Triple,
+    pub factor: f64,
+    pub rounds: u32,
+    pub scratch: usize,
 }
 
-fn smooth(list: &mut List, call: Smoothing, values: &[f64]) {
+pub fn smooth(list: &mut List, call: Smoothing, values: &[f64]) {
     let Smoothing {
         n,
         factor,

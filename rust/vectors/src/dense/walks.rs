@@ -42,7 +42,7 @@ fn answer(found: Option<Vec<f64>>, next: Triple) -> (Row, Option<Triple>) {
     }
 }
 
-fn points(list: &mut List, bounds: Bounds, n: Triple, at: Triple) -> Option<Triple> {
+pub fn points(list: &mut List, bounds: Bounds, n: Triple, at: Triple) -> Option<Triple> {
     let refused = walk_refusal(2, bounds, n, at);
     let (answer, next) = if refused == 0 {
         let (point, next) = point_step(bounding_box(bounds), n.into(), at.into());
@@ -55,7 +55,7 @@ fn points(list: &mut List, bounds: Bounds, n: Triple, at: Triple) -> Option<Trip
     next
 }
 
-fn cells(list: &mut List, bounds: Bounds, n: Triple, at: Triple) -> Option<Triple> {
+pub fn cells(list: &mut List, bounds: Bounds, n: Triple, at: Triple) -> Option<Triple> {
     let refused = walk_refusal(1, bounds, n, at);
     let (answer, next) = if refused == 0 {
         let (cell, next) = cell_step(bounding_box(bounds), n.into(), at.into());
@@ -158,7 +158,7 @@ fn refused(list: &mut List, walk: Walk) {
     }
 }
 
-fn octets(list: &mut List, n: Triple, at: Triple, values: &[f64]) -> Option<Triple> {
+pub fn octets(list: &mut List, n: Triple, at: Triple, values: &[f64]) -> Option<Triple> {
     let none = [0.0; 8];
     let refused = octet_refusal(n, at, values.len());
     let (answer, next) = if refused != 0 {

@@ -7,7 +7,7 @@ use ledger::{Answer, Call, Input, Ledger, Lengths, Memory, Part};
 use std::fmt::Write;
 
 /// The slices that the program lends.
-const LENT: Lengths = Lengths {
+pub const LENT: Lengths = Lengths {
     kinds: 512,
     numbers: 512,
     places: 512,
