@@ -172,6 +172,16 @@ uint32_t jisampode_open(
     double *corners, size_t corners_length);
 
 /*
+ * How long kinds, numbers, places, store and corners have to be for an open with
+ * these arguments: lengths[0] to lengths[4]. An open on slices of just these
+ * lengths is accepted. Refused by 1 to 5, as jisampode_open.
+ */
+uint32_t jisampode_lengths(
+    const double settings[JISAMPODE_SETTINGS], uint32_t inner, uint32_t leaf,
+    const uint32_t parts[JISAMPODE_PARTS], const double reals[JISAMPODE_REALS],
+    uint32_t count, size_t lengths[5]);
+
+/*
  * Makes as many evaluations as the budget allows and the job has left. A finished
  * job makes none. The record is judged first, in time that grows with the number
  * of children. Refused by 7 and 8.

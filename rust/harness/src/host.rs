@@ -42,6 +42,21 @@ fn same<T: PartialEq + LowerHex>(name: &str, got: &[T], expected: &[T]) -> Resul
     }
 }
 
+/// Writes the lengths that an open needs.
+pub fn lengths(opening: &Opening, lengths: &mut [usize; 5]) -> u32 {
+    unsafe {
+        sys::jisampode_lengths(
+            opening.settings.as_ptr().cast(),
+            opening.inner,
+            opening.leaf,
+            opening.model.parts.as_ptr(),
+            opening.model.reals.as_ptr().cast(),
+            opening.count,
+            lengths.as_mut_ptr(),
+        )
+    }
+}
+
 impl Host {
     pub fn new(record: &RecordArrays, memory: &Memory) -> Host {
         Host {

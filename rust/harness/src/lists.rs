@@ -4,12 +4,13 @@
 
 use crate::arrays::{count_numbers, cursor_numbers, Opening, Reading, RecordArrays};
 use crate::forging::forge;
-use crate::host::Host;
+use crate::host::{self, Host};
 use crate::poison;
 pub use crate::tally::Tally;
 use cases::inputs::{self, both, exact};
 use cases::jobs::{self, LARGE, MIDDLE, SMALL};
 use cases::random::Random;
+use ledger::grid;
 use ledger::record::Record;
 use ledger::{Answer, Call, Input, Ledger, Lengths};
 
@@ -193,7 +194,9 @@ impl List<'_> {
         if opening != given {
             return Err("open has changed what it was given".into());
         }
-        let due = self.ledger.call(&Call::Open(opening.input()));
+        let input = opening.input();
+        check_lengths(&opening, &input)?;
+        let due = self.ledger.call(&Call::Open(input));
         if due == Answer::Accepted {
             self.opened = Some(opening);
         }
@@ -374,4 +377,39 @@ impl List<'_> {
         }
         Ok(())
     }
+}
+
+/// Holds what the interface says of the lengths that an open needs: the first of
+/// the causes 1 to 5, or the lengths. Refused, it leaves them as they were.
+fn check_lengths(opening: &Opening, input: &Input) -> Result<(), String> {
+    const BEFORE: [usize; 5] = [usize::MAX; 5];
+    let mut lengths = BEFORE;
+    let answer = host::lengths(opening, &mut lengths);
+    let longest = Lengths {
+        kinds: u64::MAX,
+        numbers: u64::MAX,
+        places: u64::MAX,
+        store: u64::MAX,
+        corners: u64::MAX,
+    };
+    let (due, expected) = match grid::cause(input, longest) {
+        Some(cause) => (cause, BEFORE),
+        None => {
+            let needed = grid::lengths_needed(input);
+            let five = [
+                needed.kinds,
+                needed.numbers,
+                needed.places,
+                needed.store,
+                needed.corners,
+            ];
+            (0, five.map(|length| length as usize))
+        }
+    };
+    if (answer, lengths) != (due, expected) {
+        return Err(format!(
+            "the lengths answer {answer} with {lengths:?}, not {due} with {expected:?}"
+        ));
+    }
+    Ok(())
 }

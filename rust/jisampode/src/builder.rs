@@ -6,7 +6,6 @@ use std::fmt;
 use crate::bounds::Bounds;
 use crate::engine;
 use crate::job::Job;
-use crate::lengths;
 use crate::memory::{Lengths, Memory};
 use crate::model::Model;
 use crate::record::Record;
@@ -101,15 +100,8 @@ impl JobBuilder {
     ///
     /// Refused by causes 1 to 5, as [`open`](JobBuilder::open).
     pub fn lengths(&self) -> Result<Lengths, Refusal> {
-        // The engine judges the settings. On no memory at all an open is refused,
-        // by 6 where no lower cause applies.
-        match self.call(&mut Record::default(), &mut Memory::default()) {
-            Err(refusal) if refusal != Refusal::Short => Err(refusal),
-            _ => {
-                let blocks = (u64::from(self.inner), u64::from(self.leaf));
-                Ok(lengths::needed(self.bounds, self.cell, blocks))
-            }
-        }
+        let blocks = (self.inner, self.leaf);
+        engine::lengths(&self.settings(), blocks, &self.model.laid_out())
     }
 
     /// Opens a job in lent memory, which is zeroed whole first.
@@ -144,11 +136,21 @@ impl JobBuilder {
 
     /// Opens a job in place of the one that the record has.
     pub(crate) fn call(&self, record: &mut Record, memory: &mut Memory<'_>) -> Result<(), Refusal> {
+        let blocks = (self.inner, self.leaf);
+        engine::open(
+            &self.settings(),
+            blocks,
+            &self.model.laid_out(),
+            record,
+            memory,
+        )
+    }
+
+    /// Bounds, cell size and band, as the engine takes them.
+    fn settings(&self) -> [f64; sys::SETTINGS] {
         let [x0, y0, z0, x1, y1, z1] = self.bounds.flat();
         let [lower, upper] = self.band;
-        let settings: [f64; sys::SETTINGS] = [x0, y0, z0, x1, y1, z1, self.cell, lower, upper];
-        let blocks = (self.inner, self.leaf);
-        engine::open(&settings, blocks, &self.model.laid_out(), record, memory)
+        [x0, y0, z0, x1, y1, z1, self.cell, lower, upper]
     }
 }
 

@@ -8,7 +8,7 @@
 //! functions keep no pointer after they return, and take any numbers.
 
 use crate::dense::Dimensions;
-use crate::memory::Memory;
+use crate::memory::{Lengths, Memory};
 use crate::model::LaidOut;
 use crate::record::Record;
 use crate::refusal::Refusal;
@@ -37,6 +37,35 @@ fn walked<T>(answer: u32, found: T) -> Result<Option<T>, Refusal> {
 /// does.
 pub fn certain<T>(result: Result<T, Refusal>) -> T {
     result.unwrap_or_else(|refusal| panic!("a call that cannot be refused was {refusal}"))
+}
+
+pub fn lengths(
+    settings: &[f64; sys::SETTINGS],
+    (inner, leaf): (u32, u32),
+    model: &LaidOut,
+) -> Result<Lengths, Refusal> {
+    let mut lengths = [0; 5];
+    // SAFETY: settings, the model's arrays and the lengths have as many elements as
+    // the header names. The lengths are our own.
+    accepted(unsafe {
+        sys::jisampode_lengths(
+            settings.as_ptr(),
+            inner,
+            leaf,
+            model.parts.as_ptr(),
+            model.reals.as_ptr(),
+            model.count,
+            lengths.as_mut_ptr(),
+        )
+    })?;
+    let [kinds, numbers, places, store, corners] = lengths;
+    Ok(Lengths {
+        kinds,
+        numbers,
+        places,
+        store,
+        corners,
+    })
 }
 
 pub fn open(

@@ -65,7 +65,6 @@ mod dense;
 mod engine;
 mod field;
 mod job;
-mod lengths;
 mod listing;
 mod memory;
 mod model;

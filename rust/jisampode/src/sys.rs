@@ -55,6 +55,16 @@ extern "C" {
         corners_length: usize,
     ) -> u32;
 
+    pub fn jisampode_lengths(
+        settings: *const f64,
+        inner: u32,
+        leaf: u32,
+        parts: *const u32,
+        reals: *const f64,
+        count: u32,
+        lengths: *mut usize,
+    ) -> u32;
+
     pub fn jisampode_step(
         budget: u64,
         record_words: *mut u64,

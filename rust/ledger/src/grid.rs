@@ -92,14 +92,26 @@ fn by_five(input: &Input) -> bool {
     nodes * u64::from(input.inner).pow(3) > MOST_CHILDREN
 }
 
-fn by_six(input: &Input, lengths: Lengths) -> bool {
+/// What a job of an input needs that causes 1, 2 and 5 do not refuse.
+pub fn lengths_needed(input: &Input) -> Lengths {
     let grid = Grid::new(input);
     let children = grid.nodes() * grid.children();
-    lengths.kinds < children
-        || lengths.numbers < children
-        || lengths.places < children
-        || lengths.corners < grid.corners()
-        || lengths.store < grid.active_total() * grid.leaf_points()
+    Lengths {
+        kinds: children,
+        numbers: children,
+        places: children,
+        store: grid.active_total() * grid.leaf_points(),
+        corners: grid.corners(),
+    }
+}
+
+fn by_six(input: &Input, lengths: Lengths) -> bool {
+    let needed = lengths_needed(input);
+    lengths.kinds < needed.kinds
+        || lengths.numbers < needed.numbers
+        || lengths.places < needed.places
+        || lengths.corners < needed.corners
+        || lengths.store < needed.store
 }
 
 /// The first cause by which open refuses an input on slices of these lengths.
