@@ -11,6 +11,7 @@ use crate::host::sparse::{job, Grid, Lent, Record};
 use crate::host::Layout;
 use crate::measure::{alone, beyond, jobs, Job};
 use crate::models::{self, Part};
+use crate::table::grouped;
 
 /// A power of two, so that the nodes of the grids below fill their bounds
 /// exactly and every child is active.
@@ -134,7 +135,11 @@ pub fn rows() {
     for (nodes, inner, leaf) in [([25; 3], 4, 2), ([4; 3], 8, 4), ([2; 3], 8, 8)] {
         let (grid, children) = grid(nodes, inner, leaf, NEAR);
         let parts = &sampled()[0].1;
-        let name = format!("open, per child of {children}, leaves of {}", cube(leaf));
+        let name = format!(
+            "open, per child of {}, leaves of {}",
+            grouped(children as u64),
+            cube(leaf)
+        );
         let mut ours = Ours::new((grid, children), parts, vec![]);
         compare(&name, &mut ours, parts);
     }
@@ -201,7 +206,9 @@ fn single_steps(nodes: [usize; 3], inner: u32, model: &Layout) {
         let mut many = vec![1; STEPS + 1];
         many[0] = before;
         let name = format!(
-            "a step of budget 1, {children} children in nodes of {inner}×{inner}×{inner}, at the {place} evaluations"
+            "a step of budget 1, {} children in nodes of {}, at the {place} evaluations",
+            grouped(children as u64),
+            cube(inner)
         );
         beyond(&name, STEPS, &mut |more| {
             let budgets = if more { &many } else { &many[..1] };
@@ -218,8 +225,11 @@ fn small_budgets(nodes: [usize; 3], inner: u32, leaf: u32, budgets: &[u64], mode
     let total = record.counts().evaluations;
     for &budget in budgets {
         let many = vec![budget; ((total + budget - 1) / budget) as usize];
-        let name =
-            format!("a step of budget {budget}, {children} children, beyond its evaluations");
+        let name = format!(
+            "a step of budget {}, {} children, beyond its evaluations",
+            grouped(budget),
+            grouped(children as u64)
+        );
         beyond(&name, many.len() - 1, &mut |more| {
             let budgets = if more { &many[..] } else { &[ALL] };
             job(&grid, model, budgets, &mut record, &mut lent);
