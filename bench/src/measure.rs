@@ -7,15 +7,16 @@ use crate::table::{self, Row};
 use crate::threads::{on_all, on_one};
 
 /// How many runs of each side are measured at most.
-const RUNS: usize = 601;
+const RUNS: usize = 2001;
 
 /// How many there are at least, and how long a row takes where they are long.
 const FEWEST: usize = 7;
 const ROW_TIME: Duration = Duration::from_secs(2);
 
-/// About how long one run takes. Short, so that on a busy machine most runs are
-/// not interrupted: with longer ones the median is of interrupted runs.
-const RUN: Duration = Duration::from_micros(200);
+/// About how many nanoseconds one run of short calls takes. Short, so that on a
+/// busy machine most runs are not interrupted: with longer ones the median is of
+/// interrupted runs.
+const RUN: f64 = 200_000.0;
 
 /// How often a number of calls is tried before the runs.
 const TRIALS: usize = 5;
@@ -41,27 +42,28 @@ impl<'a> Runs<'a> {
             calls: 1,
             times: Vec::new(),
         };
-        while runs.fastest() * 2 < RUN && runs.calls < 1 << 24 {
+        while runs.fastest() * 2.0 < RUN && runs.calls < 1 << 24 {
             runs.calls *= 2;
         }
         runs
     }
 
-    fn fastest(&mut self) -> Duration {
-        let first = self.elapsed();
-        (1..TRIALS).fold(first, |least, _| least.min(self.elapsed()))
+    fn fastest(&mut self) -> f64 {
+        (0..TRIALS).fold(f64::INFINITY, |least, _| least.min(self.elapsed()))
     }
 
-    fn elapsed(&mut self) -> Duration {
-        let start = Instant::now();
-        for _ in 0..self.calls {
-            (self.side)(black_box(&mut self.results));
-        }
-        start.elapsed()
+    /// The nanoseconds of one run.
+    fn elapsed(&mut self) -> f64 {
+        let spent = elapsed(&mut || {
+            for _ in 0..self.calls {
+                (self.side)(black_box(&mut self.results));
+            }
+        });
+        spent.thread
     }
 
     fn run(&mut self) {
-        let time = self.elapsed().as_nanos() as f64;
+        let time = self.elapsed();
         self.times
             .push(time / self.calls as f64 / self.results.len() as f64);
     }

@@ -132,6 +132,12 @@ fn cube(n: u32) -> String {
 
 /// Opens and whole jobs, against the original.
 pub fn rows() {
+    opens();
+    small_jobs();
+    large_jobs();
+}
+
+fn opens() {
     for (nodes, inner, leaf) in [([25; 3], 4, 2), ([4; 3], 8, 4), ([2; 3], 8, 8)] {
         let (grid, children) = grid(nodes, inner, leaf, NEAR);
         let parts = &sampled()[0].1;
@@ -143,6 +149,10 @@ pub fn rows() {
         let mut ours = Ours::new((grid, children), parts, vec![]);
         compare(&name, &mut ours, parts);
     }
+}
+
+/// Jobs of one node.
+fn small_jobs() {
     for (inner, leaf) in [(2, 2), (2, 8), (4, 4)] {
         for (name, parts) in sampled() {
             let name = format!(
@@ -155,6 +165,9 @@ pub fn rows() {
             compare(&name, &mut ours, &parts);
         }
     }
+}
+
+fn large_jobs() {
     for (nodes, leaf) in [([4; 3], 4), ([2; 3], 8)] {
         for (band, kept) in [(NEAR, "the surface's leaves"), (EVERY, "all leaves")] {
             for (name, parts) in sampled() {

@@ -27,7 +27,8 @@ impl Row {
             println!("| {name} | {ours} | not built | | | |");
             return;
         };
-        let ratio = one / self.ours;
+        // The mark goes by the digits that are shown.
+        let ratio = (one / self.ours * 100.0).round() / 100.0;
         let mark = if ratio < AIM { "*" } else { "" };
         let all = match self.all {
             None => "- | -".to_string(),
