@@ -1,6 +1,8 @@
-//! Where the host library is.
+//! Where the two libraries are.
 
 fn main() {
-    println!("cargo:rerun-if-changed=../target/staticlib/libbench_host.a");
+    for name in ["field_host", "bench_host"] {
+        println!("cargo:rerun-if-changed=../target/staticlib/lib{name}.a");
+    }
     println!("cargo:rustc-link-search=native=../target/staticlib");
 }

@@ -1,46 +1,34 @@
 //! The rows about dense fields: ours against the original's `DenseField`.
 
 use crate::host::{self, Layout};
-use crate::measure::{jobs, Clock, Job};
+use crate::measure::{jobs, Job};
 use crate::models::{self, Part};
 
 const ORIGIN: [f64; 3] = [-0.5, -0.25, 0.125];
 
-/// Sampling over a field: two cubes, and two fields of one slab.
-const SAMPLED: [[usize; 3]; 4] = [[32; 3], [100; 3], [512, 512, 1], [1, 512, 512]];
-
 /// The cells of a field are such that 100 points span the shapes.
 const CELL: f64 = 0.05;
 
-const SMOOTHED: [[usize; 3]; 2] = [[32; 3], [100; 3]];
+const LARGE: [usize; 3] = [100; 3];
+const SMALL: [usize; 3] = [32; 3];
+
+const FACTOR: f64 = 0.5;
 
 pub fn rows() {
-    for (name, parts) in models::measured() {
-        for n in SAMPLED {
-            let name = format!("sampling {name}, {}", size(n));
-            sampling(&name, Clock::Thread, &parts, n);
+    let models = models::measured();
+    for (name, parts) in &models {
+        sampling(name, parts, LARGE);
+    }
+    let (name, parts) = &models[1];
+    sampling(name, parts, SMALL);
+    for n in [LARGE, SMALL] {
+        for rounds in [1, 2, 5] {
+            let name = format!("smoothing {}, rounds {rounds}", size(n));
+            call(&name, n, Call::Smooth(rounds));
         }
     }
-    for n in SMOOTHED {
-        for factor in [0.5, 0.1] {
-            for rounds in [1, 2, 5] {
-                let name = format!("smoothing {}, factor {factor}, rounds {rounds}", size(n));
-                call(&name, n, Call::Smooth(factor, rounds));
-            }
-        }
-    }
-    call("padding 100×100×100", [100; 3], Call::Pad(1.5));
-    call("threshold 100×100×100", [100; 3], Call::Threshold(0.25));
-}
-
-/// The original on all threads; ours is on one.
-pub fn rows_on_all_threads() {
-    for (name, parts) in models::measured() {
-        let name = format!("sampling {name}, 100×100×100, theirs on all threads");
-        sampling(&name, Clock::Wall, &parts, [100; 3]);
-    }
-    let name = "smoothing 100×100×100, factor 0.5, rounds 5, theirs on all threads";
-    call(name, [100; 3], Call::SmoothOnAll(0.5, 5));
+    call("padding 100×100×100", LARGE, Call::Pad(1.5));
+    call("threshold 100×100×100", LARGE, Call::Threshold(0.25));
 }
 
 fn size([nx, ny, nz]: [usize; 3]) -> String {
@@ -64,15 +52,15 @@ struct Ours<'a, F> {
     call: F,
 }
 
-impl<F: FnMut(&mut [f64])> Job for Ours<'_, F> {
+impl<F: FnMut(&mut [f64]) + Send> Job for Ours<'_, F> {
     fn prepare(&mut self) {
         self.values.copy_from_slice(self.input);
     }
     fn run(&mut self) {
         (self.call)(&mut self.values);
     }
-    fn results(&self) -> &[f64] {
-        &self.values
+    fn results(&self) -> Vec<f64> {
+        self.values.clone()
     }
 }
 
@@ -87,45 +75,33 @@ fn ours<F: FnMut(&mut [f64])>(input: &[f64], call: F) -> Ours<'_, F> {
 /// A call that changes values.
 #[derive(Clone, Copy)]
 enum Call {
-    /// The factor and the rounds.
-    Smooth(f64, u32),
-    /// The same on all threads, where a side has that.
-    SmoothOnAll(f64, u32),
+    /// The rounds.
+    Smooth(u32),
     Pad(f64),
     Threshold(f64),
-}
-
-fn clock_of(call: Call) -> Clock {
-    match call {
-        Call::SmoothOnAll(..) => Clock::Wall,
-        _ => Clock::Thread,
-    }
 }
 
 /// The table's row for one call.
 fn call(name: &str, n: [usize; 3], call: Call) {
     let input = values(n);
     let mut scratch = vec![0.0; input.len()];
-    let mut ours = ours(&input, |values: &mut [f64]| {
-        match call {
-            Call::Smooth(factor, rounds) | Call::SmoothOnAll(factor, rounds) => {
-                host::fields::smooth(n, factor, rounds, values, &mut scratch)
-            }
-            Call::Pad(value) => host::fields::padding(n, value, values),
-            Call::Threshold(limit) => host::fields::threshold(n, limit, values),
-        };
+    let mut ours = ours(&input, |values: &mut [f64]| match call {
+        Call::Smooth(rounds) => host::fields::smooth(n, FACTOR, rounds, values, &mut scratch),
+        Call::Pad(value) => host::fields::padding(n, value, values),
+        Call::Threshold(limit) => host::fields::threshold(n, limit, values),
     });
     compare(name, &mut ours, &input, n, call);
 }
 
 /// The table's row for the sampling of one model.
-fn sampling(name: &str, clock: Clock, parts: &[Part], n: [usize; 3]) {
+fn sampling(name: &str, parts: &[Part], n: [usize; 3]) {
+    let name = format!("sampling {name}, {}", size(n));
     let input = values(n);
     let layout = Layout::new(parts);
     let mut ours = ours(&input, |values: &mut [f64]| {
-        host::fields::sample(&layout, ORIGIN, CELL, n, values);
+        host::fields::sample(&layout, ORIGIN, CELL, n, values)
     });
-    compare_sampling(name, clock, &mut ours, &input, n, parts);
+    compare_sampling(&name, &mut ours, &input, n, parts);
 }
 
 #[cfg(feature = "original")]
@@ -133,7 +109,8 @@ use original_side::{compare, compare_sampling};
 
 #[cfg(feature = "original")]
 mod original_side {
-    use super::{clock_of, jobs, models, Call, Clock, Job, Part, CELL, ORIGIN};
+    use super::{jobs, models, Call, Job, Part, CELL, FACTOR, ORIGIN};
+    use crate::measure;
     use original::benched::{field, sample, DenseField};
     use original::parts::Model;
 
@@ -144,7 +121,7 @@ mod original_side {
         call: F,
     }
 
-    impl<F: FnMut(&mut DenseField<f64>)> Job for Theirs<'_, F> {
+    impl<F: Fn(&mut DenseField<f64>) + Send> Job for Theirs<'_, F> {
         fn prepare(&mut self) {
             for (place, value) in self.input.iter().enumerate() {
                 self.field.set_value(place, *value);
@@ -153,29 +130,43 @@ mod original_side {
         fn run(&mut self) {
             (self.call)(&mut self.field);
         }
-        fn results(&self) -> &[f64] {
-            self.field.data()
+        fn results(&self) -> Vec<f64> {
+            self.field.copy_data()
         }
     }
 
-    pub fn compare(name: &str, ours: &mut dyn Job, input: &[f64], n: [usize; 3], call: Call) {
-        let clock = clock_of(call);
-        let mut theirs = Theirs {
+    fn theirs<F: Fn(&mut DenseField<f64>)>(input: &[f64], n: [usize; 3], call: F) -> Theirs<'_, F> {
+        Theirs {
             input,
             field: field(ORIGIN, CELL, n, input.to_vec()),
-            call: |field: &mut DenseField<f64>| match call {
-                Call::Smooth(factor, rounds) => field.smooth(factor, rounds),
-                Call::SmoothOnAll(factor, rounds) => field.smooth_par(factor, rounds),
-                Call::Pad(value) => field.padding(value),
-                Call::Threshold(limit) => field.threshold(limit),
-            },
+            call,
+        }
+    }
+
+    /// Smoothing alone has a parallel call.
+    pub fn compare(name: &str, ours: &mut dyn Job, input: &[f64], n: [usize; 3], call: Call) {
+        let mut one = theirs(input, n, |field| match call {
+            Call::Smooth(rounds) => field.smooth(FACTOR, rounds),
+            Call::Pad(value) => field.padding(value),
+            Call::Threshold(limit) => field.threshold(limit),
+        });
+        let one = &mut one;
+        let Call::Smooth(rounds) = call else {
+            jobs(
+                name,
+                input.len(),
+                ours,
+                Some(measure::Theirs { one, all: None }),
+            );
+            return;
         };
-        jobs(name, clock, ours, Some(&mut theirs));
+        let mut all = theirs(input, n, |field| field.smooth_par(FACTOR, rounds));
+        let all: Option<&mut dyn Job> = Some(&mut all);
+        jobs(name, input.len(), ours, Some(measure::Theirs { one, all }));
     }
 
     pub fn compare_sampling(
         name: &str,
-        clock: Clock,
         ours: &mut dyn Job,
         input: &[f64],
         n: [usize; 3],
@@ -184,28 +175,22 @@ mod original_side {
         let parts: Vec<_> = parts.iter().map(models::theirs).collect();
         let model = Model::new(&parts).expect("a model that is not refused");
         let graph = model.graph();
-        let mut theirs = Theirs {
-            input,
-            field: field(ORIGIN, CELL, n, input.to_vec()),
-            call: |field: &mut DenseField<f64>| sample(field, &graph),
+        let sampled = |field: &mut DenseField<f64>| sample(field, &graph);
+        let (mut one, mut all) = (theirs(input, n, sampled), theirs(input, n, sampled));
+        let theirs = measure::Theirs {
+            one: &mut one,
+            all: Some(&mut all),
         };
-        jobs(name, clock, ours, Some(&mut theirs));
+        jobs(name, input.len(), ours, Some(theirs));
     }
 }
 
 #[cfg(not(feature = "original"))]
-fn compare(name: &str, ours: &mut dyn Job, _: &[f64], _: [usize; 3], call: Call) {
-    jobs(name, clock_of(call), ours, None);
+fn compare(name: &str, ours: &mut dyn Job, input: &[f64], _: [usize; 3], _: Call) {
+    jobs(name, input.len(), ours, None);
 }
 
 #[cfg(not(feature = "original"))]
-fn compare_sampling(
-    name: &str,
-    clock: Clock,
-    ours: &mut dyn Job,
-    _: &[f64],
-    _: [usize; 3],
-    _: &[Part],
-) {
-    jobs(name, clock, ours, None);
+fn compare_sampling(name: &str, ours: &mut dyn Job, input: &[f64], _: [usize; 3], _: &[Part]) {
+    jobs(name, input.len(), ours, None);
 }

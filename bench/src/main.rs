@@ -1,7 +1,7 @@
-//! Our functions, through a static library, against the machine's root and
-//! the original's calls, in one process. Prints a table of ratios, with the
-//! word `sparse` the rows of sparse fields and listings alone, or with the word
-//! `check` compares the bits of many results.
+//! Our functions, through two static libraries, against the machine's root and
+//! the original's calls, in one process. Prints a table of ratios and one of what
+//! steps cost; with the word `sparse` the rows of sparse fields and listings
+//! alone; or with the word `check` compares the bits of many results.
 
 mod check;
 mod fields;
@@ -10,6 +10,8 @@ mod measure;
 mod models;
 mod roots;
 mod sparse;
+mod table;
+mod threads;
 
 use std::process::ExitCode;
 
@@ -18,32 +20,20 @@ fn main() -> ExitCode {
     if word.as_deref() == Some("check") {
         return compare_bits();
     }
-    measure::head();
-    if word.as_deref() != Some("sparse") {
+    let whole = word.as_deref() != Some("sparse");
+    table::head();
+    if whole {
         roots::rows();
         models::rows();
-        on_one_thread(fields::rows);
-        fields::rows_on_all_threads();
     }
-    on_one_thread(sparse::rows);
-    measure::head_alone();
-    sparse::steps();
-    measure::head_beside();
+    sparse::rows();
+    if whole {
+        fields::rows();
+    }
     sparse::listing::rows();
+    table::head_alone();
+    sparse::steps();
     ExitCode::SUCCESS
-}
-
-/// Runs on the only thread of a pool, where the original's parallel loops find
-/// no other.
-#[cfg(feature = "original")]
-fn on_one_thread(rows: fn()) {
-    let pool = rayon::ThreadPoolBuilder::new().num_threads(1).build();
-    pool.expect("a pool of one thread").install(rows);
-}
-
-#[cfg(not(feature = "original"))]
-fn on_one_thread(rows: fn()) {
-    rows();
 }
 
 fn compare_bits() -> ExitCode {

@@ -2,13 +2,16 @@
 //! what a step costs beyond its evaluations.
 
 pub mod listing;
+#[cfg(feature = "original")]
+mod theirs;
 
 use std::hint::black_box;
 
-use crate::host::sparse::{job, Counts, Grid, Lent};
+use crate::host::sparse::{job, Grid, Lent, Record};
 use crate::host::Layout;
-use crate::measure::{alone, beyond, jobs, Clock, Job};
+use crate::measure::{alone, beyond, jobs, Job};
 use crate::models::{self, Part};
+use crate::table::grouped;
 
 /// A power of two, so that the nodes of the grids below fill their bounds
 /// exactly and every child is active.
@@ -25,6 +28,9 @@ const ALL: u64 = u64::MAX;
 
 /// How many steps of budget 1 are measured together.
 const STEPS: usize = 100;
+
+/// How many runs of a job of few evaluations are timed together.
+const TOGETHER: usize = 32;
 
 /// A grid of so many nodes, and its children.
 fn grid(nodes: [usize; 3], inner: u32, leaf: u32, band: [f64; 2]) -> (Grid, usize) {
@@ -46,9 +52,10 @@ struct Ours {
     grid: Grid,
     model: Layout,
     budgets: Vec<u64>,
+    /// How often that is done in a run.
+    times: usize,
+    record: Record,
     lent: Lent,
-    counts: Counts,
-    listed: Vec<f64>,
 }
 
 impl Ours {
@@ -57,49 +64,60 @@ impl Ours {
             grid,
             model: Layout::new(parts),
             budgets,
+            times: 1,
+            record: Record::new(),
             lent: Lent::new(&grid, children),
-            counts: Counts::default(),
-            listed: Vec::new(),
         };
         ours.run();
-        assert_eq!(ours.counts.active, children as u64, "the active children");
-        ours.listed = listed(&ours.lent, grid.leaf);
+        let active = ours.record.counts().active;
+        assert_eq!(active, children as u64, "the active children");
         ours
+    }
+
+    /// What a run's time is divided by: its evaluations, or its children where it
+    /// makes none.
+    fn results_of_a_run(&self) -> usize {
+        let counts = self.record.counts();
+        let once = match counts.evaluations {
+            0 => counts.active,
+            made => made,
+        };
+        once as usize * self.times
     }
 }
 
 impl Job for Ours {
     fn prepare(&mut self) {}
     fn run(&mut self) {
-        self.counts = job(&self.grid, &self.model, &self.budgets, &mut self.lent);
-    }
-    fn results(&self) -> &[f64] {
-        &self.listed
-    }
-    fn count(&self) -> usize {
-        match self.counts.evaluations {
-            0 => self.counts.active as usize,
-            made => made as usize,
+        for _ in 0..self.times {
+            job(
+                &self.grid,
+                &self.model,
+                &self.budgets,
+                &mut self.record,
+                &mut self.lent,
+            );
         }
     }
-}
-
-/// The children in order: 0; 1 and a constant; or 2 and a leaf's values.
-fn listed(lent: &Lent, leaf: u32) -> Vec<f64> {
-    let points = (leaf as usize).pow(3);
-    let mut list = Vec::new();
-    for (child, kind) in lent.kinds.iter().enumerate() {
-        list.push(*kind as f64);
-        match kind {
-            0 => (),
-            1 => list.push(lent.numbers[child]),
-            _ => {
-                let first = lent.places[child] as usize * points;
-                list.extend_from_slice(&lent.store[first..first + points]);
+    /// The counts of active children and of leaves, and the children in order: 0; 1
+    /// and a constant; or 2 and a leaf's values.
+    fn results(&self) -> Vec<f64> {
+        let counts = self.record.counts();
+        let mut list = vec![counts.active as f64, counts.leaves as f64];
+        let points = (self.grid.leaf as usize).pow(3);
+        for (child, kind) in self.lent.kinds.iter().enumerate() {
+            list.push(*kind as f64);
+            match kind {
+                0 => (),
+                1 => list.push(self.lent.numbers[child]),
+                _ => {
+                    let first = self.lent.places[child] as usize * points;
+                    list.extend_from_slice(&self.lent.store[first..first + points]);
+                }
             }
         }
+        list
     }
-    list
 }
 
 /// The models of whole jobs.
@@ -108,23 +126,56 @@ fn sampled() -> [(&'static str, Vec<Part>); 3] {
     [plane, sphere, union]
 }
 
-/// Whole jobs and opens, against the original.
+fn cube(n: u32) -> String {
+    format!("{n}×{n}×{n}")
+}
+
+/// Opens and whole jobs, against the original.
 pub fn rows() {
+    opens();
+    small_jobs();
+    large_jobs();
+}
+
+fn opens() {
+    for (nodes, inner, leaf) in [([25; 3], 4, 2), ([4; 3], 8, 4), ([2; 3], 8, 8)] {
+        let (grid, children) = grid(nodes, inner, leaf, NEAR);
+        let parts = &sampled()[0].1;
+        let name = format!(
+            "open, per child of {}, leaves of {}",
+            grouped(children as u64),
+            cube(leaf)
+        );
+        let mut ours = Ours::new((grid, children), parts, vec![]);
+        compare(&name, &mut ours, parts);
+    }
+}
+
+/// Jobs of one node.
+fn small_jobs() {
+    for (inner, leaf) in [(2, 2), (2, 8), (4, 4)] {
+        for (name, parts) in sampled() {
+            let name = format!(
+                "job of {name}, one node of {}, leaves of {}",
+                cube(inner),
+                cube(leaf)
+            );
+            let mut ours = Ours::new(grid([1; 3], inner, leaf, EVERY), &parts, vec![ALL]);
+            ours.times = TOGETHER;
+            compare(&name, &mut ours, &parts);
+        }
+    }
+}
+
+fn large_jobs() {
     for (nodes, leaf) in [([4; 3], 4), ([2; 3], 8)] {
         for (band, kept) in [(NEAR, "the surface's leaves"), (EVERY, "all leaves")] {
             for (name, parts) in sampled() {
-                let name = format!("job of {name}, leaves of {leaf}×{leaf}×{leaf}, {kept}");
+                let name = format!("job of {name}, leaves of {}, {kept}", cube(leaf));
                 let mut ours = Ours::new(grid(nodes, 8, leaf, band), &parts, vec![ALL]);
                 compare(&name, &mut ours, &parts);
             }
         }
-    }
-    for (nodes, inner, leaf) in [([25; 3], 4, 2), ([4; 3], 8, 4), ([2; 3], 8, 8)] {
-        let (grid, children) = grid(nodes, inner, leaf, NEAR);
-        let parts = &sampled()[0].1;
-        let name = format!("open, per child of {children}, leaves of {leaf}×{leaf}×{leaf}");
-        let mut ours = Ours::new((grid, children), parts, vec![]);
-        compare(&name, &mut ours, parts);
     }
 }
 
@@ -161,17 +212,20 @@ fn passes() {
 /// Steps of budget 1, at a job's first evaluations and at its last.
 fn single_steps(nodes: [usize; 3], inner: u32, model: &Layout) {
     let (grid, children) = grid(nodes, inner, 2, NONE);
-    let mut lent = Lent::new(&grid, children);
-    let total = job(&grid, model, &[ALL], &mut lent).evaluations;
+    let (mut record, mut lent) = (Record::new(), Lent::new(&grid, children));
+    job(&grid, model, &[ALL], &mut record, &mut lent);
+    let total = record.counts().evaluations;
     for (place, before) in [("first", 0), ("last", total - STEPS as u64)] {
         let mut many = vec![1; STEPS + 1];
         many[0] = before;
         let name = format!(
-            "a step of budget 1, {children} children in nodes of {inner}×{inner}×{inner}, at the {place} evaluations"
+            "a step of budget 1, {} children in nodes of {}, at the {place} evaluations",
+            grouped(children as u64),
+            cube(inner)
         );
         beyond(&name, STEPS, &mut |more| {
             let budgets = if more { &many } else { &many[..1] };
-            job(&grid, model, budgets, &mut lent);
+            job(&grid, model, budgets, &mut record, &mut lent);
         });
     }
 }
@@ -179,112 +233,27 @@ fn single_steps(nodes: [usize; 3], inner: u32, model: &Layout) {
 /// Steps of small budgets through a whole job, against one large.
 fn small_budgets(nodes: [usize; 3], inner: u32, leaf: u32, budgets: &[u64], model: &Layout) {
     let (grid, children) = grid(nodes, inner, leaf, NEAR);
-    let mut lent = Lent::new(&grid, children);
-    let total = job(&grid, model, &[ALL], &mut lent).evaluations;
+    let (mut record, mut lent) = (Record::new(), Lent::new(&grid, children));
+    job(&grid, model, &[ALL], &mut record, &mut lent);
+    let total = record.counts().evaluations;
     for &budget in budgets {
         let many = vec![budget; ((total + budget - 1) / budget) as usize];
-        let name =
-            format!("a step of budget {budget}, {children} children, beyond its evaluations");
+        let name = format!(
+            "a step of budget {}, {} children, beyond its evaluations",
+            grouped(budget),
+            grouped(children as u64)
+        );
         beyond(&name, many.len() - 1, &mut |more| {
             let budgets = if more { &many[..] } else { &[ALL] };
-            job(&grid, model, budgets, &mut lent);
+            job(&grid, model, budgets, &mut record, &mut lent);
         });
     }
 }
 
 #[cfg(feature = "original")]
-use original_side::compare;
-
-#[cfg(feature = "original")]
-mod original_side {
-    use super::{jobs, models, Clock, Grid, Job, Ours, Part};
-    use original::benched::{block, bounds, children, sample_sparse};
-    use original::benched::{Child, SparseField, SparseFieldConfig};
-    use original::parts::{Graph, Model};
-
-    /// Their side: a field made anew, its bounds set, and sampled where ours is.
-    struct Theirs<'a> {
-        grid: Grid,
-        graph: &'a Graph<'a>,
-        sampled: bool,
-        field: SparseField<f64>,
-        listed: Vec<f64>,
-        count: usize,
-    }
-
-    impl Theirs<'_> {
-        fn empty(grid: &Grid) -> SparseField<f64> {
-            let block = |n: u32| block(n as u64).expect("a block's size");
-            SparseField::new(SparseFieldConfig {
-                internal_size: block(grid.inner),
-                leaf_size: block(grid.leaf),
-                cell_size: grid.cell,
-            })
-        }
-    }
-
-    impl Job for Theirs<'_> {
-        /// The field of the run before is dropped here.
-        fn prepare(&mut self) {
-            self.field = Theirs::empty(&self.grid);
-        }
-        fn run(&mut self) {
-            self.field
-                .init_bounds(&bounds(self.grid.min, self.grid.max));
-            if self.sampled {
-                sample_sparse(&mut self.field, self.graph, self.grid.band);
-            }
-        }
-        fn results(&self) -> &[f64] {
-            &self.listed
-        }
-        fn count(&self) -> usize {
-            self.count
-        }
-    }
-
-    /// The children in order, as ours are listed.
-    fn listed(field: &SparseField<f64>) -> Vec<f64> {
-        let mut list = Vec::new();
-        for child in children(field) {
-            match child {
-                Child::Empty => list.push(0.0),
-                Child::Constant(value) => list.extend([1.0, value]),
-                Child::Leaf(values) => {
-                    list.push(2.0);
-                    list.extend_from_slice(values);
-                }
-            }
-        }
-        list
-    }
-
-    /// The table's row for one job. Both sides have run once before, and what
-    /// they hold is the same.
-    pub fn compare(name: &str, ours: &mut Ours, parts: &[Part]) {
-        let parts: Vec<_> = parts.iter().map(models::theirs).collect();
-        let model = Model::new(&parts).expect("a model that is not refused");
-        let mut theirs = Theirs {
-            grid: ours.grid,
-            graph: &model.graph(),
-            sampled: !ours.budgets.is_empty(),
-            field: Theirs::empty(&ours.grid),
-            listed: Vec::new(),
-            count: ours.count(),
-        };
-        theirs.run();
-        let leaf = |child: &Child| matches!(child, Child::Leaf(_));
-        let all = children(&theirs.field);
-        let leaves = all.iter().filter(|child| leaf(child)).count();
-        assert_eq!(ours.counts.leaves, leaves as u64, "the leaves");
-        let active = theirs.field.n_active_nodes();
-        assert_eq!(ours.counts.active, active as u64, "the active children");
-        theirs.listed = listed(&theirs.field);
-        jobs(name, Clock::Thread, ours, Some(&mut theirs));
-    }
-}
+use theirs::compare;
 
 #[cfg(not(feature = "original"))]
 fn compare(name: &str, ours: &mut Ours, _: &[Part]) {
-    jobs(name, Clock::Thread, ours, None);
+    jobs(name, ours.results_of_a_run(), ours, None);
 }

@@ -53,10 +53,7 @@ fn sampling(random: &mut Random, tally: &mut Tally, n: [usize; 3]) {
     let mut their = field(origin, cell, n, vec![0.0; n[0] * n[1] * n[2]]);
     sample(&mut their, &model.graph());
     let mut values = vec![0.0; n[0] * n[1] * n[2]];
-    assert_eq!(
-        host::sample(&Layout::new(&parts), origin, cell, n, &mut values),
-        0
-    );
+    host::sample(&Layout::new(&parts), origin, cell, n, &mut values);
     for (ours, theirs) in values.iter().zip(their.data()) {
         tally.compare("sampling", *ours, expected(&parts, *theirs));
     }
@@ -80,10 +77,7 @@ fn smoothing(random: &mut Random, tally: &mut Tally, n: [usize; 3]) {
     their.smooth(factor, rounds);
     let mut values = before.clone();
     let mut scratch = vec![7.5; values.len() + random.next() as usize % 3];
-    assert_eq!(
-        host::smooth(n, factor, rounds, &mut values, &mut scratch),
-        0
-    );
+    host::smooth(n, factor, rounds, &mut values, &mut scratch);
     assert!(scratch.iter().all(|value| value.to_bits() == 0));
     for (place, (ours, theirs)) in values.iter().zip(their.data()).enumerate() {
         // What stays is copied.
@@ -100,7 +94,7 @@ fn padding(random: &mut Random, tally: &mut Tally, n: [usize; 3]) {
     let value = number(random);
     let mut their = field([0.0; 3], 1.0, n, values.clone());
     their.padding(value);
-    assert_eq!(host::padding(n, value, &mut values), 0);
+    host::padding(n, value, &mut values);
     for (ours, theirs) in values.iter().zip(their.data()) {
         tally.compare("padding", *ours, theirs.to_bits());
     }
@@ -111,7 +105,7 @@ fn threshold(random: &mut Random, tally: &mut Tally, n: [usize; 3]) {
     let limit = number(random);
     let mut their = field([0.0; 3], 1.0, n, values.clone());
     their.threshold(limit);
-    assert_eq!(host::threshold(n, limit, &mut values), 0);
+    host::threshold(n, limit, &mut values);
     for (ours, theirs) in values.iter().zip(their.data()) {
         tally.compare("threshold", *ours, theirs.to_bits());
     }

@@ -2,7 +2,7 @@
 
 use super::models::{expected, model};
 use super::{computed, number, Random, Tally, COMPUTED_NAN};
-use crate::host::sparse::{job, Grid, Lent};
+use crate::host::sparse::{job, Grid, Lent, Record};
 use crate::host::Layout;
 use crate::models::{theirs, Part};
 use original::benched::{block, bounds, children, sample_sparse};
@@ -15,6 +15,7 @@ const JOBS: usize = 10_000;
 pub fn values() -> usize {
     let mut random = Random(23);
     let mut tally = Tally::default();
+    let mut record = Record::new();
     for _ in 0..JOBS {
         let (grid, children) = grid(&mut random);
         let most = if random.next() % 2 == 0 { 64 } else { 3 };
@@ -22,9 +23,16 @@ pub fn values() -> usize {
         let mut lent = Lent::new(&grid, children);
         dirty(&mut lent);
         let budgets = [random.next() % 200, u64::MAX];
-        let counts = job(&grid, &Layout::new(&parts), &budgets, &mut lent);
+        job(
+            &grid,
+            &Layout::new(&parts),
+            &budgets,
+            &mut record,
+            &mut lent,
+        );
         compare(&grid, &parts, &lent, &mut tally);
-        rest(&grid, counts.leaves as usize, &lent, &mut tally);
+        let leaves = record.counts().leaves as usize;
+        rest(&grid, leaves, &lent, &mut tally);
     }
     tally.report()
 }

@@ -51,36 +51,6 @@ extern "C" {
         corner: usize,
         out: &mut [f64; 3],
     ) -> u32;
-    fn bench_point_step(
-        x0: f64,
-        y0: f64,
-        z0: f64,
-        x1: f64,
-        y1: f64,
-        z1: f64,
-        nx: usize,
-        ny: usize,
-        nz: usize,
-        i: usize,
-        j: usize,
-        k: usize,
-        out: &mut [f64; 3],
-    ) -> bool;
-    fn bench_cell_step(
-        x0: f64,
-        y0: f64,
-        z0: f64,
-        x1: f64,
-        y1: f64,
-        z1: f64,
-        nx: usize,
-        ny: usize,
-        nz: usize,
-        i: usize,
-        j: usize,
-        k: usize,
-        out: &mut [f64; 6],
-    ) -> bool;
     fn bench_corner_point(
         x0: f64,
         y0: f64,
@@ -103,6 +73,22 @@ extern "C" {
         p: usize,
         out: &mut [f64; 3],
     );
+    fn jisampode_point_step(
+        bounds: &[f64; 6],
+        nx: usize,
+        ny: usize,
+        nz: usize,
+        cursor: &mut [usize; 3],
+        point: &mut [f64; 3],
+    ) -> u32;
+    fn jisampode_cell_step(
+        bounds: &[f64; 6],
+        nx: usize,
+        ny: usize,
+        nz: usize,
+        cursor: &mut [usize; 3],
+        cell: &mut [f64; 6],
+    ) -> u32;
 }
 
 /// A box: its least end and its most.
@@ -192,29 +178,19 @@ pub fn cell_corner(
 }
 
 /// The point at a walk's cursor.
-pub fn point_step([p, q]: Ends, n: [usize; 3], at: [usize; 3]) -> Option<[f64; 3]> {
-    let mut out = [0.0; 3];
-    let [nx, ny, nz] = n;
-    let [i, j, k] = at;
-    let found = unsafe {
-        bench_point_step(
-            p[0], p[1], p[2], q[0], q[1], q[2], nx, ny, nz, i, j, k, &mut out,
-        )
-    };
-    found.then_some(out)
+pub fn point_step([p, q]: Ends, [nx, ny, nz]: [usize; 3], mut at: [usize; 3]) -> Option<[f64; 3]> {
+    let bounds = [p[0], p[1], p[2], q[0], q[1], q[2]];
+    let mut point = [0.0; 3];
+    let answer = unsafe { jisampode_point_step(&bounds, nx, ny, nz, &mut at, &mut point) };
+    (answer == 0).then_some(point)
 }
 
 /// The ends of the cell at a walk's cursor.
-pub fn cell_step([p, q]: Ends, n: [usize; 3], at: [usize; 3]) -> Option<[f64; 6]> {
-    let mut out = [0.0; 6];
-    let [nx, ny, nz] = n;
-    let [i, j, k] = at;
-    let found = unsafe {
-        bench_cell_step(
-            p[0], p[1], p[2], q[0], q[1], q[2], nx, ny, nz, i, j, k, &mut out,
-        )
-    };
-    found.then_some(out)
+pub fn cell_step([p, q]: Ends, [nx, ny, nz]: [usize; 3], mut at: [usize; 3]) -> Option<[f64; 6]> {
+    let bounds = [p[0], p[1], p[2], q[0], q[1], q[2]];
+    let mut cell = [0.0; 6];
+    let answer = unsafe { jisampode_cell_step(&bounds, nx, ny, nz, &mut at, &mut cell) };
+    (answer == 0).then_some(cell)
 }
 
 /// A corner of a node that has n children along an axis.

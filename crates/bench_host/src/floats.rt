@@ -6,43 +6,11 @@ ghost use Rattle.float.specs.Whole.{floorOf, ceilOf};
 ghost use Rattle.geometry.specs.Values.{vec3};
 ghost use Rattle.geometry.specs.Box.{dimensionsOf};
 ghost use Rattle.geometry.specs.Distance.{distanceOf};
-ghost use Rattle.bench_host.specs.Answers.{coordinates, ends};
-ghost use Rattle.bench_host.specs.Given.{boxGiven};
-use geometry::BoundingBox;
+ghost use Rattle.field_host.specs.Answers.{coordinates};
+ghost use Rattle.field_host.specs.Given.{boxGiven};
+use field_host::box_of;
+use field_host::put_point;
 use geometry::Vec3;
-
-// The box of two ends.
-pub fn box_of(x0: f64, y0: f64, z0: f64, x1: f64, y1: f64, z1: f64) -> BoundingBox
-    ensures { λ r. ⌜ r ≡ boxGiven x0 y0 z0 x1 y1 z1 ⌝ }
-{
-    let min = Vec3 {
-        x: x0,
-        y: y0,
-        z: z0,
-    };
-    let max = Vec3 {
-        x: x1,
-        y: y1,
-        z: z1,
-    };
-    BoundingBox { min, max }
-}
-
-// Writes a point's coordinates.
-pub fn put_point(p: Vec3, out: &mut [f64; 3])
-    ensures { λ _. ⌜ now (out .exit) ≡ coordinates p ⌝ }
-{
-    *out = [p.x, p.y, p.z];
-}
-
-// Writes the coordinates of a box's ends.
-pub fn put_box(b: BoundingBox, out: &mut [f64; 6])
-    ensures { λ _. ⌜ now (out .exit) ≡ ends b ⌝ }
-{
-    let p = b.min;
-    let q = b.max;
-    *out = [p.x, p.y, p.z, q.x, q.y, q.z];
-}
 
 #[no_mangle]
 pub extern "C" fn bench_floor(x: f64) -> f64

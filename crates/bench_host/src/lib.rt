@@ -1,4 +1,4 @@
-// What the benchmark calls: each function is one call, exported under a C name.
+// What the benchmark calls beyond the C interface: each function is one call, exported under a C name.
 ghost use mathlib.Core.Path.{_≡_};
 ghost use mathlib.Core.List.{map, _++_};
 ghost use Prim.Native.Nat.{min};
@@ -8,13 +8,9 @@ ghost use Rattle.model.specs.Model.{valuesTo, modelValue};
 ghost use Rattle.model.specs.Flat.{flatOf, partsOf};
 ghost use Rattle.model.specs.Row.{evaluatedRows};
 
-mod dense; // dense.rt: the dense field's calls
+mod cells; // cells.rt: the cells of a dense field
 mod floats; // floats.rt: floats, points and boxes
-mod given; // given.rt: a model from flat arrays
-mod listing; // listing.rt: the listing of a job's text
 mod nodes; // nodes.rt: the grid of a sparse field
-mod sparse; // sparse.rt: a sparse field's jobs
-mod walks; // walks.rt: walks over points and cells
 
 // The correctly rounded square root.
 #[no_mangle]

@@ -7,11 +7,11 @@ ghost use Rattle.grid.specs.Corners.{cornerPoint};
 ghost use Rattle.grid.specs.Leaves.{leafPoint};
 ghost use Rattle.grid.specs.Nodes.{nodeSize};
 ghost use Rattle.grid.specs.Pruning.{halfDiagonal, lowest, highest, average};
-ghost use Rattle.bench_host.specs.Answers.{coordinates, ends};
-ghost use Rattle.bench_host.specs.Given.{boxGiven, gridGiven};
-use crate::floats::box_of;
-use crate::floats::put_box;
-use crate::floats::put_point;
+ghost use Rattle.field_host.specs.Answers.{coordinates, ends};
+ghost use Rattle.field_host.specs.Given.{boxGiven, gridGiven};
+use field_host::box_of;
+use field_host::put_box;
+use field_host::put_point;
 use grid::Grid;
 
 // The size of a node.

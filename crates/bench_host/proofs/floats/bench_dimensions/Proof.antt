@@ -2,7 +2,7 @@
 use borrow.Author.Needs.{needs}
 use mathlib.Core.Path.{ap, _∙_}
 use Rattle.geometry.specs.Box.{dimensionsOf}
-use Rattle.bench_host.specs.Answers.{coordinates}
+use Rattle.field_host.specs.Answers.{coordinates}
 use Rattle.bench_host.proofs.floats.bench_dimensions.Statement.{statement}
 use Rattle.bench_host.proofs.floats.bench_dimensions.Tie as tie
 

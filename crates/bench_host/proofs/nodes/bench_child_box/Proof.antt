@@ -3,7 +3,7 @@ use borrow.Author.Needs.{needs}
 use mathlib.Core.Path.{refl, ap, _∙_}
 use borrow.Author.Tests.{eq-eqb, ne-eqb}
 use Rattle.grid.specs.Boxes.{childBox}
-use Rattle.bench_host.specs.Answers.{ends}
+use Rattle.field_host.specs.Answers.{ends}
 use Rattle.bench_host.proofs.nodes.bench_child_box.Statement.{statement}
 use Rattle.bench_host.proofs.nodes.bench_child_box.Tie as tie
 

@@ -2,7 +2,7 @@
 use borrow.Author.Needs.{needs}
 use mathlib.Core.Path.{ap, _∙_}
 use Rattle.grid.specs.Corners.{cornerPoint}
-use Rattle.bench_host.specs.Answers.{coordinates}
+use Rattle.field_host.specs.Answers.{coordinates}
 use Rattle.bench_host.proofs.nodes.bench_corner_point.Statement.{statement}
 use Rattle.bench_host.proofs.nodes.bench_corner_point.Tie as tie
 

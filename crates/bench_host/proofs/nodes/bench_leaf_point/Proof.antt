@@ -3,7 +3,7 @@ use borrow.Author.Needs.{needs}
 use mathlib.Core.Path.{refl, ap, _∙_}
 use borrow.Author.Tests.{eq-eqb, ne-eqb}
 use Rattle.grid.specs.Leaves.{leafPoint}
-use Rattle.bench_host.specs.Answers.{coordinates}
+use Rattle.field_host.specs.Answers.{coordinates}
 use Rattle.bench_host.proofs.nodes.bench_leaf_point.Statement.{statement}
 use Rattle.bench_host.proofs.nodes.bench_leaf_point.Tie as tie
 

@@ -2,8 +2,8 @@
 use borrow.Author.Needs.{needs}
 use mathlib.Core.Path.{ap, _∙_}
 use Rattle.grid.specs.Boxes.{nodeBox}
-use Rattle.bench_host.specs.Answers.{ends}
-use Rattle.bench_host.specs.Given.{gridGiven}
+use Rattle.field_host.specs.Answers.{ends}
+use Rattle.field_host.specs.Given.{gridGiven}
 use Rattle.bench_host.proofs.nodes.bench_node_box.Statement.{statement}
 use Rattle.bench_host.proofs.nodes.bench_node_box.Tie as tie
 

@@ -1,4 +1,4 @@
--- `dense::bench_cell_corner` meets its contract.
+-- `cells::bench_cell_corner` meets its contract.
 use borrow.Author.Needs.{needs}
 use mathlib.Core.Path.{ap, _∙_}
 use mathlib.Core.List.{List}
@@ -8,9 +8,9 @@ use lib.ListN.{getD}
 use Rattle.geometry.specs.Values.{vec3}
 use Rattle.model.specs.Part.{past}
 use Rattle.dense_field.specs.declared.CellCorners.{CellCorners}
-use Rattle.bench_host.specs.Answers.{coordinates}
-use Rattle.bench_host.proofs.dense.bench_cell_corner.Statement.{statement}
-use Rattle.bench_host.proofs.dense.bench_cell_corner.Tie as tie
+use Rattle.field_host.specs.Answers.{coordinates}
+use Rattle.bench_host.proofs.cells.bench_cell_corner.Statement.{statement}
+use Rattle.bench_host.proofs.cells.bench_cell_corner.Tie as tie
 
 cell-corners-requires : tie.Need-cell-corners-requires
 cell-corners-requires c κs = search needs

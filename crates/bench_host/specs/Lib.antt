@@ -1,4 +1,0 @@
--- What the exported functions take and answer, in numbers.
-pub mod Answers
-pub mod Given
-pub mod Jobs
