@@ -29,6 +29,19 @@ static inline void saw(unsigned kind, uint64_t number) {
     seen[(kind * 256 + bucket * 16 + (unsigned)number) % sizeof seen] = 1;
 }
 
+/* The bytes of all inputs, printed at the end. */
+static uint64_t bytes_tried;
+
+static void print_bytes_tried(void) {
+    fprintf(stderr, "bytes tried: %llu\n", (unsigned long long)bytes_tried);
+}
+
+static inline void tried(size_t size) {
+    if (bytes_tried == 0)
+        atexit(print_bytes_tried);
+    bytes_tried += size;
+}
+
 /* Ends with what does not hold. */
 static inline void hold(int holds, const char *what) {
     if (!holds) {

@@ -78,6 +78,7 @@ int LLVMFuzzerTestOneInput(const uint8_t *data, size_t size) {
     }
     if (size < 2 || size - 2 > MOST_TEXT)
         return 0;
+    tried(size);
     size_t length = data[0] < 192 ? JISAMPODE_LISTING_BYTES : (data[0] - 192) * 256u + data[1];
     int at_end = data[1] & 1;
     uint8_t *text = fence_slice(&text_room, size - 2, at_end);

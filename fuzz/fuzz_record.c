@@ -207,6 +207,7 @@ int LLVMFuzzerTestOneInput(const uint8_t *data, size_t size) {
             fence_make(&rooms[i], (i < KINDS ? fixed[i] : MOST) * element[i]);
     if (size < 14)
         return 0;
+    tried(size);
     unsigned choice = data[0];
     uint64_t budget;
     memcpy(&budget, data + 6, 8);

@@ -195,6 +195,13 @@ impl Host {
         shorter + lengths.store + lengths.corners
     }
 
+    /// How many bytes the slices have.
+    pub fn bytes(&self) -> u64 {
+        let lengths = self.lengths();
+        let floats = lengths.numbers + lengths.store + lengths.corners;
+        lengths.kinds + 4 * lengths.places + 8 * floats
+    }
+
     /// Holds every element to another memory, floats by their bits.
     pub fn holds(&self, memory: &Memory) -> Result<(), String> {
         let bits = |floats: &[f64]| floats.iter().map(|x| x.to_bits()).collect::<Vec<_>>();

@@ -243,6 +243,7 @@ impl List<'_> {
         self.host.guards_hold().map_err(named)?;
         self.host.holds(&self.ledger.elements()).map_err(named)?;
         self.tally.elements += self.host.elements();
+        self.tally.bytes += self.host.bytes();
         if due == 0 {
             self.tally.accepted[which] += 1;
             self.tally.evaluations += self.made() - made;
@@ -348,6 +349,7 @@ impl List<'_> {
         self.host.guards_hold().map_err(named)?;
         self.host.holds(&memory).map_err(named)?;
         self.tally.elements += self.host.elements();
+        self.tally.bytes += self.host.bytes();
         let expected = match record {
             Some(record) if due == 0 => RecordArrays::of(&record),
             _ => before,

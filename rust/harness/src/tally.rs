@@ -18,6 +18,8 @@ pub struct Tally {
     /// Opens and drops with a forged record.
     pub forged_others: u64,
     pub elements: u64,
+    /// The bytes of those elements.
+    pub bytes: u64,
     /// The most children, values of the store and evaluations of one job.
     pub largest: [u64; 3],
 }
@@ -63,10 +65,11 @@ impl Display for Tally {
         )?;
         write!(
             to,
-            "lists: {} lists, {} calls, {} elements compared by their bits, 0 differences",
+            "lists: {} lists, {} calls, {} elements of {} bytes compared by their bits, 0 differences",
             self.lists,
             self.calls(),
-            self.elements
+            self.elements,
+            self.bytes
         )
     }
 }
