@@ -37,6 +37,7 @@ use Rattle.field_host.specs.Carried.{Carried, inputIn, fits, flagged, re
 use Rattle.field_host.specs.Hosted.{answerNumber, leftBy, carriedAfter, hosted}
 use Rattle.field_host.specs.Lists.{HostCall, opensWith, stepsBy, dropsAll, callOf, Station, answerOf, onStation, engineAt}
 use Rattle.field_host.proofs.RecordBack.{record-back}
+use Rattle.field_host.proofs.Unread.{no-flag}
 
 -- ---- inputs that arrays carry
 
@@ -149,15 +150,6 @@ host-implemented = record {
 }
 
 -- ---- the theorem
-
--- arrays whose first word is 0 have no job, whatever else they hold
-no-flag : (c : Carried) → getD (c .words) 0 0 ≡ 0 → decoded c .job ≡ false
-unfolding decoded
-no-flag c none = by (fits (c .words))
-  where
-    by : (b : Bool) → cond b (recordGiven (inputIn c) (c .words)) (unread (flagged (c .words))) .job ≡ false
-    by true = simp (eq-eqb _ _ none)
-    by false = simp (eq-eqb _ _ none)
 
 -- any list of calls, from arrays of any contents whose first word is 0 and any contents of the memory
 pub host-demand-three : (cs : List HostCall) (s : Station) → getD (s .carried .words) 0 0 ≡ 0

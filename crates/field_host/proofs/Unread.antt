@@ -1,11 +1,11 @@
--- What is handed in is judged: a part's code that does not exist is cause 4, and words with a job that no record has are refused by 8.
+-- What is handed in is judged: a part's code that does not exist is cause 4, a first word of 0 is no job, and words with a job that no record has are refused by 8.
 use Prim.Native.Nat.{ℕ, _<_}
 use mathlib.Core.Path.{_≡_, refl, sym, ap, _∙_}
-use mathlib.Core.Bool.{Bool, true, false}
+use mathlib.Core.Bool.{Bool, true, false, cond}
 use mathlib.Core.List.{map}
 use native.Mathlib.Omega.{arith}
 use lib.ListN.{getD, List·getD-map}
-use borrow.Author.Tests.{lt-ltb, ltb-true}
+use borrow.Author.Tests.{lt-ltb, ltb-true, eq-eqb}
 use Rattle.lists.specs.Tabulate.{tabulate}
 use Rattle.lists.proofs.Tables.{getD-tabulate}
 use Rattle.float.specs.Zero.{plusZero}
@@ -25,9 +25,9 @@ use Rattle.schedule.proofs.Possible.{possible}
 use Rattle.sparse_field.specs.Records.{sparse, jobIn}
 use Rattle.sparse_field.specs.Calls.{called}
 use Rattle.sparse_field.proofs.Opening.{nothing}
-use Rattle.sparse_field.proofs.CallLaws.{step-impossible}
+use Rattle.sparse_field.proofs.CallLaws.{step-none, step-impossible}
 use Rattle.field_host.specs.Given.{noPart, partCoded, partGiven, componentGiven, modelGiven}
-use Rattle.field_host.specs.Carried.{Carried, fits, flagged, unread, decoded}
+use Rattle.field_host.specs.Carried.{Carried, inputIn, fits, flagged, recordGiven, unread, decoded}
 use Rattle.field_host.specs.Hosted.{answerNumber, leftBy, hostedBy, hosted}
 
 -- ---- a code that does not exist
@@ -47,6 +47,23 @@ unknown-code l count p below code = by (refusedByFour (modelGiven l count)) refl
         List·getD-map partIn all p (record { part = Constant plusZero }) ∙ ap partIn (getD-tabulate 64 (componentGiven l) p _ few) ∙ coded in
         let placed = sym (ap (inputsBelow p) none) ∙ ordered-at (map partIn all) p count below (in-order (modelGiven l count) e) in
         absurd (omega (arith, ltb-true 4294967295 p placed))
+
+-- ---- a first word of 0
+
+-- there is no job, whatever else the arrays hold
+pub no-flag : (c : Carried) → getD (c .words) 0 0 ≡ 0 → decoded c .job ≡ false
+unfolding decoded
+no-flag c none = by (fits (c .words))
+  where
+    by : (b : Bool) → cond b (recordGiven (inputIn c) (c .words)) (unread (flagged (c .words))) .job ≡ false
+    by true = simp (eq-eqb (getD (c .words) 0 0) 0 none)
+    by false = simp (eq-eqb (getD (c .words) 0 0) 0 none)
+
+-- a step refuses them by 7, and changes nothing
+pub no-job-refused : (c : Carried) (m : Memory) → getD (c .words) 0 0 ≡ 0 → (budget : ℕ)
+    → hosted (steps budget) c m ≡ record { number = 7; carried = c; memory = m }
+unfolding hosted answerNumber leftBy
+no-job-refused c m none budget = ap (λ h. hostedBy h c) (step-none budget (decoded c) m (no-flag c none))
 
 -- ---- words that no record has
 
