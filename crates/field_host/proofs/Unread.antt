@@ -1,7 +1,7 @@
 -- What is handed in is judged: a part's code that does not exist is cause 4, a first word of 0 is no job, and words with a job that no record has are refused by 8.
 use Prim.Native.Nat.{ℕ, _<_}
 use mathlib.Core.Path.{_≡_, refl, sym, ap, _∙_}
-use mathlib.Core.Bool.{Bool, true, false, cond}
+use mathlib.Core.Bool.{Bool, true, false, not, cond}
 use mathlib.Core.List.{map}
 use native.Mathlib.Omega.{arith}
 use lib.ListN.{getD, List·getD-map}
@@ -56,8 +56,8 @@ unfolding decoded
 no-flag c none = by (fits (c .words))
   where
     by : (b : Bool) → cond b (recordGiven (inputIn c) (c .words)) (unread (flagged (c .words))) .job ≡ false
-    by true = simp (eq-eqb (getD (c .words) 0 0) 0 none)
-    by false = simp (eq-eqb (getD (c .words) 0 0) 0 none)
+    by true = cc (ap not (eq-eqb (getD (c .words) 0 0) 0 none))
+    by false = cc (ap not (eq-eqb (getD (c .words) 0 0) 0 none))
 
 -- a step refuses them by 7, and changes nothing
 pub no-job-refused : (c : Carried) (m : Memory) → getD (c .words) 0 0 ≡ 0 → (budget : ℕ)
