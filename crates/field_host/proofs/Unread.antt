@@ -70,7 +70,7 @@ no-job-refused c m none budget = ap (λ h. hostedBy h c) (step-none budget (deco
 module _ (c : Carried) (m : Memory) (misfit : fits (c .words) ≡ false) (flag : flagged (c .words) ≡ true) where
   reads : decoded c ≡ unread true
   unfolding decoded
-  reads = rw (misfit, flag) refl
+  reads = ap (λ b. cond b (recordGiven (inputIn c) (c .words)) (unread (flagged (c .words)))) misfit ∙ ap unread flag
 
   -- such a record is impossible, as a block size of 0 is no block
   never : impossible sparse (jobIn (unread true)) m ≡ true
