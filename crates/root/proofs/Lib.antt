@@ -1,4 +1,5 @@
 pub mod Squares
+pub mod LowDigits
 pub mod NearestLaws
 pub mod Neighbours
 pub mod WholeTests
@@ -6,6 +7,7 @@ pub mod Patterns
 pub mod RootLaws
 pub mod Subnormal
 pub mod BitsRoots
+pub mod SquareNear
+pub mod TrialLaws
 pub mod RowLaws
-pub mod GuessLaws
 pub mod OnlyRoot

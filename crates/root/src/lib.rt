@@ -1,12 +1,16 @@
 // The square root of an f64, correctly rounded, worked out from bits: an estimate by float
-// arithmetic, and an exact test on whole numbers that steps the estimate until it holds.
+// arithmetic, a trial of it that is exact where it has no objections, and a search for the others.
 ghost use mathlib.Core.Path.{_≡_};
 ghost use mathlib.Core.List.{map};
 ghost use Rattle.root.specs.Root.{squareRoot};
 
-// An estimate of a root's 53 digits, by float arithmetic.
+// A float by its bits, reduced to a number in [1/2, 2).
+mod operand;
+// An estimate of a root.
 mod seed;
-// The exact test on whole numbers.
+// A root tried without a branch.
+mod trial;
+// The search on whole numbers.
 mod whole;
 // From a float's bits to its root's.
 mod bits;
@@ -18,7 +22,7 @@ mod row;
 pub fn sqrt(x: f64) -> f64
     ensures { λ r. ⌜ r ≡ squareRoot x ⌝ }
 {
-    bits::root_from(x, seed::seed(x))
+    bits::root(x)
 }
 
 // Each element becomes its correctly rounded square root.
