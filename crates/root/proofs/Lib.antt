@@ -1,8 +1,7 @@
-pub mod Squares
 pub mod LowDigits
 pub mod NearestLaws
 pub mod Neighbours
-pub mod WholeTests
+pub mod WholeLaws
 pub mod Patterns
 pub mod RootLaws
 pub mod Subnormal

@@ -1,72 +1,44 @@
--- What the objections of a trial mean, and what it says where it has none.
+-- What a trial says where it has no objections.
 use mathlib.Core.Path.{_≡_, sym, ap, _∙_, subst}
-use Prim.Native.Nat.{ℕ, _+_, _*_, _/_, _%_, _^_, _≤_, _<_}
-use native.Mathlib.Nat.{mod-eq-of-lt}
+use Prim.Native.Nat.{ℕ, _+_, _-_, _*_, _/_, _%_, _^_, _≤_, _<_}
 use native.Mathlib.Omega.{arith}
 use lib.Ieee.{Float, ofBits, binary64}
 use Rattle.root.specs.Inner.Reduced.{scaled}
-use Rattle.root.specs.Inner.Trials.{Near, TriedDigits, Tried}
+use Rattle.root.specs.Inner.Trials.{Near, Tried}
 use Rattle.root.specs.Nearest.{nearestRoot}
 use Rattle.root.specs.Root.{squareRoot}
 use Rattle.root.proofs.BitsRoots.{normal-root}
 use Rattle.root.proofs.LowDigits.{low-top, exact}
 use Rattle.root.proofs.NearestLaws.{nearest-is}
-use Rattle.root.proofs.Neighbours.{stepped, stepped-nearest}
+use Rattle.root.proofs.Neighbours.{Steps, stepped-nearest}
 
-not-far : (d a : ℕ) → (d + 2 ^ 53) / 2 ^ 55 + a ≡ 0 → (d < 6 * 2 ^ 52) × (a ≡ 0)
-not-far d a z = (omega arith, omega arith)
-
-pub tried-digits : (p q d a : ℕ) → 2 ^ 52 ≤ q → q < 2 ^ 53 → (d + q * q) % 2 ^ 61 ≡ (scaled p + 3 * 2 ^ 52) % 2 ^ 61
-    → (a ≡ 0 → Near (scaled p) (q * q)) → (d + 2 ^ 53) / 2 ^ 55 + a ≡ 0 → stepped q d ≡ nearestRoot (scaled p)
-tried-digits p q d a l u e near z =
+-- the digits: d is the difference that the trial knows, and u and w are its steps from q
+pub tried-digits : (p q d u w : ℕ) → 2 ^ 52 ≤ q → (d + q * q) % 2 ^ 61 ≡ (scaled p + 3 * 2 ^ 52) % 2 ^ 61 → d < 6 * 2 ^ 52 → Near (scaled p) (q * q)
+    → Steps q d u w → q + u - w ≡ nearestRoot (scaled p)
+tried-digits p q d u w l e f near s =
     let t = low-top p in
-    let f = not-far d a z in
-    nearest-is (scaled p) (stepped q d) (omega (arith, t .least)) (omega (arith, t .most))
-    (stepped-nearest (scaled p) q d (exact (scaled p) (q * q) d (f .0) (near (f .1)) e) l u (omega (arith, t .least)) (f .0))
+    nearest-is (scaled p) (q + u - w) (omega (arith, t .least)) (omega (arith, t .most))
+    (stepped-nearest (scaled p) q d (exact (scaled p) (q * q) d f near e) l u w s (omega (arith, t .least)) f)
 
--- the class of a pattern: 0 where it is that of a normal number above 0
-abbrev pub class : ℕ → ℕ
-class b = ((b / 2 ^ 52 + 4095) % 4096 + 2050) / 4096
+-- the bits: m is the mark of objections, and h the root's exponent
+pub record Unmarked (b s h : ℕ) : Type 0 where
+  pub least : 2 ^ 52 ≤ b
+  pub most : b < 2047 * 2 ^ 52
+  pub half : h ≡ (b / 2 ^ 52 + 1021) / 2
+  pub digits : s ≡ nearestRoot (scaled b)
 
-normal : (b : ℕ) → b < 2 ^ 64 → class b ≡ 0 → (2 ^ 52 ≤ b) × (b < 2047 * 2 ^ 52)
-normal b h z = (omega arith, omega arith)
+unmarked : (n m : ℕ) → n + m * 2 ^ 63 < 2 ^ 63 → (m ≡ 0) × (n ≡ n + m * 2 ^ 63)
+unmarked n m l = (omega arith, omega arith)
 
-pub class-few : (b : ℕ) → class b ≤ 1
-class-few b = omega arith
-
--- the mark of objections is digit 63
-unmarked : (n s : ℕ) → s ≤ 67 → n + (s + 127) / 128 * 2 ^ 63 < 2 ^ 63 → s ≡ 0
-unmarked n s l h = omega arith
-
-no-mark : (n s : ℕ) → s ≡ 0 → n ≡ n + (s + 127) / 128 * 2 ^ 63
-no-mark n s e = omega arith
-
-pub mark-few : (s : ℕ) → s ≤ 67 → (s + 127) / 128 ≤ 1
-mark-few s l = omega arith
-
-pub mark-fits : (n m : ℕ) → n < 2 ^ 63 → m ≤ 1 → n + m * 2 ^ 63 < 2 ^ 64
-mark-fits n m h l = omega arith
-
-field : (b : ℕ) → b < 2047 * 2 ^ 52 → b / 2 ^ 52 ≡ b / 2 ^ 52 % 2048
-field b h = sym (mod-eq-of-lt (let l : b / 2 ^ 52 < 2048 = omega arith in l))
-
-bits-few : (b s : ℕ) → b < 2047 * 2 ^ 52 → s ≤ 2 ^ 53 → (b / 2 ^ 52 + 1021) / 2 * 2 ^ 52 + s ≤ 2047 * 2 ^ 52
-bits-few b s h l = omega arith
-
--- the bits that a trial of x puts together
-module _ (x : Float) (b s o : ℕ) (h : b < 2 ^ 64) (own : 2 ^ 52 ≤ b → x ≡ ofBits binary64 b) (d : TriedDigits b s o) where
+module _ (x : Float) (b s h m : ℕ) (own : 2 ^ 52 ≤ b → x ≡ ofBits binary64 b) (fits : h * 2 ^ 52 + s ≤ 2047 * 2 ^ 52) (sure : m ≡ 0 → Unmarked b s h) where
   abbrev Says : ℕ → Type 0
   Says t = (t ≤ 2047 * 2 ^ 52) × (ofBits binary64 t ≡ squareRoot x)
 
-  says : (b / 2 ^ 52 % 2048 + 1021) / 2 * 2 ^ 52 + s + (o + class b + 127) / 128 * 2 ^ 63 < 2 ^ 63
-      → Says ((b / 2 ^ 52 % 2048 + 1021) / 2 * 2 ^ 52 + s + (o + class b + 127) / 128 * 2 ^ 63)
+  says : h * 2 ^ 52 + s + m * 2 ^ 63 < 2 ^ 63 → Says (h * 2 ^ 52 + s + m * 2 ^ 63)
   says l =
-      let z : o + class b ≡ 0 = unmarked ((b / 2 ^ 52 % 2048 + 1021) / 2 * 2 ^ 52 + s) (o + class b) (omega (arith, class-few b)) l in
-      let n = normal b h (let e : class b ≡ 0 = omega arith in e) in
-      let r = normal-root b s (n .0) (n .1) (d .nearest (omega arith)) ∙ ap squareRoot (sym (own (n .0))) in
-      subst Says
-      (ap (λ (f : ℕ). (f + 1021) / 2 * 2 ^ 52 + s) (field b (n .1)) ∙ no-mark ((b / 2 ^ 52 % 2048 + 1021) / 2 * 2 ^ 52 + s) (o + class b) z)
-      (bits-few b s (n .1) (d .most), r)
+      let z = unmarked (h * 2 ^ 52 + s) m l in
+      let n = sure (z .0) in
+      subst Says (z .1) (fits, normal-root b s h (n .least) (n .most) (n .half) (n .digits) ∙ ap squareRoot (sym (own (n .least))))
 
-  pub tried-bits : Tried x ((b / 2 ^ 52 % 2048 + 1021) / 2 * 2 ^ 52 + s + (o + class b + 127) / 128 * 2 ^ 63)
+  pub tried-bits : Tried x (h * 2 ^ 52 + s + m * 2 ^ 63)
   tried-bits = record { number = λ l. says l .0; root = λ l. says l .1 }

@@ -70,16 +70,22 @@ pub fn try_digits(pattern: u64, estimate: u64) -> Trial
     }
 }
 
+// 1 where there are objections, and else 0.
+fn mark(objections: u64) -> u64
+    requires { ⌜ objections ≤ 128 ⌝ }
+    ensures { λ r. ⌜ (r ≤ 1) × (r ≡ 0 → objections ≡ 0) ⌝ }
+{
+    (objections + 127) / 128
+}
+
 // The bits of the root of x, from the bits of an estimate; 2 ^ 63 more where there are objections. That
-// x is no normal number above 0 is one: its exponent and sign are then 0, or 2047 and more.
+// x is no normal number above 0 is one.
 pub fn try_root(x: f64, estimate: u64) -> u64
     ensures { λ r. ⌜ Tried x r ⌝ }
 {
     let pattern = operand::pattern_of(x);
-    let exponent = pattern / 0x10_0000_0000_0000;
-    let class = ((exponent + 4095) % 4096 + 2050) / 4096;
+    let exponent = pattern / 0x10_0000_0000_0000 % 2048;
     let t = try_digits(operand::reduced(pattern), estimate);
-    (exponent % 2048 + 1021) / 2 * 0x10_0000_0000_0000
-        + t.digits
-        + (t.objections + class + 127) / 128 * 0x8000_0000_0000_0000
+    let marked = mark(t.objections + operand::not_normal(pattern));
+    (exponent + 1021) / 2 * 0x10_0000_0000_0000 + t.digits + marked * 0x8000_0000_0000_0000
 }

@@ -14,8 +14,8 @@ try-digits-requires c κs = search needs
 returns : tie.Need-returns
 returns c = c .before .before .try-digits .ensures .nearest (c .if1 .taken)
 
-sub-odd : tie.Need-sub-odd
-sub-odd c = search needs
+sub-factor : tie.Need-sub-factor
+sub-factor c = search needs
 
 add-nearest : tie.Need-add-nearest
 add-nearest c = search needs
@@ -38,7 +38,7 @@ digits-spec =
     estimate-requires
     try-digits-requires
     returns
-    sub-odd
+    sub-factor
     add-nearest
     mul-nearest
     nearest-requires

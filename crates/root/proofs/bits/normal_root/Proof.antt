@@ -34,7 +34,7 @@ float-from-bits-result c = number-bits _ (omega (arith, range c))
 
 returns : tie.Need-returns
 returns c =
-    normal-root _ _ (c .before .before .pre .0) (c .before .before .pre .1)
+    normal-root _ _ _ (c .before .before .pre .0) (c .before .before .pre .1) (omega arith)
     (c .digits .ensures ∙ ap (λ (n : ℕ). nearestRoot (n * 2 ^ 52)) (c .before .reduced .ensures .1))
 
 pub normal-root-spec : {M : Type 1} → statement M

@@ -1,5 +1,5 @@
 -- `reaches` meets its contract: the quotients compare as the whole numbers do.
-use Rattle.root.proofs.WholeTests.{reach-test}
+use Rattle.root.proofs.WholeLaws.{reach-test}
 use borrow.Author.Needs.{needs}
 use Rattle.root.proofs.whole.reaches.Statement.{statement}
 use Rattle.root.proofs.whole.reaches.Tie as tie
