@@ -68,7 +68,8 @@ pub same-top : (b : ℕ) → top (b % 2 ^ 53 + 1022 * 2 ^ 52) ≡ top b
 same-top b =
     let d : (b % 2 ^ 53 + 1022 * 2 ^ 52) % 2 ^ 52 ≡ b % 2 ^ 52 = omega arith in
     let e : (b % 2 ^ 53 + 1022 * 2 ^ 52) / 2 ^ 52 % 2 ≡ b / 2 ^ 52 % 2 =
-    ap (λ (x : ℕ). (x + 1022 * 2 ^ 52) / 2 ^ 52 % 2) (mod-pow-add b 1 52) ∙ last-digit (b / 2 ^ 52 % 2) (b % 2 ^ 52) (mod-lt (b / 2 ^ 52) (lit< tt)) (mod-lt b (pow-pos 52)) in
+    ap (λ (x : ℕ). (x + 1022 * 2 ^ 52) / 2 ^ 52 % 2) (mod-pow-add b 1 52)
+    ∙ last-digit (b / 2 ^ 52 % 2) (b % 2 ^ 52) (mod-lt (b / 2 ^ 52) (lit< tt)) (mod-lt b (pow-pos 52)) in
     ap₂ (λ x y. (x + 2 ^ 52) * (2 - y)) d e
 
 like : (c a b : ℕ) → a % 2 ^ 61 ≡ b % 2 ^ 61 → (c + a) % 2 ^ 61 ≡ (c + b) % 2 ^ 61

@@ -54,6 +54,15 @@ lt-le x y h = rw h tt
 
 -- ---- the float of a normal pattern, and a fraction a / c that is rounded
 
+abbrev float : ℕ → Float
+float b = ofBits binary64 b
+
+abbrev rounded : ℕ → ℕ → Float
+rounded a c = round binary64 false a c
+
+abbrev square : ℕ → Float
+square b = mul binary64 (float b) (float b)
+
 -- what a normal pattern stands for, in smallest values
 abbrev units : ℕ → ℕ
 units b = (b % 2 ^ 52 + 2 ^ 52) * 2 ^ (b / 2 ^ 52 - 1)
@@ -63,61 +72,74 @@ record Normal (b : ℕ) : Type 0 where
   most : b < 1100 * 2 ^ 52
 
 module _ (b : ℕ) (n : Normal b) where
-  value : HasValue (ofBits binary64 b) false (units b) (2 ^ 1074)
+  value : HasValue (float b) false (units b) (2 ^ 1074)
   value =
       let k = b / 2 ^ 52 - 1 in
       let q = b % 2 ^ 52 + 2 ^ 52 in
       let e : k * 2 ^ 52 + q ≡ b = omega arith in
-      subst (λ (x : Float). HasValue x false (units b) (2 ^ 1074)) (sym (normal-bits k q (omega arith) (omega arith) (omega arith)) ∙ ap (ofBits binary64) e) (odd-sign 53 false q k 1074)
+      let same = sym (normal-bits k q (omega arith) (omega arith) (omega arith)) ∙ ap float e in
+      subst (λ (x : Float). HasValue x false (units b) (2 ^ 1074)) same (odd-sign 53 false q k 1074)
 
   above-zero : 0 < units b
   above-zero = mul-pos (let h : 0 < b % 2 ^ 52 + 2 ^ 52 = omega arith in h) (pow-pos (b / 2 ^ 52 - 1))
 
-  own : T (positive (ofBits binary64 b))
-  own = positive-of-value (ofBits binary64 b) (units b) (2 ^ 1074) value above-zero
+  own : T (positive (float b))
+  own = positive-of-value (float b) (units b) (2 ^ 1074) value above-zero
 
-  itself : HasValue (round binary64 false (units b) (2 ^ 1074)) false (units b) (2 ^ 1074)
+  -- rounding leaves its value
+  itself : HasValue (rounded (units b) (2 ^ 1074)) false (units b) (2 ^ 1074)
   itself =
       let few : b % 2 ^ 52 + 2 ^ 52 < 2 ^ 53 = omega arith in
       let j = b / 2 ^ 52 - 1 in
       let h : 53 + j ≤ 1074 + 1024 = omega arith in
       round-exact binary64 false (units b) (2 ^ 1074) (b % 2 ^ 52 + 2 ^ 52) j (pow-pos 1074) few (lt-of-lt-of-le (shl-lt 53 j few) (pow-mono h)) refl
 
-  kept : T (positive (round binary64 false (units b) (2 ^ 1074)))
-  kept = positive-of-value (round binary64 false (units b) (2 ^ 1074)) (units b) (2 ^ 1074) itself above-zero
+  kept : T (positive (rounded (units b) (2 ^ 1074)))
+  kept = positive-of-value (rounded (units b) (2 ^ 1074)) (units b) (2 ^ 1074) itself above-zero
 
-  module _ (a c : ℕ) (C : 0 < c) (p : T (positive (round binary64 false a c))) where
-    stays-above : lt (ofBits binary64 b) (round binary64 false a c) ≡ true → units b * c < a * 2 ^ 1074
+  not-above : T (le (rounded (units b) (2 ^ 1074)) (float b))
+  not-above = le-of-values _ (float b) (units b) (2 ^ 1074) (units b) (2 ^ 1074) (pow-pos 1074) (pow-pos 1074) itself value (le-refl _)
+
+  not-below : T (le (float b) (rounded (units b) (2 ^ 1074)))
+  not-below = le-of-values (float b) _ (units b) (2 ^ 1074) (units b) (2 ^ 1074) (pow-pos 1074) (pow-pos 1074) value itself (le-refl _)
+
+  module _ (a c : ℕ) (C : 0 < c) (p : T (positive (rounded a c))) where
+    stays-above : lt (float b) (rounded a c) ≡ true → units b * c < a * 2 ^ 1074
     stays-above h = lt-of-not-le
-        (λ g. not-both (ofBits binary64 b) (round binary64 false a c) own p h
-        (le-trans-positive (round binary64 false a c) (round binary64 false (units b) (2 ^ 1074)) (ofBits binary64 b) p kept own
-        (round-mono binary64 a c (units b) (2 ^ 1074) C (pow-pos 1074) g)
-        (le-of-values (round binary64 false (units b) (2 ^ 1074)) (ofBits binary64 b) (units b) (2 ^ 1074) (units b) (2 ^ 1074) (pow-pos 1074) (pow-pos 1074) itself value (le-refl _))))
+        (λ g. not-both (float b) (rounded a c) own p h
+        (le-trans-positive (rounded a c) (rounded (units b) (2 ^ 1074)) (float b) p kept own
+        (round-mono binary64 a c (units b) (2 ^ 1074) C (pow-pos 1074) g) not-above))
 
-    stays-below : lt (round binary64 false a c) (ofBits binary64 b) ≡ true → a * 2 ^ 1074 < units b * c
+    stays-below : lt (rounded a c) (float b) ≡ true → a * 2 ^ 1074 < units b * c
     stays-below h = lt-of-not-le
-        (λ g. not-both (round binary64 false a c) (ofBits binary64 b) p own h
-        (le-trans-positive (ofBits binary64 b) (round binary64 false (units b) (2 ^ 1074)) (round binary64 false a c) own kept p
-        (le-of-values (ofBits binary64 b) (round binary64 false (units b) (2 ^ 1074)) (units b) (2 ^ 1074) (units b) (2 ^ 1074) (pow-pos 1074) (pow-pos 1074) value itself (le-refl _))
+        (λ g. not-both (rounded a c) (float b) p own h
+        (le-trans-positive (float b) (rounded (units b) (2 ^ 1074)) (rounded a c) own kept p not-below
         (round-mono binary64 (units b) (2 ^ 1074) a c (pow-pos 1074) C g)))
 
 -- ---- the square of a float between two floats
 
 module _ (low b high : ℕ) (l : Normal low) (n : Normal b) (h : Normal high) where
   -- the square before it is rounded
-  squared : mul binary64 (ofBits binary64 b) (ofBits binary64 b) ≡ round binary64 false (units b * units b) (2 ^ 1074 * 2 ^ 1074)
-  squared = mul-at binary64 (ofBits binary64 b) (ofBits binary64 b) (units b) (2 ^ 1074) (units b) (2 ^ 1074) (own b n) (own b n) (pow-pos 1074) (pow-pos 1074) (value b n) (value b n)
+  exact : Float
+  exact = rounded (units b * units b) (2 ^ 1074 * 2 ^ 1074)
 
-  square-between : lt (ofBits binary64 low) (mul binary64 (ofBits binary64 b) (ofBits binary64 b)) ≡ true
-      → lt (mul binary64 (ofBits binary64 b) (ofBits binary64 b)) (ofBits binary64 high) ≡ true
+  squared : square b ≡ exact
+  unfolding exact
+  squared =
+      let v = value b n in
+      mul-at binary64 (float b) (float b) (units b) (2 ^ 1074) (units b) (2 ^ 1074) (own b n) (own b n) (pow-pos 1074) (pow-pos 1074) v v
+
+  square-between : lt (float low) (square b) ≡ true
+      → lt (square b) (float high) ≡ true
       → (units low * (2 ^ 1074 * 2 ^ 1074) < units b * units b * 2 ^ 1074) × (units b * units b * 2 ^ 1074 < units high * (2 ^ 1074 * 2 ^ 1074))
+  unfolding exact
   square-between above below =
-      let s = round binary64 false (units b * units b) (2 ^ 1074 * 2 ^ 1074) in
-      let over : lt (ofBits binary64 low) s ≡ true = subst (λ (z : Float). lt (ofBits binary64 low) z ≡ true) squared above in
-      let under : lt s (ofBits binary64 high) ≡ true = subst (λ (z : Float). lt z (ofBits binary64 high) ≡ true) squared below in
+      let over : lt (float low) exact ≡ true = rw squared at above in
+      let under : lt exact (float high) ≡ true = rw squared at below in
       let c : 0 < 2 ^ 1074 * 2 ^ 1074 = mul-pos (pow-pos 1074) (pow-pos 1074) in
-      let p : T (positive s) = between (ofBits binary64 low) s (ofBits binary64 high) (own low l) (own high h) (lt-le (ofBits binary64 low) s over) (lt-le s (ofBits binary64 high) under) in
-      (stays-above low l (units b * units b) (2 ^ 1074 * 2 ^ 1074) c p over, stays-below high h (units b * units b) (2 ^ 1074 * 2 ^ 1074) c p under)
+      let p : T (positive exact) =
+      between (float low) exact (float high) (own low l) (own high h) (lt-le (float low) exact over) (lt-le exact (float high) under) in
+      (stays-above low l _ _ c p over, stays-below high h _ _ c p under)
 
 -- x * 2 ^ j smallest values beside the square of q * 2 ^ j, with the powers taken out: c is 2 ^ (1074 - j)
 module _ (x q j c : ℕ) (whole : c * 2 ^ j ≡ 2 ^ 1074) where
@@ -136,7 +158,7 @@ module _ (x q j c : ℕ) (whole : c * 2 ^ j ≡ 2 ^ 1074) where
 -- ---- the patterns four below and four above a reduced operand
 
 doubled : (n k : ℕ) → n * 2 ^ suc k ≡ (n + n) * 2 ^ k
-doubled n k = ap (λ (x : ℕ). n * x) (two-pow-succ k) ∙ (let g : n * (2 ^ k + 2 ^ k) ≡ (n + n) * 2 ^ k = omega (arith, mul-add n (2 ^ k) (2 ^ k), add-mul n n (2 ^ k)) in g)
+doubled n k = rw two-pow-succ (omega (arith, mul-add n (2 ^ k) (2 ^ k), add-mul n n (2 ^ k)))
 
 units-are : (b m k : ℕ) → b % 2 ^ 52 + 2 ^ 52 ≡ m → b / 2 ^ 52 - 1 ≡ k → units b ≡ m * 2 ^ k
 units-are b m k e f = ap₂ (λ x y. x * 2 ^ y) e f
@@ -154,7 +176,7 @@ near-by m c s h l a b =
     let n = m - 4 in
     let e : m ≡ n + 4 = omega arith in
     let f : m * c ≡ (n + 4) * c = ap (λ (x : ℕ). x * c) e in
-    record { above = omega arith; below = omega arith }
+    omega arith
 
 module _ (p : ℕ) (r : Reduced p) where
   four-below : (p % 2 ^ 52 + 2 ^ 52 - 4) * 2 ^ (p / 2 ^ 52 - 1) ≤ units (p - 4)
@@ -192,19 +214,19 @@ module _ (p : ℕ) (r : Reduced p) where
 
   -- q's float has the operand's exponent
   pub square-near : (q : ℕ) → 2 ^ 52 ≤ q → q < 2 ^ 53
-      → lt (ofBits binary64 (p - 4)) (mul binary64 (ofBits binary64 (p - p % 2 ^ 52 + (q - 2 ^ 52))) (ofBits binary64 (p - p % 2 ^ 52 + (q - 2 ^ 52)))) ≡ true
-      → lt (mul binary64 (ofBits binary64 (p - p % 2 ^ 52 + (q - 2 ^ 52))) (ofBits binary64 (p - p % 2 ^ 52 + (q - 2 ^ 52)))) (ofBits binary64 (p + 4)) ≡ true
+      → lt (float (p - 4)) (square (p - p % 2 ^ 52 + (q - 2 ^ 52))) ≡ true
+      → lt (square (p - p % 2 ^ 52 + (q - 2 ^ 52))) (float (p + 4)) ≡ true
       → Near (scaled p) (q * q)
   square-near q l u above below =
       let b = p - p % 2 ^ 52 + (q - 2 ^ 52) in
       let m = p % 2 ^ 52 + 2 ^ 52 in
       let j = p / 2 ^ 52 - 1 in
       let c = (2 - p / 2 ^ 52 % 2) * 2 ^ 52 in
-      let w : c * 2 ^ j ≡ 2 ^ 1074 = whole (p / 2 ^ 52) (omega arith) (omega arith) in
-      let s : units b * units b * 2 ^ 1074 ≡ q * 2 ^ j * (q * 2 ^ j) * 2 ^ 1074 = ap (λ (x : ℕ). x * x * 2 ^ 1074) (units-are b q j (omega arith) (omega arith)) in
-      let t =
-      square-between (p - 4) b (p + 4) (record { least = omega arith; most = omega arith }) (record { least = omega arith; most = omega arith }) (record { least = omega arith; most = omega arith }) above below in
-      let o : (m - 4) * c < q * q = over (m - 4) q j c w (lt-of-le-of-lt (mul-le-mul-right (2 ^ 1074 * 2 ^ 1074) four-below) (lt-of-lt-of-le (t .0) (le-of-eq s))) in
-      let v : q * q < (m + 8) * c = under (m + 8) q j c w (lt-of-lt-of-le (lt-of-le-of-lt (le-of-eq (sym s)) (t .1)) (mul-le-mul-right (2 ^ 1074 * 2 ^ 1074) four-above)) in
       let few : c ≤ 2 ^ 53 = omega arith in
-      subst (λ (n : ℕ). Near n (q * q)) (sym (mul-assoc m (2 - p / 2 ^ 52 % 2) (2 ^ 52))) (near-by m c (q * q) (omega arith) few o v)
+      let w : c * 2 ^ j ≡ 2 ^ 1074 = whole (p / 2 ^ 52) (omega arith) (omega arith) in
+      let s : units b ≡ q * 2 ^ j = units-are b q j (omega arith) (omega arith) in
+      let t = square-between (p - 4) b (p + 4) (omega arith) (omega arith) (omega arith) above below in
+      let low = lt-of-le-of-lt (mul-le-mul-right (2 ^ 1074 * 2 ^ 1074) four-below) (rw s at (t .0)) in
+      let high = lt-of-lt-of-le (rw s at (t .1)) (mul-le-mul-right (2 ^ 1074 * 2 ^ 1074) four-above) in
+      subst (λ (n : ℕ). Near n (q * q)) (sym (mul-assoc m (2 - p / 2 ^ 52 % 2) (2 ^ 52)))
+      (near-by m c (q * q) (omega arith) few (over (m - 4) q j c w low) (under (m + 8) q j c w high))

@@ -30,7 +30,8 @@ pub record Unmarked (b s h : ℕ) : Type 0 where
 unmarked : (n m : ℕ) → n + m * 2 ^ 63 < 2 ^ 63 → (m ≡ 0) × (n ≡ n + m * 2 ^ 63)
 unmarked n m l = (omega arith, omega arith)
 
-module _ (x : Float) (b s h m : ℕ) (own : 2 ^ 52 ≤ b → x ≡ ofBits binary64 b) (fits : h * 2 ^ 52 + s ≤ 2047 * 2 ^ 52) (sure : m ≡ 0 → Unmarked b s h) where
+module _ (x : Float) (b s h m : ℕ) (own : 2 ^ 52 ≤ b → x ≡ ofBits binary64 b) (fits : h * 2 ^ 52 + s ≤ 2047 * 2 ^ 52)
+    (sure : m ≡ 0 → Unmarked b s h) where
   abbrev Says : ℕ → Type 0
   Says t = (t ≤ 2047 * 2 ^ 52) × (ofBits binary64 t ≡ squareRoot x)
 

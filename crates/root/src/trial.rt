@@ -54,7 +54,8 @@ fn apart(pattern: u64, q: u64) -> u64
 }
 
 // The root's 53 digits for a reduced operand, from the bits of an estimate: those of the estimate, or
-// of a neighbour. A difference of 3 * 2 ^ 52 or more is an objection.
+// of a neighbour. `up` is 1 where n is above q² + q, and `down` where it is not above q² - q; both are
+// carries into digit 62. A difference of 3 * 2 ^ 52 or more is an objection.
 pub fn try_digits(pattern: u64, estimate: u64) -> Trial
     requires { ⌜ Reduced pattern ⌝ }
     ensures { λ r. ⌜ TriedDigits pattern (r .digits) (r .objections) ⌝ }

@@ -64,7 +64,9 @@ loop-again c =
     let i = b .loop .i in (
       search needs,
       search needs,
-      ap₂ (λ x y. set x i y) (b .loop .inv .2) (c .settled .ensures ∙ ap squareRoot (same b)) ∙ mapFirst-set squareRoot i l _ ∙ ap (λ (n : ℕ). mapFirst squareRoot n l) (sym (add-one i)),
+      ap₂ (λ x y. set x i y) (b .loop .inv .2) (c .settled .ensures ∙ ap squareRoot (same b))
+          ∙ mapFirst-set squareRoot i l _
+          ∙ ap (λ (n : ℕ). mapFirst squareRoot n l) (sym (add-one i)),
     )
 
 same-length : tie.Need-same-length Inv-loop μ-loop

@@ -42,7 +42,8 @@ returns : tie.Need-returns
 returns c = record {
   most = search needs;
   few = search needs;
-  nearest = λ z. tried-digits _ _ _ _ _ (omega arith) (c .before .low-difference .ensures .1) (omega arith) (c .apart .ensures .1 (omega arith)) (omega arith);
+  nearest = λ z. tried-digits _ _ _ _ _ (omega arith) (c .before .low-difference .ensures .1) (omega arith)
+      (c .apart .ensures .1 (omega arith)) (omega arith);
 }
 
 pub try-digits-spec : {M : Type 1} → statement M
