@@ -7,19 +7,14 @@ pub mod floats;
 #[cfg(feature = "original")]
 pub mod models;
 pub mod points;
+pub mod roots;
 #[cfg(feature = "original")]
 pub mod sparse;
 
 use std::collections::BTreeMap;
 
-use crate::host::{self, ROW};
-use crate::roots::hardware_sqrt;
-
 /// The pattern of a NaN that was computed.
 const COMPUTED_NAN: u64 = 0x7ff8_0000_0000_0000;
-
-/// How many roots are compared.
-const ROOTS: usize = 20_000_000;
 
 /// A small generator of numbers (splitmix64).
 pub struct Random(u64);
@@ -115,34 +110,4 @@ fn operand(random: &mut Random) -> f64 {
         6 => f64::from_bits(any & 0x7fff_ffff_0000_0000),
         _ => f64::from_bits(any >> (12 + random.next() % 52)),
     }
-}
-
-/// Compares roots, alone and in rows. Answers how many differ.
-pub fn roots() -> usize {
-    let mut random = Random(7);
-    let mut wrong = 0;
-    for _ in 0..ROOTS / ROW {
-        let numbers = [(); ROW].map(|_| operand(&mut random));
-        let mut row = numbers;
-        host::sqrt_row(&mut row);
-        for (x, in_row) in numbers.into_iter().zip(row) {
-            let expected = computed(hardware_sqrt(x));
-            for got in [host::sqrt(x).to_bits(), in_row.to_bits()] {
-                if got != expected {
-                    wrong += 1;
-                    if wrong <= 10 {
-                        println!(
-                            "root of {:016x}: {got:016x}, not {expected:016x}",
-                            x.to_bits()
-                        );
-                    }
-                }
-            }
-        }
-    }
-    println!(
-        "check: {} roots, alone and in rows, {wrong} wrong",
-        ROOTS / ROW * ROW
-    );
-    wrong
 }

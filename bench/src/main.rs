@@ -37,7 +37,7 @@ fn main() -> ExitCode {
 }
 
 fn compare_bits() -> ExitCode {
-    let wrong = check::roots() + check::floats::values() + check::points::values();
+    let wrong = check::roots::values() + check::floats::values() + check::points::values();
     #[cfg(feature = "original")]
     let wrong = wrong + check::models::values() + check::fields::values() + check::sparse::values();
     #[cfg(not(feature = "original"))]
