@@ -26,8 +26,9 @@ pub extern "C" fn bench_cell_corner(
     corner: usize,
     out: &mut [f64; 3],
 ) -> u32
-    ensures { λ r. ⌜ r ≡ cellCornersOf (vec3 x y z) cell (vec3i nx ny nz) (vec3i i j k) .refused ⌝ }
-    ensures { λ _. ⌜ now (out .exit) ≡ coordinates (getD (cellCornersOf (vec3 x y z) cell (vec3i nx ny nz) (vec3i i j k) .points) (corner % 8) (vec3 past past past)) ⌝ }
+    ensures answer { λ r. ⌜ r ≡ cellCornersOf (vec3 x y z) cell (vec3i nx ny nz) (vec3i i j k) .refused ⌝ }
+    ensures out { λ _. ⌜ now (out .exit)
+        ≡ coordinates (getD (cellCornersOf (vec3 x y z) cell (vec3i nx ny nz) (vec3i i j k) .points) (corner % 8) (vec3 past past past)) ⌝ }
 {
     let n = Vec3i {
         i: nx,

@@ -5,7 +5,7 @@ ghost use Prim.Native.Nat.{min};
 ghost use lib.ListN.{drop};
 ghost use Rattle.root.specs.Root.{squareRoot};
 ghost use Rattle.model.specs.Model.{valuesTo, modelValue};
-ghost use Rattle.model.specs.Flat.{flatOf, partsOf};
+ghost use Rattle.model.specs.Flat.{flatIn, partsOf};
 ghost use Rattle.model.specs.Row.{evaluatedRows};
 
 mod cells; // cells.rt: the cells of a dense field
@@ -39,8 +39,9 @@ pub extern "C" fn bench_evaluate(
     z: f64,
     values: &mut [f64; 64],
 ) -> f64
-    ensures { λ r. ⌜ r ≡ modelValue (partsOf (flatOf (now (words .entry)) (now (numbers .entry))) (min count 64)) (min count 64) x y z ⌝ }
-    ensures { λ _. ⌜ now (values .exit) ≡ valuesTo (partsOf (flatOf (now (words .entry)) (now (numbers .entry))) (min count 64)) x y z (min count 64) ++ drop (min count 64) (now (values .entry)) ⌝ }
+    ensures answer { λ r. ⌜ r ≡ modelValue (partsOf (flatIn words numbers) (min count 64)) (min count 64) x y z ⌝ }
+    ensures values { λ _. ⌜ now (values .exit)
+        ≡ valuesTo (partsOf (flatIn words numbers) (min count 64)) x y z (min count 64) ++ drop (min count 64) (now (values .entry)) ⌝ }
 {
     model::evaluate_flat(words, numbers, count, x, y, z, values)
 }
@@ -57,7 +58,8 @@ pub extern "C" fn bench_evaluate_row(
     n: usize,
     values: &mut [f64; 4096],
 )
-    ensures { λ _. ⌜ now (values .exit) ≡ evaluatedRows (flatOf (now (words .entry)) (now (numbers .entry))) (min count 64) (min n 64) (now (px .entry)) (now (py .entry)) (now (pz .entry)) (now (values .entry)) ⌝ }
+    ensures { λ _. ⌜ now (values .exit)
+        ≡ evaluatedRows (flatIn words numbers) (min count 64) (min n 64) (now (px .entry)) (now (py .entry)) (now (pz .entry)) (now (values .entry)) ⌝ }
 {
     model::evaluate_row(words, numbers, count, px, py, pz, n, values);
 }

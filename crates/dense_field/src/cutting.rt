@@ -35,8 +35,9 @@ fn cut_all(limit: f64, values: &mut [f64])
 
 // Sets every value whose size is below the limit to +0. A refusal changes nothing.
 pub fn threshold(n: Vec3i, limit: f64, values: &mut [f64]) -> Outcome
-    ensures { λ r. ⌜ r ≡ outcomeOf n (length (now (values .entry))) ⌝ }
-    ensures { λ _. ⌜ now (values .exit) ≡ cond (valuesRefused n (length (now (values .entry)))) (now (values .entry)) (thresholded limit (now (values .entry))) ⌝ }
+    ensures answer { λ r. ⌜ r ≡ outcomeOf n (length (now (values .entry))) ⌝ }
+    ensures values { λ _. ⌜ now (values .exit)
+        ≡ cond (valuesRefused n (length (now (values .entry)))) (now (values .entry)) (thresholded limit (now (values .entry))) ⌝ }
 {
     if count::values_refused(n, values.len()) {
         return Outcome::Refused(9);

@@ -29,7 +29,8 @@ pub fn fill(value: f64, values: &mut [f64], at: usize, count: usize)
 fn pad_row(n: Vec3i, value: f64, values: &mut [f64], j: usize, k: usize)
     requires { ⌜ Lent n (length (now values)) ⌝ }
     requires { ⌜ (j < n .j) × (0 < k) × (k + 1 < n .k) ⌝ }
-    ensures { λ _. ⌜ now (values .exit) ≡ filled (k * (n .i * n .j) + j * n .i) (n .i) (paddedAt n value (now (values .entry))) (now (values .entry)) ⌝ }
+    ensures { λ _. ⌜ now (values .exit)
+        ≡ filled (k * (n .i * n .j) + j * n .i) (n .i) (paddedAt n value (now (values .entry))) (now (values .entry)) ⌝ }
 {
     let row = n.i;
     let at = k * (n.i * n.j) + j * row;
@@ -81,8 +82,9 @@ fn pad_slabs(n: Vec3i, value: f64, values: &mut [f64])
 // Sets every point with an index 0 or last to a value. No other point is written. A refusal changes
 // nothing.
 pub fn padding(n: Vec3i, value: f64, values: &mut [f64]) -> Outcome
-    ensures { λ r. ⌜ r ≡ outcomeOf n (length (now (values .entry))) ⌝ }
-    ensures { λ _. ⌜ now (values .exit) ≡ cond (valuesRefused n (length (now (values .entry)))) (now (values .entry)) (padded n value (now (values .entry))) ⌝ }
+    ensures answer { λ r. ⌜ r ≡ outcomeOf n (length (now (values .entry))) ⌝ }
+    ensures values { λ _. ⌜ now (values .exit)
+        ≡ cond (valuesRefused n (length (now (values .entry)))) (now (values .entry)) (padded n value (now (values .entry))) ⌝ }
 {
     if count::values_refused(n, values.len()) {
         return Outcome::Refused(9);

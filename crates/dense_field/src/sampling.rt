@@ -10,7 +10,7 @@ ghost use lib.ListN.{length, getD};
 ghost use Rattle.lists.specs.Tabulate.{tabulate};
 ghost use Rattle.lists.specs.Filled.{filled};
 ghost use Rattle.geometry.specs.Index.{indicesOf};
-ghost use Rattle.model.specs.Flat.{flatOf};
+ghost use Rattle.model.specs.Flat.{flatIn};
 ghost use Rattle.model.specs.Part.{past, partIn};
 ghost use Rattle.dense_field.specs.Field.{pointsOf};
 ghost use Rattle.dense_field.specs.Lent.{Lent, Run};
@@ -55,9 +55,9 @@ fn fill_stretch(
     count: usize,
 )
     requires { ⌜ (at + count ≤ 64) × (first .i + count ≤ 16777216) ⌝ }
-    ensures { λ _. ⌜ now (px .exit) ≡ filled at count (λ q. axisPoint (origin .x) cell (first .i + (q - at))) (now (px .entry)) ⌝ }
-    ensures { λ _. ⌜ now (py .exit) ≡ filled at count (λ _. axisPoint (origin .y) cell (first .j)) (now (py .entry)) ⌝ }
-    ensures { λ _. ⌜ now (pz .exit) ≡ filled at count (λ _. axisPoint (origin .z) cell (first .k)) (now (pz .entry)) ⌝ }
+    ensures px { λ _. ⌜ now (px .exit) ≡ filled at count (λ q. axisPoint (origin .x) cell (first .i + (q - at))) (now (px .entry)) ⌝ }
+    ensures py { λ _. ⌜ now (py .exit) ≡ filled at count (λ _. axisPoint (origin .y) cell (first .j)) (now (py .entry)) ⌝ }
+    ensures pz { λ _. ⌜ now (pz .exit) ≡ filled at count (λ _. axisPoint (origin .z) cell (first .k)) (now (pz .entry)) ⌝ }
     ensures { λ _. ⌜ (length (now (px .entry)) ≡ 64) × (length (now (py .entry)) ≡ 64) × (length (now (pz .entry)) ≡ 64) ⌝ }
 {
     fill_along(origin.x, cell, first.i, px, at, count);
@@ -142,7 +142,7 @@ fn sample_run(
 )
     requires { ⌜ Lent n (length (now values)) ⌝ }
     requires { ⌜ (at + len ≤ length (now values)) × (len ≤ 64) ⌝ }
-    ensures { λ _. ⌜ now (values .exit) ≡ filled at len (flatAt (flatOf (now (words .entry)) (now (numbers .entry))) (min count 64) origin cell n) (now (values .entry)) ⌝ }
+    ensures { λ _. ⌜ now (values .exit) ≡ filled at len (flatAt (flatIn words numbers) (min count 64) origin cell n) (now (values .entry)) ⌝ }
 {
     fill_points(origin, cell, n, at, len, px, py, pz);
     model::evaluate_row_into(words, numbers, count, px, py, pz, len, scratch, results);
@@ -165,7 +165,7 @@ fn sample_places(
     values: &mut [f64],
 )
     requires { ⌜ Lent n (length (now values)) ⌝ }
-    ensures { λ _. ⌜ now (values .exit) ≡ tabulate (pointsOf n) (flatAt (flatOf (now (words .entry)) (now (numbers .entry))) (min count 64) origin cell n) ⌝ }
+    ensures { λ _. ⌜ now (values .exit) ≡ tabulate (pointsOf n) (flatAt (flatIn words numbers) (min count 64) origin cell n) ⌝ }
 {
     let mut at = 0;
     while at < values.len() {
@@ -214,8 +214,10 @@ pub fn sample(
     n: Vec3i,
     values: &mut [f64],
 ) -> Outcome
-    ensures { λ r. ⌜ r ≡ sampleOutcome (sampleCause model origin cell n (length (now (values .entry)))) ⌝ }
-    ensures { λ _. ⌜ now (values .exit) ≡ cond (eqb (sampleCause model origin cell n (length (now (values .entry)))) 0) (sampled (map partIn (model .parts)) (model .count) origin cell n) (now (values .entry)) ⌝ }
+    ensures answer { λ r. ⌜ r ≡ sampleOutcome (sampleCause model origin cell n (length (now (values .entry)))) ⌝ }
+    ensures values { λ _. ⌜ now (values .exit)
+        ≡ cond (eqb (sampleCause model origin cell n (length (now (values .entry)))) 0)
+        (sampled (map partIn (model .parts)) (model .count) origin cell n) (now (values .entry)) ⌝ }
 {
     let cause = sample_cause(model, origin, cell, n, values.len());
     if cause != 0 {

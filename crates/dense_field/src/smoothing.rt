@@ -164,9 +164,13 @@ pub fn smooth(
     values: &mut [f64],
     scratch: &mut [f64],
 ) -> Outcome
-    ensures { λ r. ⌜ r ≡ cond (smoothRefused n (length (now (values .entry))) (length (now (scratch .entry)))) (Outcome.Refused 9) Outcome.Done ⌝ }
-    ensures { λ _. ⌜ now (values .exit) ≡ cond (smoothRefused n (length (now (values .entry))) (length (now (scratch .entry)))) (now (values .entry)) (smoothed n factor rounds (now (values .entry))) ⌝ }
-    ensures { λ _. ⌜ now (scratch .exit) ≡ cond (smoothRefused n (length (now (values .entry))) (length (now (scratch .entry)))) (now (scratch .entry)) (replicate (length (now (scratch .entry))) plusZero) ⌝ }
+    ensures answer { λ r. ⌜ r ≡ cond (smoothRefused n (length (now (values .entry))) (length (now (scratch .entry)))) (Outcome.Refused 9) Outcome.Done ⌝ }
+    ensures values { λ _. ⌜ now (values .exit)
+        ≡ cond (smoothRefused n (length (now (values .entry))) (length (now (scratch .entry)))) (now (values .entry))
+        (smoothed n factor rounds (now (values .entry))) ⌝ }
+    ensures scratch { λ _. ⌜ now (scratch .exit)
+        ≡ cond (smoothRefused n (length (now (values .entry))) (length (now (scratch .entry)))) (now (scratch .entry))
+        (replicate (length (now (scratch .entry))) plusZero) ⌝ }
 {
     if smooth_refused(n, values.len(), scratch.len()) {
         return Outcome::Refused(9);

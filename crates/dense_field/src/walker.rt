@@ -62,7 +62,10 @@ impl<'a> DenseCellValueIterator<'a> {
 
     // A step that moves the walker's own cell on.
     pub fn next<'s>(&'s mut self) -> OctetWalk
-        ensures { λ r. ⌜ (r ≡ octetWalkOf (now (self .entry) .«point_count») (now (now (self .entry) .«data»)) (now (self .entry) .current)) × (now (self .exit) ≡ walkerAt (now (self .entry) .«data») (now (self .entry) .«point_count») (afterStep (r .step) (now (self .entry) .current))) ⌝ }
+        ensures { λ r. ⌜ (r ≡ octetWalkOf (now (self .entry) .«point_count») (now (now (self .entry) .«data»)) (now (self .entry) .current))
+            ×
+            (now (self .exit) ≡ walkerAt (now (self .entry) .«data») (now (self .entry) .«point_count»)
+            (afterStep (r .step) (now (self .entry) .current))) ⌝ }
     {
         let current = self.current;
         let found = octets::octet_step(self.point_count, self.data, current);

@@ -3,8 +3,10 @@ use Prim.Native.Nat.{ℕ, zero, suc}
 use mathlib.Core.Bool.{Bool, true, false, not, cond, _&&_}
 use mathlib.Core.List.{List, [], _∷_, map}
 use lib.Dec.{eqb, ltb}
+use denote.Ref.{now}
 use lib.ListN.{getD}
 use lib.Ieee.{Float}
+use Rattle.lists.specs.Slices.{LentSlice}
 use Rattle.model.specs.Part.{partIn}
 use Rattle.model.specs.Flat.{flatOf, layoutOf}
 use Rattle.grid.specs.declared.Lengths.{Lengths}
@@ -24,6 +26,13 @@ pub record Carried : Type 0 where
 
 abbrev pub carriedOf : (words parts : List ℕ) (settings reals : List Float) → Carried
 carriedOf words parts settings reals = record { words = words; parts = parts; settings = settings; reals = reals }
+
+-- as a call finds them, and as it leaves them
+abbrev pub carriedIn : (words parts : LentSlice ℕ) (settings reals : LentSlice Float) → Carried
+carriedIn words parts settings reals = carriedOf (now (words .entry)) (now (parts .entry)) (now (settings .entry)) (now (reals .entry))
+
+abbrev pub carriedOut : (words parts : LentSlice ℕ) (settings reals : LentSlice Float) → Carried
+carriedOut words parts settings reals = carriedOf (now (words .exit)) (now (parts .exit)) (now (settings .exit)) (now (reals .exit))
 
 -- ---- a record written
 

@@ -3,8 +3,10 @@ use Prim.Native.Nat.{ℕ, _+_}
 use mathlib.Core.Bool.{cond}
 use mathlib.Core.List.{List}
 use lib.Dec.{ltb}
+use denote.Ref.{now}
 use lib.ListN.{getD}
 use lib.Ieee.{Float}
+use Rattle.lists.specs.Slices.{LentSlice}
 use Rattle.lists.specs.Tabulate.{tabulate}
 use Rattle.geometry.specs.declared.Vec3.{Vec3}
 use Rattle.geometry.specs.declared.Vec3i.{Vec3i}
@@ -16,7 +18,7 @@ use Rattle.model.specs.declared.Part.{Part}
 use Rattle.model.specs.declared.Part.the-variants.{Neg}
 use Rattle.model.specs.declared.ModelComponent.{ModelComponent}
 use Rattle.model.specs.declared.ImplicitModel.{ImplicitModel}
-use Rattle.model.specs.Flat.{Flat, partFrom}
+use Rattle.model.specs.Flat.{Flat, flatIn, partFrom}
 use Rattle.model.specs.Part.{past}
 
 abbrev pub boxGiven : (x0 y0 z0 x1 y1 z1 : Float) → BoundingBox
@@ -64,3 +66,7 @@ inputGiven s inner leaf l count =
       band = record { min = getD s 7 past; max = getD s 8 past };
       model = modelGiven l count;
     }
+
+-- of arrays that are lent, as a call finds them
+abbrev pub inputIn : LentSlice Float → (inner leaf : ℕ) → LentSlice ℕ → LentSlice Float → (count : ℕ) → Input
+inputIn settings inner leaf parts reals count = inputGiven (now (settings .entry)) inner leaf (flatIn parts reals) count

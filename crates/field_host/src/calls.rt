@@ -2,11 +2,10 @@
 // answers 0 where it was accepted, and the number of the cause that refused it. A refused call changes
 // no array and no slice.
 ghost use mathlib.Core.Path.{_≡_};
-ghost use Rattle.model.specs.Flat.{flatOf};
 ghost use Rattle.schedule.specs.Calls.{opens, steps, drops};
-ghost use Rattle.sparse_field.specs.Calls.{memoryOf};
-ghost use Rattle.field_host.specs.Given.{inputGiven};
-ghost use Rattle.field_host.specs.Carried.{carriedOf};
+ghost use Rattle.schedule.specs.Lent.{entered, left};
+ghost use Rattle.field_host.specs.Given.{inputIn};
+ghost use Rattle.field_host.specs.Carried.{carriedIn, carriedOut};
 ghost use Rattle.field_host.specs.Hosted.{answerNumber, carriedAfter, hosted};
 use crate::given::input_given;
 use crate::record;
@@ -21,8 +20,8 @@ fn hand_back(
     settings: &mut [f64; 9],
     reals: &mut [f64; 256],
 ) -> u32
-    ensures { λ r. ⌜ r ≡ answerNumber (outcome .answer) ⌝ }
-    ensures { λ _. ⌜ carriedOf (now (words .exit)) (now (parts .exit)) (now (settings .exit)) (now (reals .exit)) ≡ carriedAfter outcome (carriedOf (now (words .entry)) (now (parts .entry)) (now (settings .entry)) (now (reals .entry))) ⌝ }
+    ensures answer { λ r. ⌜ r ≡ answerNumber (outcome .answer) ⌝ }
+    ensures carried { λ _. ⌜ carriedOut words parts settings reals ≡ carriedAfter outcome (carriedIn words parts settings reals) ⌝ }
 {
     let answer = outcome.answer;
     match answer {
@@ -54,9 +53,15 @@ pub extern "C" fn jisampode_open(
     store: &mut [f64],
     corners: &mut [f64],
 ) -> u32
-    ensures { λ r. ⌜ r ≡ hosted (opens (inputGiven (now (settings .entry)) inner leaf (flatOf (now (parts .entry)) (now (reals .entry))) count)) (carriedOf (now (record_words .entry)) (now (record_parts .entry)) (now (record_settings .entry)) (now (record_reals .entry))) (memoryOf (now (kinds .entry)) (now (numbers .entry)) (now (places .entry)) (now (store .entry)) (now (corners .entry))) .number ⌝ }
-    ensures { λ _. ⌜ carriedOf (now (record_words .exit)) (now (record_parts .exit)) (now (record_settings .exit)) (now (record_reals .exit)) ≡ hosted (opens (inputGiven (now (settings .entry)) inner leaf (flatOf (now (parts .entry)) (now (reals .entry))) count)) (carriedOf (now (record_words .entry)) (now (record_parts .entry)) (now (record_settings .entry)) (now (record_reals .entry))) (memoryOf (now (kinds .entry)) (now (numbers .entry)) (now (places .entry)) (now (store .entry)) (now (corners .entry))) .carried ⌝ }
-    ensures { λ _. ⌜ memoryOf (now (kinds .exit)) (now (numbers .exit)) (now (places .exit)) (now (store .exit)) (now (corners .exit)) ≡ hosted (opens (inputGiven (now (settings .entry)) inner leaf (flatOf (now (parts .entry)) (now (reals .entry))) count)) (carriedOf (now (record_words .entry)) (now (record_parts .entry)) (now (record_settings .entry)) (now (record_reals .entry))) (memoryOf (now (kinds .entry)) (now (numbers .entry)) (now (places .entry)) (now (store .entry)) (now (corners .entry))) .memory ⌝ }
+    ensures answer { λ r. ⌜ r
+        ≡ hosted (opens (inputIn settings inner leaf parts reals count)) (carriedIn record_words record_parts record_settings record_reals)
+        (entered kinds numbers places store corners) .number ⌝ }
+    ensures carried { λ _. ⌜ carriedOut record_words record_parts record_settings record_reals
+        ≡ hosted (opens (inputIn settings inner leaf parts reals count)) (carriedIn record_words record_parts record_settings record_reals)
+        (entered kinds numbers places store corners) .carried ⌝ }
+    ensures memory { λ _. ⌜ left kinds numbers places store corners
+        ≡ hosted (opens (inputIn settings inner leaf parts reals count)) (carriedIn record_words record_parts record_settings record_reals)
+        (entered kinds numbers places store corners) .memory ⌝ }
 {
     let input = input_given(settings, inner, leaf, parts, reals, count);
     let found = sparse_field::no_record();
@@ -84,9 +89,15 @@ pub extern "C" fn jisampode_step(
     store: &mut [f64],
     corners: &mut [f64],
 ) -> u32
-    ensures { λ r. ⌜ r ≡ hosted (steps budget) (carriedOf (now (record_words .entry)) (now (record_parts .entry)) (now (record_settings .entry)) (now (record_reals .entry))) (memoryOf (now (kinds .entry)) (now (numbers .entry)) (now (places .entry)) (now (store .entry)) (now (corners .entry))) .number ⌝ }
-    ensures { λ _. ⌜ carriedOf (now (record_words .exit)) (now (record_parts .exit)) (now (record_settings .exit)) (now (record_reals .exit)) ≡ hosted (steps budget) (carriedOf (now (record_words .entry)) (now (record_parts .entry)) (now (record_settings .entry)) (now (record_reals .entry))) (memoryOf (now (kinds .entry)) (now (numbers .entry)) (now (places .entry)) (now (store .entry)) (now (corners .entry))) .carried ⌝ }
-    ensures { λ _. ⌜ memoryOf (now (kinds .exit)) (now (numbers .exit)) (now (places .exit)) (now (store .exit)) (now (corners .exit)) ≡ hosted (steps budget) (carriedOf (now (record_words .entry)) (now (record_parts .entry)) (now (record_settings .entry)) (now (record_reals .entry))) (memoryOf (now (kinds .entry)) (now (numbers .entry)) (now (places .entry)) (now (store .entry)) (now (corners .entry))) .memory ⌝ }
+    ensures answer { λ r. ⌜ r
+        ≡ hosted (steps budget) (carriedIn record_words record_parts record_settings record_reals)
+        (entered kinds numbers places store corners) .number ⌝ }
+    ensures carried { λ _. ⌜ carriedOut record_words record_parts record_settings record_reals
+        ≡ hosted (steps budget) (carriedIn record_words record_parts record_settings record_reals)
+        (entered kinds numbers places store corners) .carried ⌝ }
+    ensures memory { λ _. ⌜ left kinds numbers places store corners
+        ≡ hosted (steps budget) (carriedIn record_words record_parts record_settings record_reals)
+        (entered kinds numbers places store corners) .memory ⌝ }
 {
     let found = record::decode(record_words, record_parts, record_settings, record_reals);
     let outcome = sparse_field::step(found, budget, kinds, numbers, places, store, corners);
@@ -112,9 +123,12 @@ pub extern "C" fn jisampode_drop(
     store: &mut [f64],
     corners: &mut [f64],
 ) -> u32
-    ensures { λ r. ⌜ r ≡ hosted drops (carriedOf (now (record_words .entry)) (now (record_parts .entry)) (now (record_settings .entry)) (now (record_reals .entry))) (memoryOf (now (kinds .entry)) (now (numbers .entry)) (now (places .entry)) (now (store .entry)) (now (corners .entry))) .number ⌝ }
-    ensures { λ _. ⌜ carriedOf (now (record_words .exit)) (now (record_parts .exit)) (now (record_settings .exit)) (now (record_reals .exit)) ≡ hosted drops (carriedOf (now (record_words .entry)) (now (record_parts .entry)) (now (record_settings .entry)) (now (record_reals .entry))) (memoryOf (now (kinds .entry)) (now (numbers .entry)) (now (places .entry)) (now (store .entry)) (now (corners .entry))) .carried ⌝ }
-    ensures { λ _. ⌜ memoryOf (now (kinds .exit)) (now (numbers .exit)) (now (places .exit)) (now (store .exit)) (now (corners .exit)) ≡ hosted drops (carriedOf (now (record_words .entry)) (now (record_parts .entry)) (now (record_settings .entry)) (now (record_reals .entry))) (memoryOf (now (kinds .entry)) (now (numbers .entry)) (now (places .entry)) (now (store .entry)) (now (corners .entry))) .memory ⌝ }
+    ensures answer { λ r. ⌜ r
+        ≡ hosted drops (carriedIn record_words record_parts record_settings record_reals) (entered kinds numbers places store corners) .number ⌝ }
+    ensures carried { λ _. ⌜ carriedOut record_words record_parts record_settings record_reals
+        ≡ hosted drops (carriedIn record_words record_parts record_settings record_reals) (entered kinds numbers places store corners) .carried ⌝ }
+    ensures memory { λ _. ⌜ left kinds numbers places store corners
+        ≡ hosted drops (carriedIn record_words record_parts record_settings record_reals) (entered kinds numbers places store corners) .memory ⌝ }
 {
     let found = sparse_field::no_record();
     let outcome = sparse_field::drop(found, kinds, numbers, places, store, corners);

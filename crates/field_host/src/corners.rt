@@ -7,8 +7,8 @@ use grid::CornerList;
 
 // Writes the count of an answer, where it has one, and answers its number.
 fn put_count(answer: CornerList, count: &mut [usize; 1]) -> u32
-    ensures { λ r. ⌜ r ≡ cornersNumber answer ⌝ }
-    ensures { λ _. ⌜ now (count .exit) ≡ cornersCount (now (count .entry)) answer ⌝ }
+    ensures answer { λ r. ⌜ r ≡ cornersNumber answer ⌝ }
+    ensures count { λ _. ⌜ now (count .exit) ≡ cornersCount (now (count .entry)) answer ⌝ }
 {
     match answer {
         CornerList::Count(n) => {
@@ -28,9 +28,10 @@ pub extern "C" fn jisampode_corner_list(
     list: &mut [u32],
     count: &mut [usize; 1],
 ) -> u32
-    ensures { λ r. ⌜ r ≡ cornersNumber (cornerListOf inner (now (kinds .entry)) (length (now (list .entry)))) ⌝ }
-    ensures { λ _. ⌜ HoldsCorners (cornerListOf inner (now (kinds .entry)) (length (now (list .entry)))) inner (now (kinds .entry)) (now (list .entry)) (now (list .exit)) ⌝ }
-    ensures { λ _. ⌜ now (count .exit) ≡ cornersCount (now (count .entry)) (cornerListOf inner (now (kinds .entry)) (length (now (list .entry)))) ⌝ }
+    ensures answer { λ r. ⌜ r ≡ cornersNumber (cornerListOf inner (now (kinds .entry)) (length (now (list .entry)))) ⌝ }
+    ensures { λ _. ⌜ HoldsCorners (cornerListOf inner (now (kinds .entry)) (length (now (list .entry)))) inner (now (kinds .entry)) (now (list .entry))
+        (now (list .exit)) ⌝ }
+    ensures count { λ _. ⌜ now (count .exit) ≡ cornersCount (now (count .entry)) (cornerListOf inner (now (kinds .entry)) (length (now (list .entry)))) ⌝ }
 {
     put_count(grid::corner_list(inner, kinds, list), count)
 }

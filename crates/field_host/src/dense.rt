@@ -6,7 +6,7 @@ ghost use lib.Dec.{eqb};
 ghost use lib.ListN.{length, replicate};
 ghost use Rattle.float.specs.Zero.{plusZero};
 ghost use Rattle.geometry.specs.Values.{vec3, vec3i};
-ghost use Rattle.model.specs.Flat.{flatOf};
+ghost use Rattle.model.specs.Flat.{flatIn};
 ghost use Rattle.model.specs.Part.{partIn};
 ghost use Rattle.dense_field.specs.declared.Outcome.the-variants as outcome;
 ghost use Rattle.dense_field.specs.Field.{valuesRefused};
@@ -37,8 +37,8 @@ fn number(outcome: Outcome) -> u32
 
 // Writes the counts of an answer, where it has any, and answers its number.
 fn put_count(answer: PointCount, counts: &mut [usize; 3]) -> u32
-    ensures { λ r. ⌜ r ≡ countNumber answer ⌝ }
-    ensures { λ _. ⌜ now (counts .exit) ≡ countsLeft (now (counts .entry)) answer ⌝ }
+    ensures answer { λ r. ⌜ r ≡ countNumber answer ⌝ }
+    ensures counts { λ _. ⌜ now (counts .exit) ≡ countsLeft (now (counts .entry)) answer ⌝ }
 {
     match answer {
         PointCount::Points(n) => {
@@ -56,8 +56,8 @@ pub extern "C" fn jisampode_point_count(
     cell: f64,
     counts: &mut [usize; 3],
 ) -> u32
-    ensures { λ r. ⌜ r ≡ countNumber (pointCountOf (boxIn (now (bounds .entry))) cell) ⌝ }
-    ensures { λ _. ⌜ now (counts .exit) ≡ countsLeft (now (counts .entry)) (pointCountOf (boxIn (now (bounds .entry))) cell) ⌝ }
+    ensures answer { λ r. ⌜ r ≡ countNumber (pointCountOf (boxIn (now (bounds .entry))) cell) ⌝ }
+    ensures counts { λ _. ⌜ now (counts .exit) ≡ countsLeft (now (counts .entry)) (pointCountOf (boxIn (now (bounds .entry))) cell) ⌝ }
 {
     put_count(dense_field::point_count(box_in(bounds), cell), counts)
 }
@@ -78,8 +78,12 @@ pub extern "C" fn jisampode_sample(
     nz: usize,
     values: &mut [f64],
 ) -> u32
-    ensures { λ r. ⌜ r ≡ outcomeNumber (sampleOutcome (sampleCause (modelGiven (flatOf (now (parts .entry)) (now (reals .entry))) count) (vec3 x y z) cell (vec3i nx ny nz) (length (now (values .entry))))) ⌝ }
-    ensures { λ _. ⌜ now (values .exit) ≡ cond (eqb (sampleCause (modelGiven (flatOf (now (parts .entry)) (now (reals .entry))) count) (vec3 x y z) cell (vec3i nx ny nz) (length (now (values .entry)))) 0) (sampled (map partIn (modelGiven (flatOf (now (parts .entry)) (now (reals .entry))) count .parts)) count (vec3 x y z) cell (vec3i nx ny nz)) (now (values .entry)) ⌝ }
+    ensures answer { λ r. ⌜ r
+        ≡ outcomeNumber
+        (sampleOutcome (sampleCause (modelGiven (flatIn parts reals) count) (vec3 x y z) cell (vec3i nx ny nz) (length (now (values .entry))))) ⌝ }
+    ensures values { λ _. ⌜ now (values .exit)
+        ≡ cond (eqb (sampleCause (modelGiven (flatIn parts reals) count) (vec3 x y z) cell (vec3i nx ny nz) (length (now (values .entry)))) 0)
+        (sampled (map partIn (modelGiven (flatIn parts reals) count .parts)) count (vec3 x y z) cell (vec3i nx ny nz)) (now (values .entry)) ⌝ }
 {
     let model = model_given(parts, reals, count);
     let origin = Vec3 { x, y, z };
@@ -100,8 +104,10 @@ pub extern "C" fn jisampode_padding(
     value: f64,
     values: &mut [f64],
 ) -> u32
-    ensures { λ r. ⌜ r ≡ outcomeNumber (outcomeOf (vec3i nx ny nz) (length (now (values .entry)))) ⌝ }
-    ensures { λ _. ⌜ now (values .exit) ≡ cond (valuesRefused (vec3i nx ny nz) (length (now (values .entry)))) (now (values .entry)) (padded (vec3i nx ny nz) value (now (values .entry))) ⌝ }
+    ensures answer { λ r. ⌜ r ≡ outcomeNumber (outcomeOf (vec3i nx ny nz) (length (now (values .entry)))) ⌝ }
+    ensures values { λ _. ⌜ now (values .exit)
+        ≡ cond (valuesRefused (vec3i nx ny nz) (length (now (values .entry)))) (now (values .entry))
+        (padded (vec3i nx ny nz) value (now (values .entry))) ⌝ }
 {
     let n = Vec3i {
         i: nx,
@@ -120,8 +126,9 @@ pub extern "C" fn jisampode_threshold(
     limit: f64,
     values: &mut [f64],
 ) -> u32
-    ensures { λ r. ⌜ r ≡ outcomeNumber (outcomeOf (vec3i nx ny nz) (length (now (values .entry)))) ⌝ }
-    ensures { λ _. ⌜ now (values .exit) ≡ cond (valuesRefused (vec3i nx ny nz) (length (now (values .entry)))) (now (values .entry)) (thresholded limit (now (values .entry))) ⌝ }
+    ensures answer { λ r. ⌜ r ≡ outcomeNumber (outcomeOf (vec3i nx ny nz) (length (now (values .entry)))) ⌝ }
+    ensures values { λ _. ⌜ now (values .exit)
+        ≡ cond (valuesRefused (vec3i nx ny nz) (length (now (values .entry)))) (now (values .entry)) (thresholded limit (now (values .entry))) ⌝ }
 {
     let n = Vec3i {
         i: nx,
@@ -142,9 +149,15 @@ pub extern "C" fn jisampode_smooth(
     values: &mut [f64],
     scratch: &mut [f64],
 ) -> u32
-    ensures { λ r. ⌜ r ≡ outcomeNumber (cond (smoothRefused (vec3i nx ny nz) (length (now (values .entry))) (length (now (scratch .entry)))) (outcome.Refused 9) outcome.Done) ⌝ }
-    ensures { λ _. ⌜ now (values .exit) ≡ cond (smoothRefused (vec3i nx ny nz) (length (now (values .entry))) (length (now (scratch .entry)))) (now (values .entry)) (smoothed (vec3i nx ny nz) factor rounds (now (values .entry))) ⌝ }
-    ensures { λ _. ⌜ now (scratch .exit) ≡ cond (smoothRefused (vec3i nx ny nz) (length (now (values .entry))) (length (now (scratch .entry)))) (now (scratch .entry)) (replicate (length (now (scratch .entry))) plusZero) ⌝ }
+    ensures answer { λ r. ⌜ r
+        ≡ outcomeNumber
+        (cond (smoothRefused (vec3i nx ny nz) (length (now (values .entry))) (length (now (scratch .entry)))) (outcome.Refused 9) outcome.Done) ⌝ }
+    ensures values { λ _. ⌜ now (values .exit)
+        ≡ cond (smoothRefused (vec3i nx ny nz) (length (now (values .entry))) (length (now (scratch .entry)))) (now (values .entry))
+        (smoothed (vec3i nx ny nz) factor rounds (now (values .entry))) ⌝ }
+    ensures scratch { λ _. ⌜ now (scratch .exit)
+        ≡ cond (smoothRefused (vec3i nx ny nz) (length (now (values .entry))) (length (now (scratch .entry)))) (now (scratch .entry))
+        (replicate (length (now (scratch .entry))) plusZero) ⌝ }
 {
     let n = Vec3i {
         i: nx,

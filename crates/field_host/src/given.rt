@@ -1,8 +1,8 @@
 // A box, a model and a job's input, from numbers.
 ghost use mathlib.Core.Path.{_≡_};
 ghost use Prim.Native.Nat.{_<_};
-ghost use Rattle.model.specs.Flat.{flatOf, partFrom};
-ghost use Rattle.field_host.specs.Given.{boxGiven, boxIn, partCoded, componentGiven, modelGiven, inputGiven};
+ghost use Rattle.model.specs.Flat.{flatIn, partFrom};
+ghost use Rattle.field_host.specs.Given.{inputIn, boxGiven, boxIn, partCoded, componentGiven, modelGiven};
 use geometry::BoundingBox;
 use geometry::Vec3;
 use grid::Band;
@@ -74,7 +74,7 @@ fn part_coded(code: u32, v: Vec3, w: f64, a: u32, b: u32) -> Part
 // The part at a place.
 fn component_given(parts: &[u32; 192], reals: &[f64; 256], p: usize) -> ModelComponent
     requires { ⌜ p < 64 ⌝ }
-    ensures { λ r. ⌜ r ≡ componentGiven (flatOf (now (parts .entry)) (now (reals .entry))) p ⌝ }
+    ensures { λ r. ⌜ r ≡ componentGiven (flatIn parts reals) p ⌝ }
 {
     let v = Vec3 {
         x: reals[p],
@@ -87,7 +87,7 @@ fn component_given(parts: &[u32; 192], reals: &[f64; 256], p: usize) -> ModelCom
 
 // All 64 parts, of which the first `count` are the model.
 pub fn model_given(parts: &[u32; 192], reals: &[f64; 256], count: u32) -> ImplicitModel
-    ensures { λ r. ⌜ r ≡ modelGiven (flatOf (now (parts .entry)) (now (reals .entry))) count ⌝ }
+    ensures { λ r. ⌜ r ≡ modelGiven (flatIn parts reals) count ⌝ }
 {
     let none = ModelComponent {
         part: Part::Constant(0.0),
@@ -111,7 +111,7 @@ pub fn input_given(
     reals: &[f64; 256],
     count: u32,
 ) -> Input
-    ensures { λ r. ⌜ r ≡ inputGiven (now (settings .entry)) inner leaf (flatOf (now (parts .entry)) (now (reals .entry))) count ⌝ }
+    ensures { λ r. ⌜ r ≡ inputIn settings inner leaf parts reals count ⌝ }
 {
     let bounds = box_of(
         settings[0],

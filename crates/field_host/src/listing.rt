@@ -7,8 +7,8 @@ use job_text::Listing;
 
 // Writes the length of a listing, where there is one, and answers its number.
 fn put_length(answer: Listing, written: &mut [usize; 1]) -> u32
-    ensures { λ r. ⌜ r ≡ listingNumber answer ⌝ }
-    ensures { λ _. ⌜ now (written .exit) ≡ listingLength (now (written .entry)) answer ⌝ }
+    ensures answer { λ r. ⌜ r ≡ listingNumber answer ⌝ }
+    ensures written { λ _. ⌜ now (written .exit) ≡ listingLength (now (written .entry)) answer ⌝ }
 {
     match answer {
         Listing::Bytes(end) => {
@@ -24,9 +24,9 @@ fn put_length(answer: Listing, written: &mut [usize; 1]) -> u32
 // bytes, with 0 after it. `written` has its length. Refused by 6 where the bytes are too few.
 #[no_mangle]
 pub extern "C" fn jisampode_list_job(text: &[u8], out: &mut [u8], written: &mut [usize; 1]) -> u32
-    ensures { λ r. ⌜ r ≡ listingNumber (putAnswer (listed (now (text .entry))) (now (out .entry))) ⌝ }
-    ensures { λ _. ⌜ now (out .exit) ≡ putBytes (listed (now (text .entry))) (now (out .entry)) ⌝ }
-    ensures { λ _. ⌜ now (written .exit) ≡ listingLength (now (written .entry)) (putAnswer (listed (now (text .entry))) (now (out .entry))) ⌝ }
+    ensures answer { λ r. ⌜ r ≡ listingNumber (putAnswer (listed (now (text .entry))) (now (out .entry))) ⌝ }
+    ensures out { λ _. ⌜ now (out .exit) ≡ putBytes (listed (now (text .entry))) (now (out .entry)) ⌝ }
+    ensures written { λ _. ⌜ now (written .exit) ≡ listingLength (now (written .entry)) (putAnswer (listed (now (text .entry))) (now (out .entry))) ⌝ }
 {
     put_length(job_text::list_job(text, out), written)
 }

@@ -20,8 +20,9 @@ fn words_number(words: &[u64; 18]) -> u32
 // Nodes, active children, leaves so far, their points, and evaluations so far.
 #[no_mangle]
 pub extern "C" fn jisampode_counts(record_words: &[u64; 18], counts: &mut [u64; 5]) -> u32
-    ensures { λ r. ⌜ r ≡ wordsNumber (now (record_words .entry)) ⌝ }
-    ensures { λ _. ⌜ now (counts .exit) ≡ cond (eqb (wordsNumber (now (record_words .entry))) 0) (countsList (countsGiven (now (record_words .entry)))) (now (counts .entry)) ⌝ }
+    ensures answer { λ r. ⌜ r ≡ wordsNumber (now (record_words .entry)) ⌝ }
+    ensures counts { λ _. ⌜ now (counts .exit)
+        ≡ cond (eqb (wordsNumber (now (record_words .entry))) 0) (countsList (countsGiven (now (record_words .entry)))) (now (counts .entry)) ⌝ }
 {
     let number = words_number(record_words);
     if number == 0 {
@@ -35,8 +36,9 @@ pub extern "C" fn jisampode_counts(record_words: &[u64; 18], counts: &mut [u64; 
 // the node, the corner or child, and the point, each 0 where there is none.
 #[no_mangle]
 pub extern "C" fn jisampode_cursor(record_words: &[u64; 18], cursor: &mut [u64; 4]) -> u32
-    ensures { λ r. ⌜ r ≡ wordsNumber (now (record_words .entry)) ⌝ }
-    ensures { λ _. ⌜ now (cursor .exit) ≡ cond (eqb (wordsNumber (now (record_words .entry))) 0) (cursorWords (cursorGiven (now (record_words .entry)))) (now (cursor .entry)) ⌝ }
+    ensures answer { λ r. ⌜ r ≡ wordsNumber (now (record_words .entry)) ⌝ }
+    ensures cursor { λ _. ⌜ now (cursor .exit)
+        ≡ cond (eqb (wordsNumber (now (record_words .entry))) 0) (cursorWords (cursorGiven (now (record_words .entry)))) (now (cursor .entry)) ⌝ }
 {
     let number = words_number(record_words);
     if number == 0 {

@@ -1,7 +1,26 @@
 // A record in four arrays: 18 words, the model's codes and inputs, nine settings, the model's numbers.
 // Reading takes any arrays. Those that no record has read as a record that step refuses by 8.
 ghost use mathlib.Core.Path.{_≡_};
-ghost use Rattle.field_host.specs.Carried.{carriedOf, fits, lengthsGiven, countsGiven, cursorGiven, cursorOf, flagWord, cursorTag, cursorNode, cursorPlace, cursorPoint, unread, recordGiven, decoded, wordsOf, settingsOf, encoded};
+ghost use Rattle.field_host.specs.Carried.{
+  carriedIn,
+  carriedOut,
+  fits,
+  lengthsGiven,
+  countsGiven,
+  cursorGiven,
+  cursorOf,
+  flagWord,
+  cursorTag,
+  cursorNode,
+  cursorPlace,
+  cursorPoint,
+  unread,
+  recordGiven,
+  decoded,
+  wordsOf,
+  settingsOf,
+  encoded,
+};
 use crate::given::input_given;
 use grid::Lengths;
 use sparse_field::Counts;
@@ -116,7 +135,7 @@ pub fn decode(
     settings: &[f64; 9],
     reals: &[f64; 256],
 ) -> Record
-    ensures { λ r. ⌜ r ≡ decoded (carriedOf (now (words .entry)) (now (parts .entry)) (now (settings .entry)) (now (reals .entry))) ⌝ }
+    ensures { λ r. ⌜ r ≡ decoded (carriedIn words parts settings reals) ⌝ }
 {
     if !words_fit(words) {
         return unread_record(words[0] != 0);
@@ -224,7 +243,7 @@ pub fn encode(
     settings: &mut [f64; 9],
     reals: &mut [f64; 256],
 )
-    ensures { λ _. ⌜ carriedOf (now (words .exit)) (now (parts .exit)) (now (settings .exit)) (now (reals .exit)) ≡ encoded r ⌝ }
+    ensures { λ _. ⌜ carriedOut words parts settings reals ≡ encoded r ⌝ }
 {
     let input = r.input;
     put_words(r, words);

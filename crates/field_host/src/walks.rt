@@ -6,7 +6,20 @@ ghost use Rattle.geometry.specs.Values.{vec3i};
 ghost use Rattle.dense_field.specs.Walks.{pointStep, cellStep};
 ghost use Rattle.dense_field.specs.Cells.{octetWalkOf};
 ghost use Rattle.field_host.specs.Given.{boxIn, indicesIn};
-ghost use Rattle.field_host.specs.Answers.{coordinates, ends, indexList, pointNumber, pointCursor, pointLeft, cellNumber, cellCursor, cellLeft, octetNumber, octetCursor, octetLeft};
+ghost use Rattle.field_host.specs.Answers.{
+  coordinates,
+  ends,
+  indexList,
+  pointNumber,
+  pointCursor,
+  pointLeft,
+  cellNumber,
+  cellCursor,
+  cellLeft,
+  octetNumber,
+  octetCursor,
+  octetLeft,
+};
 use crate::given::box_in;
 use dense_field::CellStep;
 use dense_field::OctetStep;
@@ -51,9 +64,9 @@ pub fn put_box(b: BoundingBox, out: &mut [f64; 6])
 
 // Writes the point and the next cursor of a step, where it has them, and answers its number.
 fn put_point_step(step: PointStep, cursor: &mut [usize; 3], point: &mut [f64; 3]) -> u32
-    ensures { λ r. ⌜ r ≡ pointNumber step ⌝ }
-    ensures { λ _. ⌜ now (cursor .exit) ≡ pointCursor (now (cursor .entry)) step ⌝ }
-    ensures { λ _. ⌜ now (point .exit) ≡ pointLeft (now (point .entry)) step ⌝ }
+    ensures answer { λ r. ⌜ r ≡ pointNumber step ⌝ }
+    ensures cursor { λ _. ⌜ now (cursor .exit) ≡ pointCursor (now (cursor .entry)) step ⌝ }
+    ensures point { λ _. ⌜ now (point .exit) ≡ pointLeft (now (point .entry)) step ⌝ }
 {
     match step {
         PointStep::Point(p, next) => {
@@ -76,9 +89,11 @@ pub extern "C" fn jisampode_point_step(
     cursor: &mut [usize; 3],
     point: &mut [f64; 3],
 ) -> u32
-    ensures { λ r. ⌜ r ≡ pointNumber (pointStep (boxIn (now (bounds .entry))) (vec3i nx ny nz) (indicesIn (now (cursor .entry)))) ⌝ }
-    ensures { λ _. ⌜ now (cursor .exit) ≡ pointCursor (now (cursor .entry)) (pointStep (boxIn (now (bounds .entry))) (vec3i nx ny nz) (indicesIn (now (cursor .entry)))) ⌝ }
-    ensures { λ _. ⌜ now (point .exit) ≡ pointLeft (now (point .entry)) (pointStep (boxIn (now (bounds .entry))) (vec3i nx ny nz) (indicesIn (now (cursor .entry)))) ⌝ }
+    ensures answer { λ r. ⌜ r ≡ pointNumber (pointStep (boxIn (now (bounds .entry))) (vec3i nx ny nz) (indicesIn (now (cursor .entry)))) ⌝ }
+    ensures cursor { λ _. ⌜ now (cursor .exit)
+        ≡ pointCursor (now (cursor .entry)) (pointStep (boxIn (now (bounds .entry))) (vec3i nx ny nz) (indicesIn (now (cursor .entry)))) ⌝ }
+    ensures point { λ _. ⌜ now (point .exit)
+        ≡ pointLeft (now (point .entry)) (pointStep (boxIn (now (bounds .entry))) (vec3i nx ny nz) (indicesIn (now (cursor .entry)))) ⌝ }
 {
     let n = Vec3i {
         i: nx,
@@ -91,9 +106,9 @@ pub extern "C" fn jisampode_point_step(
 
 // Writes the cell and the next cursor of a step, where it has them, and answers its number.
 fn put_cell_step(step: CellStep, cursor: &mut [usize; 3], cell: &mut [f64; 6]) -> u32
-    ensures { λ r. ⌜ r ≡ cellNumber step ⌝ }
-    ensures { λ _. ⌜ now (cursor .exit) ≡ cellCursor (now (cursor .entry)) step ⌝ }
-    ensures { λ _. ⌜ now (cell .exit) ≡ cellLeft (now (cell .entry)) step ⌝ }
+    ensures answer { λ r. ⌜ r ≡ cellNumber step ⌝ }
+    ensures cursor { λ _. ⌜ now (cursor .exit) ≡ cellCursor (now (cursor .entry)) step ⌝ }
+    ensures cell { λ _. ⌜ now (cell .exit) ≡ cellLeft (now (cell .entry)) step ⌝ }
 {
     match step {
         CellStep::Cell(b, next) => {
@@ -116,9 +131,11 @@ pub extern "C" fn jisampode_cell_step(
     cursor: &mut [usize; 3],
     cell: &mut [f64; 6],
 ) -> u32
-    ensures { λ r. ⌜ r ≡ cellNumber (cellStep (boxIn (now (bounds .entry))) (vec3i nx ny nz) (indicesIn (now (cursor .entry)))) ⌝ }
-    ensures { λ _. ⌜ now (cursor .exit) ≡ cellCursor (now (cursor .entry)) (cellStep (boxIn (now (bounds .entry))) (vec3i nx ny nz) (indicesIn (now (cursor .entry)))) ⌝ }
-    ensures { λ _. ⌜ now (cell .exit) ≡ cellLeft (now (cell .entry)) (cellStep (boxIn (now (bounds .entry))) (vec3i nx ny nz) (indicesIn (now (cursor .entry)))) ⌝ }
+    ensures answer { λ r. ⌜ r ≡ cellNumber (cellStep (boxIn (now (bounds .entry))) (vec3i nx ny nz) (indicesIn (now (cursor .entry)))) ⌝ }
+    ensures cursor { λ _. ⌜ now (cursor .exit)
+        ≡ cellCursor (now (cursor .entry)) (cellStep (boxIn (now (bounds .entry))) (vec3i nx ny nz) (indicesIn (now (cursor .entry)))) ⌝ }
+    ensures cell { λ _. ⌜ now (cell .exit)
+        ≡ cellLeft (now (cell .entry)) (cellStep (boxIn (now (bounds .entry))) (vec3i nx ny nz) (indicesIn (now (cursor .entry)))) ⌝ }
 {
     let n = Vec3i {
         i: nx,
@@ -131,9 +148,9 @@ pub extern "C" fn jisampode_cell_step(
 
 // Writes the octet and the next cursor of a step, where it has them, and answers its number.
 fn put_octet_step(walk: OctetWalk, cursor: &mut [usize; 3], octet: &mut [f64; 8]) -> u32
-    ensures { λ r. ⌜ r ≡ octetNumber (walk .step) ⌝ }
-    ensures { λ _. ⌜ now (cursor .exit) ≡ octetCursor (now (cursor .entry)) (walk .step) ⌝ }
-    ensures { λ _. ⌜ now (octet .exit) ≡ octetLeft (now (octet .entry)) walk ⌝ }
+    ensures answer { λ r. ⌜ r ≡ octetNumber (walk .step) ⌝ }
+    ensures cursor { λ _. ⌜ now (cursor .exit) ≡ octetCursor (now (cursor .entry)) (walk .step) ⌝ }
+    ensures octet { λ _. ⌜ now (octet .exit) ≡ octetLeft (now (octet .entry)) walk ⌝ }
 {
     let step = walk.step;
     let eight = walk.values;
@@ -159,9 +176,11 @@ pub extern "C" fn jisampode_octet_step(
     cursor: &mut [usize; 3],
     octet: &mut [f64; 8],
 ) -> u32
-    ensures { λ r. ⌜ r ≡ octetNumber (octetWalkOf (vec3i nx ny nz) (now (values .entry)) (indicesIn (now (cursor .entry))) .step) ⌝ }
-    ensures { λ _. ⌜ now (cursor .exit) ≡ octetCursor (now (cursor .entry)) (octetWalkOf (vec3i nx ny nz) (now (values .entry)) (indicesIn (now (cursor .entry))) .step) ⌝ }
-    ensures { λ _. ⌜ now (octet .exit) ≡ octetLeft (now (octet .entry)) (octetWalkOf (vec3i nx ny nz) (now (values .entry)) (indicesIn (now (cursor .entry)))) ⌝ }
+    ensures answer { λ r. ⌜ r ≡ octetNumber (octetWalkOf (vec3i nx ny nz) (now (values .entry)) (indicesIn (now (cursor .entry))) .step) ⌝ }
+    ensures cursor { λ _. ⌜ now (cursor .exit)
+        ≡ octetCursor (now (cursor .entry)) (octetWalkOf (vec3i nx ny nz) (now (values .entry)) (indicesIn (now (cursor .entry))) .step) ⌝ }
+    ensures octet { λ _. ⌜ now (octet .exit)
+        ≡ octetLeft (now (octet .entry)) (octetWalkOf (vec3i nx ny nz) (now (values .entry)) (indicesIn (now (cursor .entry)))) ⌝ }
 {
     let n = Vec3i {
         i: nx,

@@ -29,8 +29,8 @@ fn show_off(line: u64) {
 
 // Counts one line, and names it where it is wrong or off its form.
 fn count_line(text: &[u8], line: u64, cases: &mut [u64; 6], wrong: &mut [u64; 6])
-    ensures { λ _. ⌜ now (cases .exit) ≡ casesAfter (verdictOf (now (text .entry))) (operationOf (now (text .entry))) (now (cases .entry)) ⌝ }
-    ensures { λ _. ⌜ now (wrong .exit) ≡ wrongAfter (verdictOf (now (text .entry))) (operationOf (now (text .entry))) (now (wrong .entry)) ⌝ }
+    ensures cases { λ _. ⌜ now (cases .exit) ≡ casesAfter (verdictOf (now (text .entry))) (operationOf (now (text .entry))) (now (cases .entry)) ⌝ }
+    ensures wrong { λ _. ⌜ now (wrong .exit) ≡ wrongAfter (verdictOf (now (text .entry))) (operationOf (now (text .entry))) (now (wrong .entry)) ⌝ }
 {
     let op = case::named_operation(text);
     match case::check_line(text) {

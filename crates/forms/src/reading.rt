@@ -135,7 +135,8 @@ fn keep(piece: u8, x: u64, count: usize, values: &mut [u64; 6])
 // A line of a form with at most six numbers, none of its decimal ones above a limit.
 pub fn read_form(text: &[u8], at: usize, form: &[u8], limit: u64) -> Read
     requires { ⌜ (at ≤ length (now text)) × (fields (map pieceOf (now form)) ≤ 6) × (limit < 1152921504606846976) ⌝ }
-    ensures { λ r. ⌜ Reads (now (text .entry)) (fields (map pieceOf (now (form .entry)))) (readForm limit (map pieceOf (now (form .entry))) (drop at (now (text .entry)))) r ⌝ }
+    ensures { λ r. ⌜ Reads (now (text .entry)) (fields (map pieceOf (now (form .entry))))
+        (readForm limit (map pieceOf (now (form .entry))) (drop at (now (text .entry)))) r ⌝ }
 {
     let mut values = [0u64; 6];
     let mut count: usize = 0;

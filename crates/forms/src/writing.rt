@@ -48,8 +48,8 @@ fn piece_length(piece: u8, x: u64) -> usize
 // Puts a piece of a form at a place, and answers where it ends.
 fn put_piece(piece: u8, x: u64, at: usize, out: &mut [u8]) -> usize
     requires { ⌜ at + length (spellPiece (pieceOf piece) x) ≤ length (now out) ⌝ }
-    ensures { λ r. ⌜ r ≡ at + length (spellPiece (pieceOf piece) x) ⌝ }
-    ensures { λ _. ⌜ now (out .exit) ≡ sets (now (out .entry)) at (spellPiece (pieceOf piece) x) ⌝ }
+    ensures answer { λ r. ⌜ r ≡ at + length (spellPiece (pieceOf piece) x) ⌝ }
+    ensures out { λ _. ⌜ now (out .exit) ≡ sets (now (out .entry)) at (spellPiece (pieceOf piece) x) ⌝ }
 {
     if piece == 72 {
         put_hex(x, at, out);
@@ -95,8 +95,8 @@ pub fn form_length(form: &[u8], numbers: &[u64]) -> usize
 // Puts a line at a place, and answers where it ends.
 pub fn put_form(form: &[u8], numbers: &[u64], at: usize, out: &mut [u8]) -> usize
     requires { ⌜ at + length (spell (map pieceOf (now form)) (now numbers)) ≤ length (now out) ⌝ }
-    ensures { λ r. ⌜ r ≡ at + length (spell (map pieceOf (now (form .entry))) (now (numbers .entry))) ⌝ }
-    ensures { λ _. ⌜ now (out .exit) ≡ sets (now (out .entry)) at (spell (map pieceOf (now (form .entry))) (now (numbers .entry))) ⌝ }
+    ensures answer { λ r. ⌜ r ≡ at + length (spell (map pieceOf (now (form .entry))) (now (numbers .entry))) ⌝ }
+    ensures out { λ _. ⌜ now (out .exit) ≡ sets (now (out .entry)) at (spell (map pieceOf (now (form .entry))) (now (numbers .entry))) ⌝ }
 {
     let mut place = at;
     let mut count: usize = 0;

@@ -92,7 +92,9 @@ fn gather(corners: usize, list: &mut [u32]) -> usize
 // Writes each needed corner once, zeroes the rest of the list, and counts them.
 fn list_needed(n: usize, kinds: &[u8], list: &mut [u32]) -> usize
     requires { ⌜ (n ≤ 64) × (length (now kinds) ≡ cube n) × (cube (n + 1) ≤ length (now list)) ⌝ }
-    ensures { λ r. ⌜ (length (now (list .exit)) ≡ length (now (list .entry))) × (r ≡ countBelow (cube (n + 1)) (needed n (nonzero (now (kinds .entry))))) × CornersOnce (needed n (nonzero (now (kinds .entry)))) r (now (list .exit)) ⌝ }
+    ensures { λ r. ⌜ (length (now (list .exit)) ≡ length (now (list .entry)))
+        × (r ≡ countBelow (cube (n + 1)) (needed n (nonzero (now (kinds .entry)))))
+        × CornersOnce (needed n (nonzero (now (kinds .entry)))) r (now (list .exit)) ⌝ }
 {
     zero_from(0, list);
     mark(n, kinds, list);
@@ -104,7 +106,8 @@ fn list_needed(n: usize, kinds: &[u8], list: &mut [u32]) -> usize
 // Writes each corner that an active child of the node needs once, in no promised order, zeroes the
 // rest of the list, and answers how many they are. A kind that is not 0 is an active child.
 pub fn corner_list(inner: u32, kinds: &[u8], list: &mut [u32]) -> CornerList
-    ensures { λ r. ⌜ (r ≡ cornerListOf inner (now (kinds .entry)) (length (now (list .entry)))) × HoldsCorners r inner (now (kinds .entry)) (now (list .entry)) (now (list .exit)) ⌝ }
+    ensures { λ r. ⌜ (r ≡ cornerListOf inner (now (kinds .entry)) (length (now (list .entry))))
+        × HoldsCorners r inner (now (kinds .entry)) (now (list .entry)) (now (list .exit)) ⌝ }
 {
     if !is_block(inner) {
         return CornerList::Refused(2);

@@ -135,9 +135,9 @@ pub fn octet_values(values: &[f64], n: u32, c: usize) -> [f64; 8]
 // Writes a point's coordinates at a place of a row.
 fn store_point(p: Vec3, q: usize, xs: &mut [f64; 64], ys: &mut [f64; 64], zs: &mut [f64; 64])
     requires { ⌜ q < 64 ⌝ }
-    ensures { λ _. ⌜ now (xs .exit) ≡ set (now (xs .entry)) q (p .x) ⌝ }
-    ensures { λ _. ⌜ now (ys .exit) ≡ set (now (ys .entry)) q (p .y) ⌝ }
-    ensures { λ _. ⌜ now (zs .exit) ≡ set (now (zs .entry)) q (p .z) ⌝ }
+    ensures xs { λ _. ⌜ now (xs .exit) ≡ set (now (xs .entry)) q (p .x) ⌝ }
+    ensures ys { λ _. ⌜ now (ys .exit) ≡ set (now (ys .entry)) q (p .y) ⌝ }
+    ensures zs { λ _. ⌜ now (zs .exit) ≡ set (now (zs .entry)) q (p .z) ⌝ }
 {
     xs[q] = p.x;
     ys[q] = p.y;
@@ -155,9 +155,9 @@ pub fn leaf_points(
     zs: &mut [f64; 64],
 )
     requires { ⌜ (0 < l) × (count ≤ 64) × (first + count < 2 ^ 64) ⌝ }
-    ensures { λ _. ⌜ now (xs .exit) ≡ filled 0 count (λ q. leafPoint b l (first + q) .x) (now (xs .entry)) ⌝ }
-    ensures { λ _. ⌜ now (ys .exit) ≡ filled 0 count (λ q. leafPoint b l (first + q) .y) (now (ys .entry)) ⌝ }
-    ensures { λ _. ⌜ now (zs .exit) ≡ filled 0 count (λ q. leafPoint b l (first + q) .z) (now (zs .entry)) ⌝ }
+    ensures xs { λ _. ⌜ now (xs .exit) ≡ filled 0 count (λ q. leafPoint b l (first + q) .x) (now (xs .entry)) ⌝ }
+    ensures ys { λ _. ⌜ now (ys .exit) ≡ filled 0 count (λ q. leafPoint b l (first + q) .y) (now (ys .entry)) ⌝ }
+    ensures zs { λ _. ⌜ now (zs .exit) ≡ filled 0 count (λ q. leafPoint b l (first + q) .z) (now (zs .entry)) ⌝ }
 {
     let min = b.min;
     let side = l as usize;
@@ -181,9 +181,12 @@ pub fn corner_points(
     zs: &mut [f64; 64],
 )
     requires { ⌜ length (now list) ≤ 64 ⌝ }
-    ensures { λ _. ⌜ now (xs .exit) ≡ filled 0 (length (now (list .entry))) (λ q. corners.cornerPoint b n (getD (now (list .entry)) q 0) .x) (now (xs .entry)) ⌝ }
-    ensures { λ _. ⌜ now (ys .exit) ≡ filled 0 (length (now (list .entry))) (λ q. corners.cornerPoint b n (getD (now (list .entry)) q 0) .y) (now (ys .entry)) ⌝ }
-    ensures { λ _. ⌜ now (zs .exit) ≡ filled 0 (length (now (list .entry))) (λ q. corners.cornerPoint b n (getD (now (list .entry)) q 0) .z) (now (zs .entry)) ⌝ }
+    ensures xs { λ _. ⌜ now (xs .exit)
+        ≡ filled 0 (length (now (list .entry))) (λ q. corners.cornerPoint b n (getD (now (list .entry)) q 0) .x) (now (xs .entry)) ⌝ }
+    ensures ys { λ _. ⌜ now (ys .exit)
+        ≡ filled 0 (length (now (list .entry))) (λ q. corners.cornerPoint b n (getD (now (list .entry)) q 0) .y) (now (ys .entry)) ⌝ }
+    ensures zs { λ _. ⌜ now (zs .exit)
+        ≡ filled 0 (length (now (list .entry))) (λ q. corners.cornerPoint b n (getD (now (list .entry)) q 0) .z) (now (zs .entry)) ⌝ }
 {
     let min = b.min;
     let c = corner_step(b, n);

@@ -17,7 +17,7 @@ use Rattle.schedule.specs.Opened.{lengthsOf}
 use Rattle.schedule.specs.Possible.{impossible}
 use Rattle.schedule.proofs.Possible.{possible}
 use Rattle.sparse_field.specs.declared.Record.{Record}
-use Rattle.sparse_field.specs.Calls.{memoryOf}
+use Rattle.schedule.specs.Lent.{memoryOf}
 use Rattle.sparse_field.specs.Plan.{planWith}
 use Rattle.sparse_field.specs.Records.{sparse, lent, jobIn, countsIn, cursorIn}
 use Rattle.sparse_field.proofs.Judgement.{no-cause, bound-fits}

@@ -22,8 +22,8 @@ fn bits_in(nan: u64, x: f64) -> u64
 // Puts values, each after a space, and answers where they end.
 fn put_values(nan: u64, values: &[f64], at: usize, out: &mut [u8]) -> usize
     requires { ⌜ at + length (valuesText nan (now values)) ≤ length (now out) ⌝ }
-    ensures { λ r. ⌜ r ≡ at + length (valuesText nan (now (values .entry))) ⌝ }
-    ensures { λ _. ⌜ now (out .exit) ≡ sets (now (out .entry)) at (valuesText nan (now (values .entry))) ⌝ }
+    ensures answer { λ r. ⌜ r ≡ at + length (valuesText nan (now (values .entry))) ⌝ }
+    ensures out { λ _. ⌜ now (out .exit) ≡ sets (now (out .entry)) at (valuesText nan (now (values .entry))) ⌝ }
 {
     let mut place = at;
     let mut i: usize = 0;
@@ -39,8 +39,8 @@ fn put_values(nan: u64, values: &[f64], at: usize, out: &mut [u8]) -> usize
 // Puts a leaf's line, and answers where it ends.
 fn put_leaf(nan: u64, v: u64, c: u64, values: &[f64], at: usize, out: &mut [u8]) -> usize
     requires { ⌜ at + length (leafLine nan v c (now values)) ≤ length (now out) ⌝ }
-    ensures { λ r. ⌜ r ≡ at + length (leafLine nan v c (now (values .entry))) ⌝ }
-    ensures { λ _. ⌜ now (out .exit) ≡ sets (now (out .entry)) at (leafLine nan v c (now (values .entry))) ⌝ }
+    ensures answer { λ r. ⌜ r ≡ at + length (leafLine nan v c (now (values .entry))) ⌝ }
+    ensures out { λ _. ⌜ now (out .exit) ≡ sets (now (out .entry)) at (leafLine nan v c (now (values .entry))) ⌝ }
 {
     let numbers = [v, c];
     let first = forms::put_form(b"(leaf D D", &numbers, at, out);
@@ -51,8 +51,8 @@ fn put_leaf(nan: u64, v: u64, c: u64, values: &[f64], at: usize, out: &mut [u8])
 // Puts a constant's line, and answers where it ends.
 fn put_constant(v: u64, c: u64, x: f64, at: usize, out: &mut [u8]) -> usize
     requires { ⌜ at + length (constantLine v c x) ≤ length (now out) ⌝ }
-    ensures { λ r. ⌜ r ≡ at + length (constantLine v c x) ⌝ }
-    ensures { λ _. ⌜ now (out .exit) ≡ sets (now (out .entry)) at (constantLine v c x) ⌝ }
+    ensures answer { λ r. ⌜ r ≡ at + length (constantLine v c x) ⌝ }
+    ensures out { λ _. ⌜ now (out .exit) ≡ sets (now (out .entry)) at (constantLine v c x) ⌝ }
 {
     let bits = float::to_bits(x);
     let numbers = [v, c, bits];
@@ -75,8 +75,8 @@ pub fn put_child(
 ) -> usize
     requires { ⌜ (points ≤ 262144) × (placed points (length (now store)) kind place ≡ true) ⌝ }
     requires { ⌜ at + length (kindLine points nan v c kind x place (now store)) ≤ length (now out) ⌝ }
-    ensures { λ r. ⌜ r ≡ at + length (kindLine points nan v c kind x place (now (store .entry))) ⌝ }
-    ensures { λ _. ⌜ now (out .exit) ≡ sets (now (out .entry)) at (kindLine points nan v c kind x place (now (store .entry))) ⌝ }
+    ensures answer { λ r. ⌜ r ≡ at + length (kindLine points nan v c kind x place (now (store .entry))) ⌝ }
+    ensures out { λ _. ⌜ now (out .exit) ≡ sets (now (out .entry)) at (kindLine points nan v c kind x place (now (store .entry))) ⌝ }
 {
     if kind == 0 {
         return at;

@@ -17,8 +17,8 @@ const ALL: u64 = 18446744073709551615;
 
 // The listing of a job, on memory of its own: 512 children, 4,096 store values and 125 corners.
 fn list_read(job: Job, out: &mut [u8]) -> Listing
-    ensures { λ r. ⌜ r ≡ putAnswer (jobListed job) (now (out .entry)) ⌝ }
-    ensures { λ _. ⌜ now (out .exit) ≡ putBytes (jobListed job) (now (out .entry)) ⌝ }
+    ensures answer { λ r. ⌜ r ≡ putAnswer (jobListed job) (now (out .entry)) ⌝ }
+    ensures out { λ _. ⌜ now (out .exit) ≡ putBytes (jobListed job) (now (out .entry)) ⌝ }
 {
     let mut kinds = [0u8; 512];
     let mut numbers = [0.0; 512];
@@ -62,8 +62,8 @@ fn list_read(job: Job, out: &mut [u8]) -> Listing
 // Puts what `fieldlist` prints for a text at the front of the lent bytes, and 0 after it. The answer is
 // how many bytes that is, or 6 where they do not fit.
 pub fn list_job(text: &[u8], out: &mut [u8]) -> Listing
-    ensures { λ r. ⌜ r ≡ putAnswer (listed (now (text .entry))) (now (out .entry)) ⌝ }
-    ensures { λ _. ⌜ now (out .exit) ≡ putBytes (listed (now (text .entry))) (now (out .entry)) ⌝ }
+    ensures answer { λ r. ⌜ r ≡ putAnswer (listed (now (text .entry))) (now (out .entry)) ⌝ }
+    ensures out { λ _. ⌜ now (out .exit) ≡ putBytes (listed (now (text .entry))) (now (out .entry)) ⌝ }
 {
     let reading = reader::read_job(text);
     let judgement = reading.judgement;
@@ -76,8 +76,8 @@ pub fn list_job(text: &[u8], out: &mut [u8]) -> Listing
 // The same into bytes that hold every listing: it cannot be refused.
 pub fn list_whole(text: &[u8], out: &mut [u8]) -> usize
     requires { ⌜ 88176 ≤ length (now out) ⌝ }
-    ensures { λ r. ⌜ (r ≡ length (listed (now (text .entry)))) × (r ≤ 88176) ⌝ }
-    ensures { λ _. ⌜ now (out .exit) ≡ putBytes (listed (now (text .entry))) (now (out .entry)) ⌝ }
+    ensures answer { λ r. ⌜ (r ≡ length (listed (now (text .entry)))) × (r ≤ 88176) ⌝ }
+    ensures out { λ _. ⌜ now (out .exit) ≡ putBytes (listed (now (text .entry))) (now (out .entry)) ⌝ }
 {
     match list_job(text, out) {
         Listing::Bytes(end) => end,

@@ -8,7 +8,7 @@ ghost use lib.Seq.{sets};
 ghost use Rattle.schedule.specs.JobRecord.{atEnd};
 ghost use Rattle.schedule.specs.Possible.{impossible};
 ghost use Rattle.schedule.specs.Totals.{sumBelow};
-ghost use Rattle.sparse_field.specs.Calls.{memoryOf};
+ghost use Rattle.schedule.specs.Lent.{memoryOf, held, entered};
 ghost use Rattle.sparse_field.specs.Records.{sparse, jobIn, countsIn, cursorIn};
 ghost use Rattle.forms.specs.Forms.{pieceOf, spell};
 ghost use Rattle.job_text.specs.Lengths.{lengthAt, Sizes};
@@ -69,9 +69,16 @@ fn put_lines(
 ) -> usize
     requires { ⌜ Sizes total children points × (total ≤ length (now kinds)) × (total ≤ length (now numbers)) × (total ≤ length (now places)) ⌝ }
     requires { ⌜ allPlaced points (length (now store)) (now kinds) (now places) total 0 ≡ true ⌝ }
-    requires { ⌜ at + length (linesFrom (lineAt children points nan (memoryOf (now kinds) (now numbers) (now places) (now store) [])) total 0) ≤ length (now out) ⌝ }
-    ensures { λ r. ⌜ r ≡ at + length (linesFrom (lineAt children points nan (memoryOf (now (kinds .entry)) (now (numbers .entry)) (now (places .entry)) (now (store .entry)) [])) total 0) ⌝ }
-    ensures { λ _. ⌜ now (out .exit) ≡ sets (now (out .entry)) at (linesFrom (lineAt children points nan (memoryOf (now (kinds .entry)) (now (numbers .entry)) (now (places .entry)) (now (store .entry)) [])) total 0) ⌝ }
+    requires { ⌜ at + length (linesFrom (lineAt children points nan (memoryOf (now kinds) (now numbers) (now places) (now store) [])) total 0) ≤ length
+        (now out) ⌝ }
+    ensures answer { λ r. ⌜ r
+        ≡ at + length
+        (linesFrom
+        (lineAt children points nan (memoryOf (now (kinds .entry)) (now (numbers .entry)) (now (places .entry)) (now (store .entry)) [])) total 0) ⌝ }
+    ensures out { λ _. ⌜ now (out .exit)
+        ≡ sets (now (out .entry)) at
+        (linesFrom
+        (lineAt children points nan (memoryOf (now (kinds .entry)) (now (numbers .entry)) (now (places .entry)) (now (store .entry)) [])) total 0) ⌝ }
 {
     let mut end = at;
     let mut j: usize = 0;
@@ -151,8 +158,13 @@ fn put_listing(
 )
     requires { ⌜ Sizes total children points × (total ≤ length (now kinds)) × (total ≤ length (now numbers)) × (total ≤ length (now places)) ⌝ }
     requires { ⌜ allPlaced points (length (now store)) (now kinds) (now places) total 0 ≡ true ⌝ }
-    requires { ⌜ length (listingTo total children points nan (countsIn counts) (memoryOf (now kinds) (now numbers) (now places) (now store) [])) ≤ length (now out) ⌝ }
-    ensures { λ _. ⌜ now (out .exit) ≡ putBytes (listingTo total children points nan (countsIn counts) (memoryOf (now (kinds .entry)) (now (numbers .entry)) (now (places .entry)) (now (store .entry)) [])) (now (out .entry)) ⌝ }
+    requires { ⌜ length (listingTo total children points nan (countsIn counts) (memoryOf (now kinds) (now numbers) (now places) (now store) [])) ≤ length
+        (now out) ⌝ }
+    ensures { λ _. ⌜ now (out .exit)
+        ≡ putBytes
+        (listingTo total children points nan (countsIn counts)
+        (memoryOf (now (kinds .entry)) (now (numbers .entry)) (now (places .entry)) (now (store .entry)) []))
+        (now (out .entry)) ⌝ }
 {
     let done = done_numbers(counts);
     let first = forms::put_form(b"(done D D D D D)\n", &done, 0, out);
@@ -186,8 +198,16 @@ fn write_placed(
 ) -> Listing
     requires { ⌜ Sizes total children points × (total ≤ length (now kinds)) × (total ≤ length (now numbers)) × (total ≤ length (now places)) ⌝ }
     requires { ⌜ allPlaced points (length (now store)) (now kinds) (now places) total 0 ≡ true ⌝ }
-    ensures { λ r. ⌜ r ≡ putAnswer (listingTo total children points nan (countsIn counts) (memoryOf (now (kinds .entry)) (now (numbers .entry)) (now (places .entry)) (now (store .entry)) [])) (now (out .entry)) ⌝ }
-    ensures { λ _. ⌜ now (out .exit) ≡ putBytes (listingTo total children points nan (countsIn counts) (memoryOf (now (kinds .entry)) (now (numbers .entry)) (now (places .entry)) (now (store .entry)) [])) (now (out .entry)) ⌝ }
+    ensures answer { λ r. ⌜ r
+        ≡ putAnswer
+        (listingTo total children points nan (countsIn counts)
+        (memoryOf (now (kinds .entry)) (now (numbers .entry)) (now (places .entry)) (now (store .entry)) []))
+        (now (out .entry)) ⌝ }
+    ensures out { λ _. ⌜ now (out .exit)
+        ≡ putBytes
+        (listingTo total children points nan (countsIn counts)
+        (memoryOf (now (kinds .entry)) (now (numbers .entry)) (now (places .entry)) (now (store .entry)) []))
+        (now (out .entry)) ⌝ }
 {
     let length = listing_length(counts, total, children, points, kinds);
     if length > out.len() {
@@ -230,9 +250,9 @@ fn write_possible(
     corners: &[f64],
     out: &mut [u8],
 ) -> Listing
-    requires { ⌜ impossible sparse (jobIn «record») (memoryOf (now kinds) (now numbers) (now places) (now store) (now corners)) ≡ false ⌝ }
-    ensures { λ r. ⌜ r ≡ possibleWritten «record» nan (memoryOf (now (kinds .entry)) (now (numbers .entry)) (now (places .entry)) (now (store .entry)) (now (corners .entry))) (now (out .entry)) .answer ⌝ }
-    ensures { λ _. ⌜ now (out .exit) ≡ possibleWritten «record» nan (memoryOf (now (kinds .entry)) (now (numbers .entry)) (now (places .entry)) (now (store .entry)) (now (corners .entry))) (now (out .entry)) .bytes ⌝ }
+    requires { ⌜ impossible sparse (jobIn «record») (held kinds numbers places store corners) ≡ false ⌝ }
+    ensures answer { λ r. ⌜ r ≡ possibleWritten «record» nan (entered kinds numbers places store corners) (now (out .entry)) .answer ⌝ }
+    ensures out { λ _. ⌜ now (out .exit) ≡ possibleWritten «record» nan (entered kinds numbers places store corners) (now (out .entry)) .bytes ⌝ }
 {
     let cursor = record.cursor;
     if !at_end(cursor) {
@@ -273,8 +293,8 @@ pub fn write_listing(
     corners: &[f64],
     out: &mut [u8],
 ) -> Listing
-    ensures { λ r. ⌜ r ≡ written «record» nan (memoryOf (now (kinds .entry)) (now (numbers .entry)) (now (places .entry)) (now (store .entry)) (now (corners .entry))) (now (out .entry)) .answer ⌝ }
-    ensures { λ _. ⌜ now (out .exit) ≡ written «record» nan (memoryOf (now (kinds .entry)) (now (numbers .entry)) (now (places .entry)) (now (store .entry)) (now (corners .entry))) (now (out .entry)) .bytes ⌝ }
+    ensures answer { λ r. ⌜ r ≡ written «record» nan (entered kinds numbers places store corners) (now (out .entry)) .answer ⌝ }
+    ensures out { λ _. ⌜ now (out .exit) ≡ written «record» nan (entered kinds numbers places store corners) (now (out .entry)) .bytes ⌝ }
 {
     if !record.job {
         return Listing::Refused(7);
@@ -288,8 +308,8 @@ pub fn write_listing(
 // Writes one line, if the bytes lent are enough, and 0 after it.
 fn write_line(form: &[u8], numbers: &[u64], out: &mut [u8]) -> Listing
     requires { ⌜ length (now form) ≤ 4096 ⌝ }
-    ensures { λ r. ⌜ r ≡ putAnswer (spell (map pieceOf (now (form .entry))) (now (numbers .entry))) (now (out .entry)) ⌝ }
-    ensures { λ _. ⌜ now (out .exit) ≡ putBytes (spell (map pieceOf (now (form .entry))) (now (numbers .entry))) (now (out .entry)) ⌝ }
+    ensures answer { λ r. ⌜ r ≡ putAnswer (spell (map pieceOf (now (form .entry))) (now (numbers .entry))) (now (out .entry)) ⌝ }
+    ensures out { λ _. ⌜ now (out .exit) ≡ putBytes (spell (map pieceOf (now (form .entry))) (now (numbers .entry))) (now (out .entry)) ⌝ }
 {
     let length = forms::form_length(form, numbers);
     if length > out.len() {
@@ -302,8 +322,8 @@ fn write_line(form: &[u8], numbers: &[u64], out: &mut [u8]) -> Listing
 
 // Writes the line of a refusal by a cause.
 pub fn write_refusal(number: u32, out: &mut [u8]) -> Listing
-    ensures { λ r. ⌜ r ≡ putAnswer (spell refusedForm (number ∷ [])) (now (out .entry)) ⌝ }
-    ensures { λ _. ⌜ now (out .exit) ≡ putBytes (spell refusedForm (number ∷ [])) (now (out .entry)) ⌝ }
+    ensures answer { λ r. ⌜ r ≡ putAnswer (spell refusedForm (number ∷ [])) (now (out .entry)) ⌝ }
+    ensures out { λ _. ⌜ now (out .exit) ≡ putBytes (spell refusedForm (number ∷ [])) (now (out .entry)) ⌝ }
 {
     let numbers = [number as u64];
     write_line(b"(refused D)\n", &numbers, out)
@@ -311,8 +331,8 @@ pub fn write_refusal(number: u32, out: &mut [u8]) -> Listing
 
 // Writes the line of a text that is off its form at a line.
 pub fn write_off(line: u32, out: &mut [u8]) -> Listing
-    ensures { λ r. ⌜ r ≡ putAnswer (spell offForm (line ∷ [])) (now (out .entry)) ⌝ }
-    ensures { λ _. ⌜ now (out .exit) ≡ putBytes (spell offForm (line ∷ [])) (now (out .entry)) ⌝ }
+    ensures answer { λ r. ⌜ r ≡ putAnswer (spell offForm (line ∷ [])) (now (out .entry)) ⌝ }
+    ensures out { λ _. ⌜ now (out .exit) ≡ putBytes (spell offForm (line ∷ [])) (now (out .entry)) ⌝ }
 {
     let numbers = [line as u64];
     write_line(b"(refused 12 D)\n", &numbers, out)

@@ -1,2 +1,3 @@
 pub mod Tabulate
 pub mod Filled
+pub mod Slices

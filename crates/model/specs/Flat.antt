@@ -2,8 +2,10 @@
 use Prim.Native.Nat.{ℕ, _+_}
 use mathlib.Core.Bool.{cond}
 use mathlib.Core.List.{List, [], _∷_, _++_}
+use denote.Ref.{now}
 use lib.ListN.{getD}
 use lib.Ieee.{Float}
+use Rattle.lists.specs.Slices.{LentSlice}
 use Rattle.lists.specs.Tabulate.{tabulate}
 use Rattle.float.specs.Zero.{plusZero}
 use Rattle.geometry.specs.declared.Vec3.{Vec3}
@@ -73,6 +75,10 @@ pub record Flat : Type 0 where
 
 abbrev pub flatOf : List ℕ → List Float → Flat
 flatOf words numbers = record { words = words; numbers = numbers }
+
+-- as a call finds them
+abbrev pub flatIn : LentSlice ℕ → LentSlice Float → Flat
+flatIn words numbers = flatOf (now (words .entry)) (now (numbers .entry))
 
 -- rows of 64, one for each function of a list: its value for the part at each place
 unfoldable pub entryRows : {A : Type 0} → List (Part → A) → List Part → List A

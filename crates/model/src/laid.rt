@@ -33,7 +33,8 @@ fn shape(code: u32, vector: Vec3, number: f64) -> Entry
 }
 
 fn operation(code: u32, first: u32, second: u32) -> Entry
-    ensures { λ r. ⌜ (r .code ≡ code) × (r .first ≡ first) × (r .second ≡ second) × (r .vector ≡ vec3 plusZero plusZero plusZero) × (r .number ≡ plusZero) ⌝ }
+    ensures { λ r. ⌜ (r .code ≡ code)
+        × (r .first ≡ first) × (r .second ≡ second) × (r .vector ≡ vec3 plusZero plusZero plusZero) × (r .number ≡ plusZero) ⌝ }
 {
     Entry {
         code,
@@ -49,7 +50,8 @@ fn operation(code: u32, first: u32, second: u32) -> Entry
 }
 
 pub fn entries(part: Part) -> Entry
-    ensures { λ r. ⌜ (r .code ≡ codeOf part) × (r .first ≡ firstInput part) × (r .second ≡ secondInput part) × (r .vector ≡ vectorOf part) × (r .number ≡ numberOf part) ⌝ }
+    ensures { λ r. ⌜ (r .code ≡ codeOf part) × (r .first ≡ firstInput part) × (r .second ≡ secondInput part) × (r .vector ≡ vectorOf part)
+        × (r .number ≡ numberOf part) ⌝ }
 {
     match part {
         Part::Constant(value) => shape(
@@ -74,8 +76,11 @@ pub fn entries(part: Part) -> Entry
 // Writes a part's entries at its place in each row of 64.
 pub fn store_part(part: Part, p: usize, words: &mut [u32; 192], numbers: &mut [f64; 256])
     requires { ⌜ p < 64 ⌝ }
-    ensures { λ _. ⌜ now (words .exit) ≡ set (set (set (now (words .entry)) p (codeOf part)) (64 + p) (firstInput part)) (128 + p) (secondInput part) ⌝ }
-    ensures { λ _. ⌜ now (numbers .exit) ≡ set (set (set (set (now (numbers .entry)) p (vectorOf part .x)) (64 + p) (vectorOf part .y)) (128 + p) (vectorOf part .z)) (192 + p) (numberOf part) ⌝ }
+    ensures words { λ _. ⌜ now (words .exit)
+        ≡ set (set (set (now (words .entry)) p (codeOf part)) (64 + p) (firstInput part)) (128 + p) (secondInput part) ⌝ }
+    ensures numbers { λ _. ⌜ now (numbers .exit)
+        ≡ set (set (set (set (now (numbers .entry)) p (vectorOf part .x)) (64 + p) (vectorOf part .y)) (128 + p) (vectorOf part .z)) (192 + p)
+        (numberOf part) ⌝ }
 {
     let e = entries(part);
     let v = e.vector;

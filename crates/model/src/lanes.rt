@@ -37,7 +37,9 @@ pub fn fill_plane(
     d: f64,
 )
     requires { ⌜ (p < 64) × (n ≤ 64) ⌝ }
-    ensures { λ _. ⌜ now (values .exit) ≡ filledRow (now (values .entry)) p n (λ k. planeValue (vec3 nx ny nz) d (getD (now (px .entry)) k past) (getD (now (py .entry)) k past) (getD (now (pz .entry)) k past)) ⌝ }
+    ensures { λ _. ⌜ now (values .exit)
+        ≡ filledRow (now (values .entry)) p n
+        (λ k. planeValue (vec3 nx ny nz) d (getD (now (px .entry)) k past) (getD (now (py .entry)) k past) (getD (now (pz .entry)) k past)) ⌝ }
 {
     let row = p * 64;
     let mut i: usize = 0;
@@ -49,7 +51,9 @@ pub fn fill_plane(
 
 pub fn fill_min(values: &mut [f64; 4096], p: usize, n: usize, a: usize, b: usize)
     requires { ⌜ (p < 64) × (n ≤ 64) × (a < p) × (b < p) ⌝ }
-    ensures { λ _. ⌜ now (values .exit) ≡ filledRow (now (values .entry)) p n (λ k. minOf (getD (now (values .entry)) (laneAt a k) past) (getD (now (values .entry)) (laneAt b k) past)) ⌝ }
+    ensures { λ _. ⌜ now (values .exit)
+        ≡ filledRow (now (values .entry)) p n
+        (λ k. minOf (getD (now (values .entry)) (laneAt a k) past) (getD (now (values .entry)) (laneAt b k) past)) ⌝ }
 {
     let row = p * 64;
     let first = a * 64;
@@ -63,7 +67,9 @@ pub fn fill_min(values: &mut [f64; 4096], p: usize, n: usize, a: usize, b: usize
 
 pub fn fill_max(values: &mut [f64; 4096], p: usize, n: usize, a: usize, b: usize)
     requires { ⌜ (p < 64) × (n ≤ 64) × (a < p) × (b < p) ⌝ }
-    ensures { λ _. ⌜ now (values .exit) ≡ filledRow (now (values .entry)) p n (λ k. maxOf (getD (now (values .entry)) (laneAt a k) past) (getD (now (values .entry)) (laneAt b k) past)) ⌝ }
+    ensures { λ _. ⌜ now (values .exit)
+        ≡ filledRow (now (values .entry)) p n
+        (λ k. maxOf (getD (now (values .entry)) (laneAt a k) past) (getD (now (values .entry)) (laneAt b k) past)) ⌝ }
 {
     let row = p * 64;
     let first = a * 64;
@@ -77,7 +83,9 @@ pub fn fill_max(values: &mut [f64; 4096], p: usize, n: usize, a: usize, b: usize
 
 pub fn fill_add(values: &mut [f64; 4096], p: usize, n: usize, a: usize, b: usize)
     requires { ⌜ (p < 64) × (n ≤ 64) × (a < p) × (b < p) ⌝ }
-    ensures { λ _. ⌜ now (values .exit) ≡ filledRow (now (values .entry)) p n (λ k. add binary64 (getD (now (values .entry)) (laneAt a k) past) (getD (now (values .entry)) (laneAt b k) past)) ⌝ }
+    ensures { λ _. ⌜ now (values .exit)
+        ≡ filledRow (now (values .entry)) p n
+        (λ k. add binary64 (getD (now (values .entry)) (laneAt a k) past) (getD (now (values .entry)) (laneAt b k) past)) ⌝ }
 {
     let row = p * 64;
     let first = a * 64;
@@ -91,7 +99,9 @@ pub fn fill_add(values: &mut [f64; 4096], p: usize, n: usize, a: usize, b: usize
 
 pub fn fill_sub(values: &mut [f64; 4096], p: usize, n: usize, a: usize, b: usize)
     requires { ⌜ (p < 64) × (n ≤ 64) × (a < p) × (b < p) ⌝ }
-    ensures { λ _. ⌜ now (values .exit) ≡ filledRow (now (values .entry)) p n (λ k. sub binary64 (getD (now (values .entry)) (laneAt a k) past) (getD (now (values .entry)) (laneAt b k) past)) ⌝ }
+    ensures { λ _. ⌜ now (values .exit)
+        ≡ filledRow (now (values .entry)) p n
+        (λ k. sub binary64 (getD (now (values .entry)) (laneAt a k) past) (getD (now (values .entry)) (laneAt b k) past)) ⌝ }
 {
     let row = p * 64;
     let first = a * 64;
@@ -138,7 +148,9 @@ pub fn fill_squares(
     cz: f64,
 )
     requires { ⌜ (p < 64) × (n ≤ 64) ⌝ }
-    ensures { λ _. ⌜ now (values .exit) ≡ filledRow (now (values .entry)) p n (λ k. distanceSquaredOf (vec3 cx cy cz) (getD (now (px .entry)) k past) (getD (now (py .entry)) k past) (getD (now (pz .entry)) k past)) ⌝ }
+    ensures { λ _. ⌜ now (values .exit)
+        ≡ filledRow (now (values .entry)) p n
+        (λ k. distanceSquaredOf (vec3 cx cy cz) (getD (now (px .entry)) k past) (getD (now (py .entry)) k past) (getD (now (pz .entry)) k past)) ⌝ }
 {
     let row = p * 64;
     let mut i: usize = 0;
@@ -184,7 +196,9 @@ pub fn fill_sphere(
     r: f64,
 )
     requires { ⌜ (p < 64) × (n ≤ 64) ⌝ }
-    ensures { λ _. ⌜ now (values .exit) ≡ filledRow (now (values .entry)) p n (λ k. sphereValue (vec3 cx cy cz) r (getD (now (px .entry)) k past) (getD (now (py .entry)) k past) (getD (now (pz .entry)) k past)) ⌝ }
+    ensures { λ _. ⌜ now (values .exit)
+        ≡ filledRow (now (values .entry)) p n
+        (λ k. sphereValue (vec3 cx cy cz) r (getD (now (px .entry)) k past) (getD (now (py .entry)) k past) (getD (now (pz .entry)) k past)) ⌝ }
 {
     fill_squares(values, p, n, px, py, pz, cx, cy, cz);
     take_roots(values, p, n);

@@ -7,7 +7,7 @@ ghost use Prim.Native.Nat.{_≤_, min};
 ghost use lib.ListN.{length, drop};
 ghost use lib.Dec.{ltb};
 ghost use Rattle.model.specs.Part.{partIn, inputsBelow};
-ghost use Rattle.model.specs.Flat.{flatOf, layoutOf, partsOf};
+ghost use Rattle.model.specs.Flat.{flatIn, flatOf, layoutOf, partsOf};
 ghost use Rattle.model.specs.Row.{evaluatedRows, modelRow};
 ghost use Rattle.model.specs.Model.{valuesTo, modelValue, orderedTo, refusedByFour, evaluationOf};
 use geometry::Vec3;
@@ -137,8 +137,9 @@ pub fn evaluate_flat(
     z: f64,
     values: &mut [f64; 64],
 ) -> f64
-    ensures { λ r. ⌜ r ≡ modelValue (partsOf (flatOf (now (words .entry)) (now (numbers .entry))) (min count 64)) (min count 64) x y z ⌝ }
-    ensures { λ _. ⌜ now (values .exit) ≡ valuesTo (partsOf (flatOf (now (words .entry)) (now (numbers .entry))) (min count 64)) x y z (min count 64) ++ drop (min count 64) (now (values .entry)) ⌝ }
+    ensures answer { λ r. ⌜ r ≡ modelValue (partsOf (flatIn words numbers) (min count 64)) (min count 64) x y z ⌝ }
+    ensures values { λ _. ⌜ now (values .exit)
+        ≡ valuesTo (partsOf (flatIn words numbers) (min count 64)) x y z (min count 64) ++ drop (min count 64) (now (values .entry)) ⌝ }
 {
     let m = at_most_64(count);
     point::fill_values(words, numbers, m, x, y, z, values);
@@ -175,7 +176,8 @@ pub fn evaluate_row(
     n: usize,
     values: &mut [f64; 4096],
 )
-    ensures { λ _. ⌜ now (values .exit) ≡ evaluatedRows (flatOf (now (words .entry)) (now (numbers .entry))) (min count 64) (min n 64) (now (px .entry)) (now (py .entry)) (now (pz .entry)) (now (values .entry)) ⌝ }
+    ensures { λ _. ⌜ now (values .exit)
+        ≡ evaluatedRows (flatIn words numbers) (min count 64) (min n 64) (now (px .entry)) (now (py .entry)) (now (pz .entry)) (now (values .entry)) ⌝ }
 {
     let parts = at_most_64(count);
     let points = at_most_64(n);
@@ -194,8 +196,10 @@ pub fn evaluate_row_into(
     values: &mut [f64; 4096],
     results: &mut [f64; 64],
 )
-    ensures { λ _. ⌜ now (values .exit) ≡ evaluatedRows (flatOf (now (words .entry)) (now (numbers .entry))) (min count 64) (min n 64) (now (px .entry)) (now (py .entry)) (now (pz .entry)) (now (values .entry)) ⌝ }
-    ensures { λ _. ⌜ now (results .exit) ≡ modelRow (flatOf (now (words .entry)) (now (numbers .entry))) (min count 64) (min n 64) (now (px .entry)) (now (py .entry)) (now (pz .entry)) (now (results .entry)) ⌝ }
+    ensures values { λ _. ⌜ now (values .exit)
+        ≡ evaluatedRows (flatIn words numbers) (min count 64) (min n 64) (now (px .entry)) (now (py .entry)) (now (pz .entry)) (now (values .entry)) ⌝ }
+    ensures results { λ _. ⌜ now (results .exit)
+        ≡ modelRow (flatIn words numbers) (min count 64) (min n 64) (now (px .entry)) (now (py .entry)) (now (pz .entry)) (now (results .entry)) ⌝ }
 {
     let parts = at_most_64(count);
     let points = at_most_64(n);

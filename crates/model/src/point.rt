@@ -6,7 +6,7 @@ ghost use lib.ListN.{length, drop};
 ghost use Rattle.geometry.specs.Values.{vec3};
 ghost use Rattle.model.specs.Part.{sphereValue, planeValue, partValue};
 ghost use Rattle.model.specs.Model.{valuesTo};
-ghost use Rattle.model.specs.Flat.{flatOf, partFrom, placed, partAt, partsOf};
+ghost use Rattle.model.specs.Flat.{flatIn, partFrom, placed, partAt, partsOf};
 use geometry::Vec3;
 
 // A place that an array of u32 names, as an index.
@@ -94,7 +94,7 @@ pub fn part_value(
     values: &[f64],
 ) -> f64
     requires { ⌜ (p < 64) × (p ≤ length (now values)) ⌝ }
-    ensures { λ r. ⌜ r ≡ partValue (partAt (flatOf (now (words .entry)) (now (numbers .entry))) p) x y z (now (values .entry)) ⌝ }
+    ensures { λ r. ⌜ r ≡ partValue (partAt (flatIn words numbers) p) x y z (now (values .entry)) ⌝ }
 {
     let a = place(words[64 + p]);
     let b = place(words[128 + p]);
@@ -125,7 +125,7 @@ pub fn fill_values(
     values: &mut [f64],
 )
     requires { ⌜ (count ≤ 64) × (count ≤ length (now values)) ⌝ }
-    ensures { λ _. ⌜ now (values .exit) ≡ valuesTo (partsOf (flatOf (now (words .entry)) (now (numbers .entry))) count) x y z count ++ drop count (now (values .entry)) ⌝ }
+    ensures values { λ _. ⌜ now (values .exit) ≡ valuesTo (partsOf (flatIn words numbers) count) x y z count ++ drop count (now (values .entry)) ⌝ }
     ensures { λ _. ⌜ count ≤ length (now (values .entry)) ⌝ }
 {
     let mut p: usize = 0;

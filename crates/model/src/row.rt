@@ -6,7 +6,7 @@ ghost use Rattle.lists.specs.Filled.{filled};
 ghost use Rattle.float.specs.Zero.{plusZero};
 ghost use Rattle.geometry.specs.Values.{vec3};
 ghost use Rattle.model.specs.Part.{past, partValue};
-ghost use Rattle.model.specs.Flat.{flatOf, partFrom, placed, partAt};
+ghost use Rattle.model.specs.Flat.{flatIn, partFrom, placed, partAt};
 ghost use Rattle.model.specs.Row.{laneAt, filledRow, lane, evaluatedRows};
 use super::lanes;
 use super::point;
@@ -29,7 +29,10 @@ pub fn fill_entry(
     values: &mut [f64; 4096],
 )
     requires { ⌜ (p < 64) × (n ≤ 64) ⌝ }
-    ensures { λ _. ⌜ now (values .exit) ≡ filledRow (now (values .entry)) p n (λ k. partValue (placed p (partFrom code (vec3 vx vy vz) w a b)) (getD (now (px .entry)) k past) (getD (now (py .entry)) k past) (getD (now (pz .entry)) k past) (lane (now (values .entry)) k p)) ⌝ }
+    ensures { λ _. ⌜ now (values .exit)
+        ≡ filledRow (now (values .entry)) p n
+        (λ k. partValue (placed p (partFrom code (vec3 vx vy vz) w a b)) (getD (now (px .entry)) k past) (getD (now (py .entry)) k past)
+        (getD (now (pz .entry)) k past) (lane (now (values .entry)) k p)) ⌝ }
 {
     if code == 0 {
         lanes::fill_constant(values, p, n, w);
@@ -86,7 +89,10 @@ pub fn fill_part(
     values: &mut [f64; 4096],
 )
     requires { ⌜ (p < 64) × (n ≤ 64) ⌝ }
-    ensures { λ _. ⌜ now (values .exit) ≡ filledRow (now (values .entry)) p n (λ k. partValue (partAt (flatOf (now (words .entry)) (now (numbers .entry))) p) (getD (now (px .entry)) k past) (getD (now (py .entry)) k past) (getD (now (pz .entry)) k past) (lane (now (values .entry)) k p)) ⌝ }
+    ensures { λ _. ⌜ now (values .exit)
+        ≡ filledRow (now (values .entry)) p n
+        (λ k. partValue (partAt (flatIn words numbers) p) (getD (now (px .entry)) k past) (getD (now (py .entry)) k past)
+        (getD (now (pz .entry)) k past) (lane (now (values .entry)) k p)) ⌝ }
 {
     let a = point::place(words[64 + p]);
     let b = point::place(words[128 + p]);
@@ -119,7 +125,8 @@ pub fn fill_parts(
     values: &mut [f64; 4096],
 )
     requires { ⌜ (count ≤ 64) × (n ≤ 64) ⌝ }
-    ensures { λ _. ⌜ now (values .exit) ≡ evaluatedRows (flatOf (now (words .entry)) (now (numbers .entry))) count n (now (px .entry)) (now (py .entry)) (now (pz .entry)) (now (values .entry)) ⌝ }
+    ensures { λ _. ⌜ now (values .exit)
+        ≡ evaluatedRows (flatIn words numbers) count n (now (px .entry)) (now (py .entry)) (now (pz .entry)) (now (values .entry)) ⌝ }
 {
     let mut p: usize = 0;
     while p < count {
@@ -132,7 +139,7 @@ pub fn fill_parts(
 pub fn copy_row(values: &[f64], p: usize, n: usize, results: &mut [f64])
     requires { ⌜ laneAt p n ≤ length (now values) ⌝ }
     requires { ⌜ n ≤ length (now results) ⌝ }
-    ensures { λ _. ⌜ now (results .exit) ≡ filled 0 n (λ k. getD (now (values .entry)) (laneAt p k) past) (now (results .entry)) ⌝ }
+    ensures results { λ _. ⌜ now (results .exit) ≡ filled 0 n (λ k. getD (now (values .entry)) (laneAt p k) past) (now (results .entry)) ⌝ }
     ensures { λ _. ⌜ laneAt p n ≤ length (now (values .entry)) ⌝ }
 {
     let row = p * 64;

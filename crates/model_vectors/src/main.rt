@@ -13,8 +13,8 @@ use line::Line;
 
 // Compares each way of evaluating a case's model with the value that is stored.
 fn judge_value(case: Case, stored: u64, number: u64, cases: &mut [u64; 5], wrong: &mut [u64; 5])
-    ensures { λ _. ⌜ now (cases .exit) ≡ comparedValue (now (cases .entry)) ⌝ }
-    ensures { λ _. ⌜ now (wrong .exit) ≡ valueWrong case stored (now (wrong .entry)) ⌝ }
+    ensures cases { λ _. ⌜ now (cases .exit) ≡ comparedValue (now (cases .entry)) ⌝ }
+    ensures wrong { λ _. ⌜ now (wrong .exit) ≡ valueWrong case stored (now (wrong .entry)) ⌝ }
 {
     let model = case.model;
     let point = case.point;
@@ -28,8 +28,8 @@ fn judge_value(case: Case, stored: u64, number: u64, cases: &mut [u64; 5], wrong
 
 // Compares evaluation of a case's model with a refusal that is stored.
 fn judge_refusal(case: Case, number: u64, cases: &mut [u64; 5], wrong: &mut [u64; 5])
-    ensures { λ _. ⌜ now (cases .exit) ≡ counted 3 (now (cases .entry)) ⌝ }
-    ensures { λ _. ⌜ now (wrong .exit) ≡ wrongIf (refusalRight case) 3 (now (wrong .entry)) ⌝ }
+    ensures cases { λ _. ⌜ now (cases .exit) ≡ counted 3 (now (cases .entry)) ⌝ }
+    ensures wrong { λ _. ⌜ now (wrong .exit) ≡ wrongIf (refusalRight case) 3 (now (wrong .entry)) ⌝ }
 {
     let model = case.model;
     let point = case.point;
@@ -39,8 +39,8 @@ fn judge_refusal(case: Case, number: u64, cases: &mut [u64; 5], wrong: &mut [u64
 
 // Compares the answer that a line says with what the case gives.
 fn judge_line(case: Case, line: Line, number: u64, cases: &mut [u64; 5], wrong: &mut [u64; 5])
-    ensures { λ _. ⌜ now (cases .exit) ≡ casesAfter line (now (cases .entry)) ⌝ }
-    ensures { λ _. ⌜ now (wrong .exit) ≡ wrongAfter line case (now (wrong .entry)) ⌝ }
+    ensures cases { λ _. ⌜ now (cases .exit) ≡ casesAfter line (now (cases .entry)) ⌝ }
+    ensures wrong { λ _. ⌜ now (wrong .exit) ≡ wrongAfter line case (now (wrong .entry)) ⌝ }
 {
     match line {
         Line::Point(_) => {}

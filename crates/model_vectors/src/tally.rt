@@ -57,8 +57,8 @@ fn show_off(line: u64) {
 // One more comparison of a kind, which is named where it is wrong.
 pub fn note(kind: usize, right: bool, line: u64, cases: &mut [u64; 5], wrong: &mut [u64; 5])
     requires { ⌜ kind < 5 ⌝ }
-    ensures { λ _. ⌜ now (cases .exit) ≡ counted kind (now (cases .entry)) ⌝ }
-    ensures { λ _. ⌜ now (wrong .exit) ≡ wrongIf right kind (now (wrong .entry)) ⌝ }
+    ensures cases { λ _. ⌜ now (cases .exit) ≡ counted kind (now (cases .entry)) ⌝ }
+    ensures wrong { λ _. ⌜ now (wrong .exit) ≡ wrongIf right kind (now (wrong .entry)) ⌝ }
 {
     add(cases, kind);
     if right {

@@ -27,7 +27,7 @@ use Rattle.schedule.proofs.Sums.{before-below, before-most, sumFrom-most, sumBi
 use Rattle.sparse_field.specs.declared.Progress.{Progress}
 use Rattle.sparse_field.specs.declared.Cursor.the-variants.{Point}
 use Rattle.sparse_field.specs.declared.Stop.the-variants.{Through, At}
-use Rattle.sparse_field.specs.Calls.{memoryOf}
+use Rattle.schedule.specs.Lent.{memoryOf}
 use Rattle.sparse_field.specs.FlatValue.{flatValue}
 use Rattle.sparse_field.specs.Plan.{decideOf, at, boxOf, planWith}
 use Rattle.sparse_field.specs.Progress.{plan, Sized, Ready, readingIn, ChildrenAdvanced, leafProgress}

@@ -39,7 +39,7 @@ use Rattle.sparse_field.specs.declared.Counts.{Counts}
 use Rattle.sparse_field.specs.declared.Record.{Record}
 use Rattle.sparse_field.specs.Plan.{planWith, planOf}
 use Rattle.sparse_field.specs.Records.{numberOf, lengthsIn, countsIn, cursorIn, jobIn, sparse}
-use Rattle.sparse_field.specs.Calls.{memoryOf}
+use Rattle.schedule.specs.Lent.{memoryOf}
 use Rattle.sparse_field.specs.Flags.{countNonzero}
 use Rattle.sparse_field.specs.Judged.{RightKinds, wrongProgress}
 use Rattle.sparse_field.proofs.FlagLaws.{nonzero-true}

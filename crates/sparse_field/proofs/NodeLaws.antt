@@ -34,7 +34,7 @@ use Rattle.sparse_field.specs.declared.Cursor.{Cursor}
 use Rattle.sparse_field.specs.declared.Cursor.the-variants.{End, Corner}
 use Rattle.sparse_field.specs.Records.{cursorIn}
 use Rattle.sparse_field.specs.declared.Stop.the-variants.{Through, At}
-use Rattle.sparse_field.specs.Calls.{memoryOf}
+use Rattle.schedule.specs.Lent.{memoryOf}
 use Rattle.sparse_field.specs.CornerRun.{CornerRun, neededFrom, evaluatedFrom}
 use Rattle.sparse_field.specs.Plan as plans
 use Rattle.sparse_field.specs.Plan.{planWith, decideOf, boxOf}

@@ -26,7 +26,7 @@ use Rattle.sparse_field.specs.declared.Cursor.{Cursor}
 use Rattle.sparse_field.specs.declared.Cursor.the-variants.{Corner, Point}
 use Rattle.sparse_field.specs.declared.Stop.{Stop}
 use Rattle.sparse_field.specs.declared.Stop.the-variants.{Through, At}
-use Rattle.sparse_field.specs.Calls.{memoryOf}
+use Rattle.schedule.specs.Lent.{memoryOf}
 use Rattle.sparse_field.specs.CornerRun.{CornerRun, neededFrom, evaluatedFrom}
 use Rattle.sparse_field.specs.Runs.{Run, runOf}
 use Rattle.sparse_field.specs.Progress.{Lent, afterStop, IfThrough, stateIn, Advanced, Ready, readingIn, ChildrenAdvanced, ZeroCorners, NodeAdvanced, leafProgress}

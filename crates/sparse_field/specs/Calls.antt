@@ -1,8 +1,6 @@
 -- What open, step and drop hand back and leave in the lent slices, for every record and memory.
 use Prim.Native.Nat.{ℕ}
 use mathlib.Core.Bool.{false}
-use mathlib.Core.List.{List}
-use lib.Ieee.{Float}
 use Rattle.schedule.specs.Schedule.{Memory}
 use Rattle.schedule.specs.Calls as calls
 use Rattle.schedule.specs.Opened.{Lengths, opened}
@@ -14,11 +12,6 @@ use Rattle.sparse_field.specs.declared.Answer.the-variants.{Accepted, Re
 use Rattle.sparse_field.specs.declared.Outcome.{Outcome}
 use Rattle.sparse_field.specs.Plan.{planOf}
 use Rattle.sparse_field.specs.Records.{sparse, jobIn, recordIn, recordOut}
-
--- the memory that five slices hold
-abbrev pub memoryOf : (kinds : List ℕ) (numbers : List Float) (places : List ℕ) (store corners : List Float) → Memory
-memoryOf kinds numbers places store corners =
-    record { kinds = kinds; numbers = numbers; places = places; store = store; corners = corners }
 
 -- what a call hands back, and the memory after it
 pub record Handed : Type 0 where

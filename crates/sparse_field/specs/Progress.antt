@@ -4,6 +4,7 @@ use mathlib.Core.Bool.{cond}
 use lib.Dec.{ltb}
 use mathlib.Core.Path.{_≡_}
 use mathlib.Core.List.{List, []}
+use denote.Ref.{now}
 use lib.ListN.{length, getD}
 use lib.Ieee.{Float}
 use Rattle.grid.specs.declared.Grid.{Grid}
@@ -12,6 +13,7 @@ use Rattle.grid.specs.Blocks.{cube}
 use Rattle.grid.specs.Nodes.{nodesOf}
 use Rattle.schedule.specs.Schedule.{Plan, Memory, State, Event, childrenLeft, nodesLeft}
 use Rattle.float.specs.Zero.{plusZero}
+use Rattle.lists.specs.Slices.{Slice, LentSlice}
 use Rattle.schedule.specs.Totals.{activeBefore, activeAll}
 use Rattle.schedule.specs.Opened.{ActiveKinds}
 use Rattle.sparse_field.specs.declared.Progress.{Progress}
@@ -26,6 +28,13 @@ use Rattle.sparse_field.specs.Records.{cursorIn}
 -- the plan that the engine's functions work on: a grid, a band, and the flat arrays of a model
 abbrev pub plan : Grid → Band → (words : List ℕ) (reals : List Float) (parts : ℕ) → Plan
 plan g band words reals parts = planWith g band (flatValue words reals parts)
+
+-- the same of arrays that are lent: in what a function requires, and in what it ensures
+abbrev pub planNow : Grid → Band → Slice ℕ → Slice Float → (parts : ℕ) → Plan
+planNow g band words reals parts = plan g band (now words) (now reals) parts
+
+abbrev pub planIn : Grid → Band → LentSlice ℕ → LentSlice Float → (parts : ℕ) → Plan
+planIn g band words reals parts = planNow g band (words .entry) (reals .entry) parts
 
 -- sizes that causes 2 and 5 do not refuse
 pub record Sized (g : Grid) : Type 0 where

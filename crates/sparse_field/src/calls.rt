@@ -5,7 +5,8 @@ ghost use mathlib.Core.Bool.{false};
 ghost use Rattle.schedule.specs.Calls.{opens, steps, drops};
 ghost use Rattle.schedule.specs.Opened.{lengthsOf};
 ghost use Rattle.schedule.specs.Possible.{impossible};
-ghost use Rattle.sparse_field.specs.Calls.{memoryOf, called, startMemory, openedRecord, openedMemory, steppedEngine};
+ghost use Rattle.schedule.specs.Lent.{held, entered, left};
+ghost use Rattle.sparse_field.specs.Calls.{called, startMemory, openedRecord, openedMemory, steppedEngine};
 ghost use Rattle.sparse_field.specs.Records.{sparse, lent, jobIn, recordOut};
 use crate::Answer;
 use crate::Cursor;
@@ -29,8 +30,8 @@ fn prepare(
     store: &mut [f64],
     corners: &mut [f64],
 )
-    requires { ⌜ sparse .cause (lengthsOf (memoryOf (now kinds) (now numbers) (now places) (now store) (now corners))) input ≡ 0 ⌝ }
-    ensures { λ _. ⌜ memoryOf (now (kinds .exit)) (now (numbers .exit)) (now (places .exit)) (now (store .exit)) (now (corners .exit)) ≡ startMemory input (lengthsOf (memoryOf (now (kinds .entry)) (now (numbers .entry)) (now (places .entry)) (now (store .entry)) (now (corners .entry)))) ⌝ }
+    requires { ⌜ sparse .cause (lengthsOf (held kinds numbers places store corners)) input ≡ 0 ⌝ }
+    ensures { λ _. ⌜ left kinds numbers places store corners ≡ startMemory input (lengthsOf (entered kinds numbers places store corners)) ⌝ }
 {
     zeroing::zero_all(kinds, numbers, places, store, corners);
     kind::set_kinds(input, kinds);
@@ -46,9 +47,10 @@ fn opened(
     store: &mut [f64],
     corners: &mut [f64],
 ) -> Record
-    requires { ⌜ (lengths ≡ lent (lengthsOf (memoryOf (now kinds) (now numbers) (now places) (now store) (now corners)))) × (sparse .cause (lengthsOf (memoryOf (now kinds) (now numbers) (now places) (now store) (now corners))) input ≡ 0) ⌝ }
-    ensures { λ r. ⌜ r ≡ openedRecord input (lengthsOf (memoryOf (now (kinds .entry)) (now (numbers .entry)) (now (places .entry)) (now (store .entry)) (now (corners .entry)))) ⌝ }
-    ensures { λ _. ⌜ memoryOf (now (kinds .exit)) (now (numbers .exit)) (now (places .exit)) (now (store .exit)) (now (corners .exit)) ≡ openedMemory input (lengthsOf (memoryOf (now (kinds .entry)) (now (numbers .entry)) (now (places .entry)) (now (store .entry)) (now (corners .entry)))) ⌝ }
+    requires { ⌜ (lengths ≡ lent (lengthsOf (held kinds numbers places store corners)))
+        × (sparse .cause (lengthsOf (held kinds numbers places store corners)) input ≡ 0) ⌝ }
+    ensures answer { λ r. ⌜ r ≡ openedRecord input (lengthsOf (entered kinds numbers places store corners)) ⌝ }
+    ensures memory { λ _. ⌜ left kinds numbers places store corners ≡ openedMemory input (lengthsOf (entered kinds numbers places store corners)) ⌝ }
 {
     prepare(input, kinds, numbers, places, store, corners);
     let start = Cursor::Corner(0, 0);
@@ -69,8 +71,8 @@ pub fn open(
     store: &mut [f64],
     corners: &mut [f64],
 ) -> Outcome
-    ensures { λ r. ⌜ r ≡ called (opens input) found (memoryOf (now (kinds .entry)) (now (numbers .entry)) (now (places .entry)) (now (store .entry)) (now (corners .entry))) .outcome ⌝ }
-    ensures { λ _. ⌜ memoryOf (now (kinds .exit)) (now (numbers .exit)) (now (places .exit)) (now (store .exit)) (now (corners .exit)) ≡ called (opens input) found (memoryOf (now (kinds .entry)) (now (numbers .entry)) (now (places .entry)) (now (store .entry)) (now (corners .entry))) .memory ⌝ }
+    ensures answer { λ r. ⌜ r ≡ called (opens input) found (entered kinds numbers places store corners) .outcome ⌝ }
+    ensures memory { λ _. ⌜ left kinds numbers places store corners ≡ called (opens input) found (entered kinds numbers places store corners) .memory ⌝ }
 {
     let lengths = jobs::lengths_of(kinds, numbers, places, store, corners);
     let refusal = grid::open_refusal(input.grid, input.band, input.model, lengths);
@@ -97,9 +99,9 @@ fn stepped(
     store: &mut [f64],
     corners: &mut [f64],
 ) -> Record
-    requires { ⌜ impossible sparse (jobIn found) (memoryOf (now kinds) (now numbers) (now places) (now store) (now corners)) ≡ false ⌝ }
-    ensures { λ r. ⌜ r ≡ recordOut (steppedEngine budget found (memoryOf (now (kinds .entry)) (now (numbers .entry)) (now (places .entry)) (now (store .entry)) (now (corners .entry))) .jobRecord) ⌝ }
-    ensures { λ _. ⌜ memoryOf (now (kinds .exit)) (now (numbers .exit)) (now (places .exit)) (now (store .exit)) (now (corners .exit)) ≡ steppedEngine budget found (memoryOf (now (kinds .entry)) (now (numbers .entry)) (now (places .entry)) (now (store .entry)) (now (corners .entry))) .memory ⌝ }
+    requires { ⌜ impossible sparse (jobIn found) (held kinds numbers places store corners) ≡ false ⌝ }
+    ensures answer { λ r. ⌜ r ≡ recordOut (steppedEngine budget found (entered kinds numbers places store corners) .jobRecord) ⌝ }
+    ensures memory { λ _. ⌜ left kinds numbers places store corners ≡ steppedEngine budget found (entered kinds numbers places store corners) .memory ⌝ }
 {
     let counts = found.counts;
     let cursor = found.cursor;
@@ -136,8 +138,8 @@ pub fn step(
     store: &mut [f64],
     corners: &mut [f64],
 ) -> Outcome
-    ensures { λ r. ⌜ r ≡ called (steps budget) found (memoryOf (now (kinds .entry)) (now (numbers .entry)) (now (places .entry)) (now (store .entry)) (now (corners .entry))) .outcome ⌝ }
-    ensures { λ _. ⌜ memoryOf (now (kinds .exit)) (now (numbers .exit)) (now (places .exit)) (now (store .exit)) (now (corners .exit)) ≡ called (steps budget) found (memoryOf (now (kinds .entry)) (now (numbers .entry)) (now (places .entry)) (now (store .entry)) (now (corners .entry))) .memory ⌝ }
+    ensures answer { λ r. ⌜ r ≡ called (steps budget) found (entered kinds numbers places store corners) .outcome ⌝ }
+    ensures memory { λ _. ⌜ left kinds numbers places store corners ≡ called (steps budget) found (entered kinds numbers places store corners) .memory ⌝ }
 {
     if !found.job {
         return Outcome {
@@ -167,8 +169,8 @@ pub fn drop(
     store: &mut [f64],
     corners: &mut [f64],
 ) -> Outcome
-    ensures { λ r. ⌜ r ≡ called drops found (memoryOf (now (kinds .entry)) (now (numbers .entry)) (now (places .entry)) (now (store .entry)) (now (corners .entry))) .outcome ⌝ }
-    ensures { λ _. ⌜ memoryOf (now (kinds .exit)) (now (numbers .exit)) (now (places .exit)) (now (store .exit)) (now (corners .exit)) ≡ called drops found (memoryOf (now (kinds .entry)) (now (numbers .entry)) (now (places .entry)) (now (store .entry)) (now (corners .entry))) .memory ⌝ }
+    ensures answer { λ r. ⌜ r ≡ called drops found (entered kinds numbers places store corners) .outcome ⌝ }
+    ensures memory { λ _. ⌜ left kinds numbers places store corners ≡ called drops found (entered kinds numbers places store corners) .memory ⌝ }
 {
     zeroing::zero_all(kinds, numbers, places, store, corners);
     Outcome {

@@ -7,10 +7,10 @@ ghost use Rattle.lists.specs.Filled.{filled};
 ghost use Rattle.grid.specs.Blocks.{cube};
 ghost use Rattle.grid.specs.Boxes.{nodeBox};
 ghost use Rattle.grid.specs.Leaves.{leafPoint};
-ghost use Rattle.sparse_field.specs.Calls.{memoryOf};
-ghost use Rattle.sparse_field.specs.FlatValue.{flatValue};
+ghost use Rattle.schedule.specs.Lent.{held, entered, left};
+ghost use Rattle.sparse_field.specs.FlatValue.{valueIn};
 ghost use Rattle.sparse_field.specs.Plan.{at};
-ghost use Rattle.sparse_field.specs.Progress.{plan, Sized, Ready, ChildrenAdvanced, leafProgress};
+ghost use Rattle.sparse_field.specs.Progress.{planIn, planNow, Sized, Ready, ChildrenAdvanced, leafProgress};
 use crate::Cursor;
 use crate::Progress;
 use crate::Stop;
@@ -34,8 +34,10 @@ pub fn fill_leaf(
     store: &mut [f64],
 ) -> usize
     requires { ⌜ (0 < l) × (l ≤ 64) × (p ≤ cube l) × ((ordinal + 1) * cube l ≤ length (now store)) × (parts ≤ 64) ⌝ }
-    ensures { λ r. ⌜ r ≡ p + min budget (cube l - p) ⌝ }
-    ensures { λ _. ⌜ now (store .exit) ≡ filled (ordinal * cube l + p) (min budget (cube l - p)) (λ q. at (flatValue (now (words .entry)) (now (reals .entry)) parts) (leafPoint b l (q - ordinal * cube l))) (now (store .entry)) ⌝ }
+    ensures answer { λ r. ⌜ r ≡ p + min budget (cube l - p) ⌝ }
+    ensures store { λ _. ⌜ now (store .exit)
+        ≡ filled (ordinal * cube l + p) (min budget (cube l - p)) (λ q. at (valueIn words reals parts) (leafPoint b l (q - ordinal * cube l)))
+        (now (store .entry)) ⌝ }
 {
     let points = grid::cube_of(l as usize);
     points::fill_points(
@@ -67,8 +69,10 @@ pub fn leaf_from(
     store: &mut [f64],
 ) -> Progress
     requires { ⌜ (0 < l) × (l ≤ 64) × (p ≤ cube l) × (0 < leaves) × (leaves * cube l ≤ length (now store)) × (parts ≤ 64) ⌝ }
-    ensures { λ r. ⌜ r ≡ leafProgress leaves budget v c p (cube l) ⌝ }
-    ensures { λ _. ⌜ now (store .exit) ≡ filled ((leaves - 1) * cube l + p) (min budget (cube l - p)) (λ q. at (flatValue (now (words .entry)) (now (reals .entry)) parts) (leafPoint b l (q - (leaves - 1) * cube l))) (now (store .entry)) ⌝ }
+    ensures answer { λ r. ⌜ r ≡ leafProgress leaves budget v c p (cube l) ⌝ }
+    ensures store { λ _. ⌜ now (store .exit)
+        ≡ filled ((leaves - 1) * cube l + p) (min budget (cube l - p))
+        (λ q. at (valueIn words reals parts) (leafPoint b l (q - (leaves - 1) * cube l))) (now (store .entry)) ⌝ }
 {
     let ordinal = (leaves as usize) - 1;
     let next = fill_leaf(
@@ -116,8 +120,9 @@ fn child_turn(
     corners: &[f64],
 ) -> Progress
     requires { ⌜ Sized g × (b ≡ nodeBox g v) × (c < cube (g .inner)) × (parts ≤ 64) ⌝ }
-    requires { ⌜ Ready (plan g band (now words) (now reals) parts) v c leaves (memoryOf (now kinds) (now numbers) (now places) (now store) (now corners)) ⌝ }
-    ensures { λ r. ⌜ ChildrenAdvanced (plan g band (now (words .entry)) (now (reals .entry)) parts) v c (suc c) budget leaves (memoryOf (now (kinds .entry)) (now (numbers .entry)) (now (places .entry)) (now (store .entry)) (now (corners .entry))) (memoryOf (now (kinds .exit)) (now (numbers .exit)) (now (places .exit)) (now (store .exit)) (now (corners .entry))) r ⌝ }
+    requires { ⌜ Ready (planNow g band words reals parts) v c leaves (held kinds numbers places store corners) ⌝ }
+    ensures { λ r. ⌜ ChildrenAdvanced (planIn g band words reals parts) v c (suc c) budget leaves (entered kinds numbers places store corners)
+        (left kinds numbers places store corners) r ⌝ }
 {
     let n = g.inner;
     let j = v * grid::cube_of(n as usize) + c;
@@ -177,8 +182,10 @@ pub fn run_children(
     corners: &[f64],
 ) -> Progress
     requires { ⌜ Sized g × (b ≡ nodeBox g v) × (first ≤ cube (g .inner)) × (parts ≤ 64) ⌝ }
-    requires { ⌜ Ready (plan g band (now words) (now reals) parts) v first leaves (memoryOf (now kinds) (now numbers) (now places) (now store) (now corners)) ⌝ }
-    ensures { λ r. ⌜ ChildrenAdvanced (plan g band (now (words .entry)) (now (reals .entry)) parts) v first (cube (g .inner)) budget leaves (memoryOf (now (kinds .entry)) (now (numbers .entry)) (now (places .entry)) (now (store .entry)) (now (corners .entry))) (memoryOf (now (kinds .exit)) (now (numbers .exit)) (now (places .exit)) (now (store .exit)) (now (corners .entry))) r ⌝ }
+    requires { ⌜ Ready (planNow g band words reals parts) v first leaves (held kinds numbers places store corners) ⌝ }
+    ensures { λ r. ⌜ ChildrenAdvanced (planIn g band words reals parts) v first (cube (g .inner)) budget leaves
+        (entered kinds numbers places store corners)
+        (left kinds numbers places store corners) r ⌝ }
 {
     let children = grid::cube_of(g.inner as usize);
     let mut c = first;

@@ -8,7 +8,7 @@ ghost use Rattle.grid.specs.Corners.{needed, cornerPoint};
 ghost use Rattle.grid.specs.CornerList.{nonzero};
 ghost use Rattle.sparse_field.specs.Around.{rowHas, slabHas, around};
 ghost use Rattle.sparse_field.specs.CornerRun.{CornerRun};
-ghost use Rattle.sparse_field.specs.FlatValue.{flatValue};
+ghost use Rattle.sparse_field.specs.FlatValue.{valueIn};
 ghost use Rattle.sparse_field.specs.Gathered.{Gathered};
 ghost use Rattle.sparse_field.specs.Plan.{at};
 ghost use Rattle.sparse_field.specs.RowLent.{RowLent};
@@ -134,7 +134,8 @@ fn gather(n: usize, kinds: &[u8], i: usize, most: usize, list: &mut [u32]) -> Fo
 // Stores a row of values, each at the place that is listed for it.
 fn scatter(places: &[u32], values: &[f64; 64], corners: &mut [f64])
     requires { ⌜ (length (now places) ≤ 64) × ((q : ℕ) → q < length (now places) → getD (now places) q 0 < length (now corners)) ⌝ }
-    ensures { λ _. ⌜ now (corners .exit) ≡ scattered (length (now (places .entry))) (now (places .entry)) (now (values .entry)) (now (corners .entry)) ⌝ }
+    ensures { λ _. ⌜ now (corners .exit)
+        ≡ scattered (length (now (places .entry))) (now (places .entry)) (now (values .entry)) (now (corners .entry)) ⌝ }
 {
     let mut q = 0;
     while q < places.len() {
@@ -163,7 +164,8 @@ fn corner_row(
     requires { ⌜ (parts ≤ 64) × (length (now list) ≤ 64) × RowLent (now xs) (now ys) (now zs) (now values) ⌝ }
     requires { ⌜ ((q : ℕ) → q < length (now list) → getD (now list) q 0 < length (now corners)) ⌝ }
     ensures { λ _. ⌜ RowLent (now (xs .exit)) (now (ys .exit)) (now (zs .exit)) (now (values .exit)) ⌝ }
-    ensures { λ _. ⌜ now (corners .exit) ≡ written (λ c. at (flatValue (now (words .entry)) (now (reals .entry)) parts) (cornerPoint b n c)) (now (list .entry)) (now (corners .entry)) ⌝ }
+    ensures corners { λ _. ⌜ now (corners .exit)
+        ≡ written (λ c. at (valueIn words reals parts) (cornerPoint b n c)) (now (list .entry)) (now (corners .entry)) ⌝ }
 {
     grid::corner_points(b, n, list, xs, ys, zs);
     model::evaluate_row_into(words, reals, parts, xs, ys, zs, list.len(), scratch, values);
@@ -185,7 +187,8 @@ pub fn run_corners(
     corners: &mut [f64],
 ) -> CornersEnd
     requires { ⌜ (0 < n) × (n ≤ 64) × (length (now kinds) ≡ cube n) × (cube (n + 1) ≤ length (now corners)) × (i ≤ cube (n + 1)) × (parts ≤ 64) ⌝ }
-    ensures { λ r. ⌜ CornerRun (needed n (nonzero (now (kinds .entry)))) (λ c. at (flatValue (now (words .entry)) (now (reals .entry)) parts) (cornerPoint b n c)) (cube (n + 1)) i budget (r .next) (r .left) (now (corners .entry)) (now (corners .exit)) ⌝ }
+    ensures { λ r. ⌜ CornerRun (needed n (nonzero (now (kinds .entry)))) (λ c. at (valueIn words reals parts) (cornerPoint b n c)) (cube (n + 1)) i budget
+        (r .next) (r .left) (now (corners .entry)) (now (corners .exit)) ⌝ }
 {
     let side = n as usize;
     let total = corner_total(side);

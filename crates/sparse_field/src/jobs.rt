@@ -7,7 +7,7 @@ ghost use Rattle.grid.specs.Blocks.{cube};
 ghost use Rattle.model.specs.Model.{refusedByFour};
 ghost use Rattle.schedule.specs.Schedule.{eventsFrom};
 ghost use Rattle.schedule.specs.Totals.{activeAll};
-ghost use Rattle.sparse_field.specs.Calls.{memoryOf};
+ghost use Rattle.schedule.specs.Lent.{held, entered, left};
 ghost use Rattle.sparse_field.specs.Plan.{planOf};
 ghost use Rattle.sparse_field.specs.Progress.{Sized, Lent, Advanced, readingIn};
 ghost use Rattle.schedule.specs.Opened.{lengthsOf};
@@ -43,8 +43,10 @@ pub fn run_job(
     corners: &mut [f64],
 ) -> Progress
     requires { ⌜ Sized (input .grid) × (refusedByFour (input .model) ≡ false) ⌝ }
-    requires { ⌜ Lent (planOf input) (memoryOf (now kinds) (now numbers) (now places) (now store) (now corners)) × Startable (planOf input) cursor leaves × (leaves ≤ activeAll (planOf input)) ⌝ }
-    ensures { λ r. ⌜ Advanced (planOf input) budget leaves (memoryOf (now (kinds .entry)) (now (numbers .entry)) (now (places .entry)) (now (store .entry)) (now (corners .entry))) (memoryOf (now (kinds .exit)) (now (numbers .exit)) (now (places .exit)) (now (store .exit)) (now (corners .exit))) (eventsFrom (planOf input) (cursorIn cursor) (readingIn (memoryOf (now (kinds .entry)) (now (numbers .entry)) (now (places .entry)) (now (store .entry)) (now (corners .entry))))) [] r (activeAll (planOf input)) ⌝ }
+    requires { ⌜ Lent (planOf input) (held kinds numbers places store corners)
+        × Startable (planOf input) cursor leaves × (leaves ≤ activeAll (planOf input)) ⌝ }
+    ensures { λ r. ⌜ Advanced (planOf input) budget leaves (entered kinds numbers places store corners) (left kinds numbers places store corners)
+        (eventsFrom (planOf input) (cursorIn cursor) (readingIn (entered kinds numbers places store corners))) [] r (activeAll (planOf input)) ⌝ }
 {
     let model = input.model;
     let mut words = [0u32; 192];
@@ -78,7 +80,7 @@ pub fn lengths_of(
     store: &[f64],
     corners: &[f64],
 ) -> Lengths
-    ensures { λ r. ⌜ r ≡ lent (lengthsOf (memoryOf (now (kinds .entry)) (now (numbers .entry)) (now (places .entry)) (now (store .entry)) (now (corners .entry)))) ⌝ }
+    ensures { λ r. ⌜ r ≡ lent (lengthsOf (entered kinds numbers places store corners)) ⌝ }
 {
     Lengths {
         kinds: kinds.len(),

@@ -12,7 +12,7 @@ ghost use Rattle.schedule.specs.Counts.{countsWith, sameCounts};
 ghost use Rattle.schedule.specs.Possible.{sameLengths, validCursor, insideChild, impossible};
 ghost use Rattle.sparse_field.specs.Plan.{planOf};
 ghost use Rattle.sparse_field.specs.Records.{numberOf, lengthsIn, countsIn, cursorIn, jobIn, sparse};
-ghost use Rattle.sparse_field.specs.Calls.{memoryOf};
+ghost use Rattle.schedule.specs.Lent.{entered};
 ghost use Rattle.sparse_field.specs.Flags.{countNonzero};
 ghost use Rattle.sparse_field.specs.Judged.{RightKinds, wrongLeaves, wrongProgress};
 use crate::Counts;
@@ -230,7 +230,7 @@ pub fn is_impossible(
     store: &[f64],
     corners: &[f64],
 ) -> bool
-    ensures { λ r. ⌜ r ≡ impossible sparse (jobIn «record») (memoryOf (now (kinds .entry)) (now (numbers .entry)) (now (places .entry)) (now (store .entry)) (now (corners .entry))) ⌝ }
+    ensures { λ r. ⌜ r ≡ impossible sparse (jobIn «record») (entered kinds numbers places store corners) ⌝ }
 {
     let input = record.input;
     let lengths = Lengths {

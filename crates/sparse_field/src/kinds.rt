@@ -136,7 +136,8 @@ fn set_nodes(g: Grid, nodes: usize, kinds: &mut [u8])
 
 // Sets all kinds: 1 at the active children, and 0 elsewhere.
 pub fn set_kinds(input: Input, kinds: &mut [u8])
-    requires { ⌜ (refusedByTwo (input .grid) ≡ false) × (refusedByFive (input .grid) ≡ false) × (nodesOf (input .grid) * cube (input .grid .inner) ≤ length (now kinds)) ⌝ }
+    requires { ⌜ (refusedByTwo (input .grid) ≡ false) × (refusedByFive (input .grid) ≡ false)
+        × (nodesOf (input .grid) * cube (input .grid .inner) ≤ length (now kinds)) ⌝ }
     ensures { λ _. ⌜ now (kinds .exit) ≡ kindsFrom (planOf input) (length (now (kinds .entry))) 0 ⌝ }
 {
     let g = input.grid;
@@ -253,7 +254,8 @@ fn nodes_right(g: Grid, nodes: usize, kinds: &[u8]) -> bool
 
 // Whether kinds are nonzero at just the active children, also past the last node's.
 pub fn kinds_right(input: Input, kinds: &[u8]) -> bool
-    requires { ⌜ (refusedByTwo (input .grid) ≡ false) × (refusedByFive (input .grid) ≡ false) × (nodesOf (input .grid) * cube (input .grid .inner) ≤ length (now kinds)) ⌝ }
+    requires { ⌜ (refusedByTwo (input .grid) ≡ false) × (refusedByFive (input .grid) ≡ false)
+        × (nodesOf (input .grid) * cube (input .grid .inner) ≤ length (now kinds)) ⌝ }
     ensures { λ r. ⌜ r ≡ sameActive (planOf input) 0 (now (kinds .entry)) ⌝ }
 {
     let g = input.grid;

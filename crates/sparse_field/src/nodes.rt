@@ -8,10 +8,22 @@ ghost use Rattle.grid.specs.Boxes.{nodeBox};
 ghost use Rattle.grid.specs.Nodes.{nodesOf};
 ghost use Rattle.schedule.specs.Schedule.{eventsFrom, childrenLeft, nodesLeft, at, corner, point};
 ghost use Rattle.schedule.specs.Totals.{activeBefore, activeAll};
-ghost use Rattle.sparse_field.specs.Calls.{memoryOf};
+ghost use Rattle.schedule.specs.Lent.{held, entered, left};
 ghost use Rattle.sparse_field.specs.Records.{cursorIn};
 ghost use Rattle.sparse_field.specs.Startable.{Startable};
-ghost use Rattle.sparse_field.specs.Progress.{plan, Sized, Lent, Ready, Advanced, NodeAdvanced, Turned, Onward, ZeroCorners, readingIn};
+ghost use Rattle.sparse_field.specs.Progress.{
+  planIn,
+  planNow,
+  Sized,
+  Lent,
+  Ready,
+  Advanced,
+  NodeAdvanced,
+  Turned,
+  Onward,
+  ZeroCorners,
+  readingIn,
+};
 use crate::Cursor;
 use crate::Progress;
 use crate::Stop;
@@ -42,8 +54,10 @@ fn rest_of_node(
     corners: &mut [f64],
 ) -> Progress
     requires { ⌜ Sized g × (b ≡ nodeBox g v) × (first ≤ cube (g .inner)) × (parts ≤ 64) ⌝ }
-    requires { ⌜ Ready (plan g band (now words) (now reals) parts) v first leaves (memoryOf (now kinds) (now numbers) (now places) (now store) (now corners)) ⌝ }
-    ensures { λ r. ⌜ NodeAdvanced (plan g band (now (words .entry)) (now (reals .entry)) parts) v budget leaves (memoryOf (now (kinds .entry)) (now (numbers .entry)) (now (places .entry)) (now (store .entry)) (now (corners .entry))) (memoryOf (now (kinds .exit)) (now (numbers .exit)) (now (places .exit)) (now (store .exit)) (now (corners .exit))) (childrenLeft (plan g band (now (words .entry)) (now (reals .entry)) parts) v first (readingIn (memoryOf (now (kinds .entry)) (now (numbers .entry)) (now (places .entry)) (now (store .entry)) (now (corners .entry))))) r ⌝ }
+    requires { ⌜ Ready (planNow g band words reals parts) v first leaves (held kinds numbers places store corners) ⌝ }
+    ensures { λ r. ⌜ NodeAdvanced (planIn g band words reals parts) v budget leaves (entered kinds numbers places store corners)
+        (left kinds numbers places store corners)
+        (childrenLeft (planIn g band words reals parts) v first (readingIn (entered kinds numbers places store corners))) r ⌝ }
 {
     let turn = children::run_children(
         g,
@@ -90,8 +104,10 @@ fn node_from_corner(
     corners: &mut [f64],
 ) -> Progress
     requires { ⌜ Sized g × (i ≤ cube (g .inner + 1)) × (parts ≤ 64) ⌝ }
-    requires { ⌜ Ready (plan g band (now words) (now reals) parts) v 0 leaves (memoryOf (now kinds) (now numbers) (now places) (now store) (now corners)) ⌝ }
-    ensures { λ r. ⌜ NodeAdvanced (plan g band (now (words .entry)) (now (reals .entry)) parts) v budget leaves (memoryOf (now (kinds .entry)) (now (numbers .entry)) (now (places .entry)) (now (store .entry)) (now (corners .entry))) (memoryOf (now (kinds .exit)) (now (numbers .exit)) (now (places .exit)) (now (store .exit)) (now (corners .exit))) (eventsFrom (plan g band (now (words .entry)) (now (reals .entry)) parts) (at (corner v i)) (readingIn (memoryOf (now (kinds .entry)) (now (numbers .entry)) (now (places .entry)) (now (store .entry)) (now (corners .entry))))) r ⌝ }
+    requires { ⌜ Ready (planNow g band words reals parts) v 0 leaves (held kinds numbers places store corners) ⌝ }
+    ensures { λ r. ⌜ NodeAdvanced (planIn g band words reals parts) v budget leaves (entered kinds numbers places store corners)
+        (left kinds numbers places store corners)
+        (eventsFrom (planIn g band words reals parts) (at (corner v i)) (readingIn (entered kinds numbers places store corners))) r ⌝ }
 {
     let n = g.inner as usize;
     let b = grid::node_box(g, v);
@@ -154,8 +170,10 @@ fn node_from_point(
     corners: &mut [f64],
 ) -> Progress
     requires { ⌜ Sized g × (c < cube (g .inner)) × (p ≤ cube (g .leaf)) × (0 < leaves) × (parts ≤ 64) ⌝ }
-    requires { ⌜ Ready (plan g band (now words) (now reals) parts) v (suc c) leaves (memoryOf (now kinds) (now numbers) (now places) (now store) (now corners)) ⌝ }
-    ensures { λ r. ⌜ NodeAdvanced (plan g band (now (words .entry)) (now (reals .entry)) parts) v budget leaves (memoryOf (now (kinds .entry)) (now (numbers .entry)) (now (places .entry)) (now (store .entry)) (now (corners .entry))) (memoryOf (now (kinds .exit)) (now (numbers .exit)) (now (places .exit)) (now (store .exit)) (now (corners .exit))) (eventsFrom (plan g band (now (words .entry)) (now (reals .entry)) parts) (at (point v c p)) (readingIn (memoryOf (now (kinds .entry)) (now (numbers .entry)) (now (places .entry)) (now (store .entry)) (now (corners .entry))))) r ⌝ }
+    requires { ⌜ Ready (planNow g band words reals parts) v (suc c) leaves (held kinds numbers places store corners) ⌝ }
+    ensures { λ r. ⌜ NodeAdvanced (planIn g band words reals parts) v budget leaves (entered kinds numbers places store corners)
+        (left kinds numbers places store corners)
+        (eventsFrom (planIn g band words reals parts) (at (point v c p)) (readingIn (entered kinds numbers places store corners))) r ⌝ }
 {
     let b = grid::node_box(g, v);
     let child = grid::child_box(b, g.inner, c);
@@ -214,9 +232,12 @@ fn run_nodes(
     store: &mut [f64],
     corners: &mut [f64],
 ) -> Progress
-    requires { ⌜ Sized g × (first ≤ nodesOf g) × (parts ≤ 64) × (leaves ≤ activeBefore (plan g band (now words) (now reals) parts) first 0) ⌝ }
-    requires { ⌜ Lent (plan g band (now words) (now reals) parts) (memoryOf (now kinds) (now numbers) (now places) (now store) (now corners)) × ZeroCorners (memoryOf (now kinds) (now numbers) (now places) (now store) (now corners)) ⌝ }
-    ensures { λ r. ⌜ Advanced (plan g band (now (words .entry)) (now (reals .entry)) parts) budget leaves (memoryOf (now (kinds .entry)) (now (numbers .entry)) (now (places .entry)) (now (store .entry)) (now (corners .entry))) (memoryOf (now (kinds .exit)) (now (numbers .exit)) (now (places .exit)) (now (store .exit)) (now (corners .exit))) (nodesLeft (plan g band (now (words .entry)) (now (reals .entry)) parts) first) [] r (activeAll (plan g band (now (words .entry)) (now (reals .entry)) parts)) ⌝ }
+    requires { ⌜ Sized g × (first ≤ nodesOf g) × (parts ≤ 64) × (leaves ≤ activeBefore (planNow g band words reals parts) first 0) ⌝ }
+    requires { ⌜ Lent (planNow g band words reals parts) (held kinds numbers places store corners)
+        × ZeroCorners (held kinds numbers places store corners) ⌝ }
+    ensures { λ r. ⌜ Advanced (planIn g band words reals parts) budget leaves (entered kinds numbers places store corners)
+        (left kinds numbers places store corners) (nodesLeft (planIn g band words reals parts) first) [] r
+        (activeAll (planIn g band words reals parts)) ⌝ }
 {
     let nodes = grid::node_total(g);
     let mut v = first;
@@ -272,8 +293,9 @@ fn after_node(
     corners: &mut [f64],
 ) -> Progress
     requires { ⌜ Sized g × (v < nodesOf g) × (parts ≤ 64) ⌝ }
-    requires { ⌜ Turned (plan g band (now words) (now reals) parts) v turn (memoryOf (now kinds) (now numbers) (now places) (now store) (now corners)) ⌝ }
-    ensures { λ r. ⌜ Onward (plan g band (now (words .entry)) (now (reals .entry)) parts) v turn (memoryOf (now (kinds .entry)) (now (numbers .entry)) (now (places .entry)) (now (store .entry)) (now (corners .entry))) (memoryOf (now (kinds .exit)) (now (numbers .exit)) (now (places .exit)) (now (store .exit)) (now (corners .exit))) r ⌝ }
+    requires { ⌜ Turned (planNow g band words reals parts) v turn (held kinds numbers places store corners) ⌝ }
+    ensures { λ r. ⌜ Onward (planIn g band words reals parts) v turn
+        (entered kinds numbers places store corners) (left kinds numbers places store corners) r ⌝ }
 {
     let stop = turn.stop;
     if let Stop::At(_) = stop {
@@ -315,8 +337,12 @@ pub fn run_from(
     corners: &mut [f64],
 ) -> Progress
     requires { ⌜ Sized g × (parts ≤ 64) ⌝ }
-    requires { ⌜ Lent (plan g band (now words) (now reals) parts) (memoryOf (now kinds) (now numbers) (now places) (now store) (now corners)) × Startable (plan g band (now words) (now reals) parts) cursor leaves × (leaves ≤ activeAll (plan g band (now words) (now reals) parts)) ⌝ }
-    ensures { λ r. ⌜ Advanced (plan g band (now (words .entry)) (now (reals .entry)) parts) budget leaves (memoryOf (now (kinds .entry)) (now (numbers .entry)) (now (places .entry)) (now (store .entry)) (now (corners .entry))) (memoryOf (now (kinds .exit)) (now (numbers .exit)) (now (places .exit)) (now (store .exit)) (now (corners .exit))) (eventsFrom (plan g band (now (words .entry)) (now (reals .entry)) parts) (cursorIn cursor) (readingIn (memoryOf (now (kinds .entry)) (now (numbers .entry)) (now (places .entry)) (now (store .entry)) (now (corners .entry))))) [] r (activeAll (plan g band (now (words .entry)) (now (reals .entry)) parts)) ⌝ }
+    requires { ⌜ Lent (planNow g band words reals parts) (held kinds numbers places store corners)
+        × Startable (planNow g band words reals parts) cursor leaves × (leaves ≤ activeAll (planNow g band words reals parts)) ⌝ }
+    ensures { λ r. ⌜ Advanced (planIn g band words reals parts) budget leaves (entered kinds numbers places store corners)
+        (left kinds numbers places store corners)
+        (eventsFrom (planIn g band words reals parts) (cursorIn cursor) (readingIn (entered kinds numbers places store corners))) [] r
+        (activeAll (planIn g band words reals parts)) ⌝ }
 {
     match cursor {
         Cursor::End => Progress {

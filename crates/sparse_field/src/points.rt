@@ -8,7 +8,7 @@ ghost use Rattle.model.specs.Part.{past};
 ghost use Rattle.grid.specs.Blocks.{cube};
 ghost use Rattle.grid.specs.Leaves.{leafPoint};
 ghost use Rattle.sparse_field.specs.Axes.{axesPoint};
-ghost use Rattle.sparse_field.specs.FlatValue.{flatValue};
+ghost use Rattle.sparse_field.specs.FlatValue.{valueIn};
 ghost use Rattle.sparse_field.specs.Plan.{at};
 ghost use Rattle.sparse_field.specs.RowLent.{RowLent};
 use crate::corners::row_length;
@@ -53,9 +53,12 @@ fn place_points(
     zs: &mut [f64; 64],
 )
     requires { ⌜ (0 < l) × (l ≤ 64) × (count ≤ 64) × (p + count ≤ cube l) ⌝ }
-    ensures { λ _. ⌜ now (xs .exit) ≡ filled 0 count (λ q. axesPoint l (now (ax .entry)) (now (ay .entry)) (now (az .entry)) (p + q) .x) (now (xs .entry)) ⌝ }
-    ensures { λ _. ⌜ now (ys .exit) ≡ filled 0 count (λ q. axesPoint l (now (ax .entry)) (now (ay .entry)) (now (az .entry)) (p + q) .y) (now (ys .entry)) ⌝ }
-    ensures { λ _. ⌜ now (zs .exit) ≡ filled 0 count (λ q. axesPoint l (now (ax .entry)) (now (ay .entry)) (now (az .entry)) (p + q) .z) (now (zs .entry)) ⌝ }
+    ensures xs { λ _. ⌜ now (xs .exit)
+        ≡ filled 0 count (λ q. axesPoint l (now (ax .entry)) (now (ay .entry)) (now (az .entry)) (p + q) .x) (now (xs .entry)) ⌝ }
+    ensures ys { λ _. ⌜ now (ys .exit)
+        ≡ filled 0 count (λ q. axesPoint l (now (ax .entry)) (now (ay .entry)) (now (az .entry)) (p + q) .y) (now (ys .entry)) ⌝ }
+    ensures zs { λ _. ⌜ now (zs .exit)
+        ≡ filled 0 count (λ q. axesPoint l (now (ax .entry)) (now (ay .entry)) (now (az .entry)) (p + q) .z) (now (zs .entry)) ⌝ }
 {
     let side = l as usize;
     let mut at = grid::indices(p, side, side);
@@ -103,9 +106,12 @@ fn point_row(
     scratch: &mut [f64; 4096],
     stretch: &mut [f64],
 )
-    requires { ⌜ (parts ≤ 64) × (0 < l) × (l ≤ 64) × (count ≤ 64) × (p + count ≤ cube l) × (cube l ≤ length (now stretch)) × RowLent (now xs) (now ys) (now zs) (now values) ⌝ }
+    requires { ⌜ (parts ≤ 64) × (0 < l) × (l ≤ 64) × (count ≤ 64) × (p + count ≤ cube l) × (cube l ≤ length (now stretch))
+        × RowLent (now xs) (now ys) (now zs) (now values) ⌝ }
     ensures { λ _. ⌜ RowLent (now (xs .exit)) (now (ys .exit)) (now (zs .exit)) (now (values .exit)) ⌝ }
-    ensures { λ _. ⌜ now (stretch .exit) ≡ filled p count (λ q. at (flatValue (now (words .entry)) (now (reals .entry)) parts) (axesPoint l (now (ax .entry)) (now (ay .entry)) (now (az .entry)) q)) (now (stretch .entry)) ⌝ }
+    ensures stretch { λ _. ⌜ now (stretch .exit)
+        ≡ filled p count (λ q. at (valueIn words reals parts) (axesPoint l (now (ax .entry)) (now (ay .entry)) (now (az .entry)) q))
+        (now (stretch .entry)) ⌝ }
 {
     place_points(l, p, count, ax, ay, az, xs, ys, zs);
     model::evaluate_row_into(words, reals, parts, xs, ys, zs, count, scratch, values);
@@ -127,7 +133,9 @@ fn fill_rows(
     stretch: &mut [f64],
 )
     requires { ⌜ (parts ≤ 64) × (0 < l) × (l ≤ 64) × (p + made ≤ cube l) × (cube l ≤ length (now stretch)) ⌝ }
-    ensures { λ _. ⌜ now (stretch .exit) ≡ filled p made (λ q. at (flatValue (now (words .entry)) (now (reals .entry)) parts) (axesPoint l (now (ax .entry)) (now (ay .entry)) (now (az .entry)) q)) (now (stretch .entry)) ⌝ }
+    ensures { λ _. ⌜ now (stretch .exit)
+        ≡ filled p made (λ q. at (valueIn words reals parts) (axesPoint l (now (ax .entry)) (now (ay .entry)) (now (az .entry)) q))
+        (now (stretch .entry)) ⌝ }
 {
     let mut xs = [0.0; 64];
     let mut ys = [0.0; 64];
@@ -172,8 +180,9 @@ pub fn fill_points(
     stretch: &mut [f64],
 ) -> usize
     requires { ⌜ (0 < l) × (l ≤ 64) × (p ≤ cube l) × (cube l ≤ length (now stretch)) × (parts ≤ 64) ⌝ }
-    ensures { λ r. ⌜ r ≡ p + min budget (cube l - p) ⌝ }
-    ensures { λ _. ⌜ now (stretch .exit) ≡ filled p (min budget (cube l - p)) (λ q. at (flatValue (now (words .entry)) (now (reals .entry)) parts) (leafPoint b l q)) (now (stretch .entry)) ⌝ }
+    ensures answer { λ r. ⌜ r ≡ p + min budget (cube l - p) ⌝ }
+    ensures stretch { λ _. ⌜ now (stretch .exit)
+        ≡ filled p (min budget (cube l - p)) (λ q. at (valueIn words reals parts) (leafPoint b l q)) (now (stretch .entry)) ⌝ }
 {
     let side = l as usize;
     let made = points_made(budget, side * side * side - p);

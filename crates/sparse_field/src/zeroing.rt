@@ -3,7 +3,7 @@ ghost use mathlib.Core.Path.{_≡_};
 ghost use lib.ListN.{length, replicate};
 ghost use Rattle.float.specs.Zero.{plusZero};
 ghost use Rattle.schedule.specs.Opened.{lengthsOf, zeroMemory};
-ghost use Rattle.sparse_field.specs.Calls.{memoryOf};
+ghost use Rattle.schedule.specs.Lent.{entered, left};
 
 pub fn zero_bytes(bytes: &mut [u8])
     ensures { λ _. ⌜ now (bytes .exit) ≡ replicate (length (now (bytes .entry))) 0 ⌝ }
@@ -43,7 +43,7 @@ pub fn zero_all(
     store: &mut [f64],
     corners: &mut [f64],
 )
-    ensures { λ _. ⌜ memoryOf (now (kinds .exit)) (now (numbers .exit)) (now (places .exit)) (now (store .exit)) (now (corners .exit)) ≡ zeroMemory (lengthsOf (memoryOf (now (kinds .entry)) (now (numbers .entry)) (now (places .entry)) (now (store .entry)) (now (corners .entry)))) ⌝ }
+    ensures { λ _. ⌜ left kinds numbers places store corners ≡ zeroMemory (lengthsOf (entered kinds numbers places store corners)) ⌝ }
 {
     zero_bytes(kinds);
     zero_floats(numbers);

@@ -7,7 +7,7 @@ use borrow.Author.Needs.{needs}
 use lib.ListN.{length}
 use lib.Seq.{sets}
 use lib.Ieee as ieee
-use Rattle.sparse_field.specs.Calls.{memoryOf}
+use Rattle.schedule.specs.Lent.{memoryOf}
 use Rattle.job_text.specs.Listing.{linesFrom, lineAt}
 use Rattle.job_text.proofs.LineLaws.{both-end, both-put, put-long}
 use Rattle.job_text.proofs.ListingLaws.{placed-at, lines-next, line-within, line-read}

@@ -2,7 +2,7 @@
 use mathlib.Core.Path.{sym, ap, _∙_}
 use borrow.Author.Tests.{not-true, not-false}
 use Rattle.schedule.specs.Schedule.{Memory}
-use Rattle.sparse_field.specs.Calls.{memoryOf}
+use Rattle.schedule.specs.Lent.{memoryOf}
 use Rattle.job_text.proofs.WrittenLaws.{no-job, judged-impossible, judged-possible}
 use borrow.Author.Needs.{needs}
 use Rattle.job_text.proofs.writing.write_listing.Statement.{statement}

@@ -6,7 +6,7 @@ use native.Mathlib.Omega.{arith}
 use lib.ListN.{length}
 use Rattle.schedule.specs.Schedule.{Memory}
 use Rattle.schedule.specs.Totals.{sumBelow}
-use Rattle.sparse_field.specs.Calls.{memoryOf}
+use Rattle.schedule.specs.Lent.{memoryOf}
 use Rattle.sparse_field.specs.Records.{countsIn}
 use Rattle.job_text.specs.Lengths.{lengthAt}
 use Rattle.job_text.specs.Listing.{doneLine, listingTo}

@@ -7,7 +7,7 @@ use lib.ListN.{length}
 use Rattle.grid.specs.Blocks.{cube}
 use Rattle.grid.specs.Nodes.{nodesOf}
 use Rattle.schedule.specs.Schedule.{Memory}
-use Rattle.sparse_field.specs.Calls.{memoryOf}
+use Rattle.schedule.specs.Lent.{memoryOf}
 use Rattle.job_text.proofs.WrittenLaws.{Ready, ready, unfinished, unplaced, printed}
 use borrow.Author.Needs.{needs}
 use Rattle.job_text.proofs.writing.write_possible.Statement.{statement}

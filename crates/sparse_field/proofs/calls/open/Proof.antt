@@ -5,7 +5,7 @@ use Rattle.sparse_field.specs.declared.Answer.the-variants.{Accepted}
 use Rattle.sparse_field.specs.Records.{numberOf}
 use Rattle.sparse_field.proofs.CallLaws.{open-refused, open-accepted}
 use Rattle.schedule.specs.Schedule.{Memory}
-use Rattle.sparse_field.specs.Calls.{memoryOf}
+use Rattle.schedule.specs.Lent.{memoryOf}
 use borrow.Author.Needs.{needs}
 use Rattle.sparse_field.proofs.calls.open.Statement.{statement}
 use Rattle.sparse_field.proofs.calls.open.Tie as tie

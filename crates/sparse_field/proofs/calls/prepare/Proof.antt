@@ -7,7 +7,7 @@ use Rattle.schedule.specs.Opened.{lengthsOf, kindsFrom, opened}
 use Rattle.sparse_field.specs.Plan.{planOf}
 use Rattle.sparse_field.proofs.Opening.{nothing}
 use Rattle.schedule.specs.Schedule.{Memory}
-use Rattle.sparse_field.specs.Calls.{memoryOf}
+use Rattle.schedule.specs.Lent.{memoryOf}
 use borrow.Author.Needs.{needs}
 use Rattle.sparse_field.proofs.calls.prepare.Statement.{statement}
 use Rattle.sparse_field.proofs.calls.prepare.Tie as tie

@@ -7,7 +7,7 @@ use lib.ListN.{length}
 use borrow.Author.Needs.{needs}
 use Rattle.grid.specs.Blocks.{cube}
 use Rattle.sparse_field.specs.declared.Stop.the-variants.{Through, At}
-use Rattle.sparse_field.specs.Calls.{memoryOf}
+use Rattle.schedule.specs.Lent.{memoryOf}
 use Rattle.sparse_field.specs.Plan.{planWith}
 use Rattle.sparse_field.specs.Progress.{plan, ChildrenAdvanced}
 use Rattle.sparse_field.proofs.Turns.{progress, advanced-start, advanced-through, advanced-then, advanced-stopped, children-upto}

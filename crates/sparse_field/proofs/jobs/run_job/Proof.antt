@@ -4,7 +4,7 @@ use mathlib.Core.Path.{subst}
 use Rattle.model.proofs.Accepted.{count-le}
 use Rattle.schedule.specs.Schedule.{Memory}
 use Rattle.schedule.specs.Totals.{activeAll}
-use Rattle.sparse_field.specs.Calls.{memoryOf}
+use Rattle.schedule.specs.Lent.{memoryOf}
 use Rattle.sparse_field.specs.Progress.{Lent}
 use Rattle.sparse_field.specs.Records.{cursorIn}
 use Rattle.sparse_field.specs.Startable.{Startable}

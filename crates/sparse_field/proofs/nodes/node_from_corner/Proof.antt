@@ -6,7 +6,7 @@ use lib.ListN.{length}
 use Rattle.grid.specs.Blocks.{cube}
 use Rattle.grid.specs.Nodes.{nodesOf}
 use Rattle.schedule.specs.Schedule.{Memory}
-use Rattle.sparse_field.specs.Calls.{memoryOf}
+use Rattle.schedule.specs.Lent.{memoryOf}
 use Rattle.sparse_field.specs.Plan.{planWith}
 use Rattle.sparse_field.proofs.Turns.{advanced-then}
 use Rattle.sparse_field.proofs.NodeLaws.{node-few, part-long, node-at-corner, node-past-corners}

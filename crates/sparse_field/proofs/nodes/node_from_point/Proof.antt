@@ -12,7 +12,7 @@ use lib.Ieee.{Float}
 use Rattle.schedule.specs.Schedule.{Plan, Memory, Event, childrenLeft}
 use Rattle.sparse_field.specs.declared.Progress.{Progress}
 use Rattle.schedule.specs.Totals.{activeBefore}
-use Rattle.sparse_field.specs.Calls.{memoryOf}
+use Rattle.schedule.specs.Lent.{memoryOf}
 use Rattle.sparse_field.specs.Plan.{planWith}
 use Rattle.sparse_field.specs.Progress.{plan, Advanced, readingIn}
 use Rattle.sparse_field.proofs.Turns.{advanced-then, came-through, node-stopped}

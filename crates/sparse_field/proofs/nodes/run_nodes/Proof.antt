@@ -10,7 +10,7 @@ use Rattle.grid.specs.Nodes.{nodesOf}
 use Rattle.schedule.specs.Schedule.{Plan, Memory, nodesLeft}
 use Rattle.schedule.specs.Totals.{activeBefore}
 use Rattle.sparse_field.specs.declared.Stop.the-variants.{Through, At}
-use Rattle.sparse_field.specs.Calls.{memoryOf}
+use Rattle.schedule.specs.Lent.{memoryOf}
 use Rattle.sparse_field.specs.Plan.{planWith}
 use Rattle.sparse_field.specs.Progress.{plan, Advanced, ZeroCorners}
 use Rattle.sparse_field.proofs.Turns.{progress, advanced-start, advanced-through, advanced-stopped, came-through}

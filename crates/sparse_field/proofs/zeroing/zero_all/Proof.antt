@@ -1,5 +1,5 @@
 -- `zeroing::zero_all` meets its contract, slice by slice.
-use Rattle.sparse_field.specs.Calls.{memoryOf}
+use Rattle.schedule.specs.Lent.{memoryOf}
 use borrow.Author.Needs.{needs}
 use Rattle.sparse_field.proofs.zeroing.zero_all.Statement.{statement}
 use Rattle.sparse_field.proofs.zeroing.zero_all.Tie as tie
