@@ -10,7 +10,7 @@ use Rattle.geometry.specs.declared.Vec3i.{Vec3i}
 use Rattle.geometry.specs.Index.{dimensionsRefused}
 use Rattle.geometry.proofs.Grid.{accepted}
 use Rattle.dense_field.specs.Field.{valuesRefused, pointsOf}
-use Rattle.dense_field.specs.Lent.{Lent}
+use Rattle.dense_field.specs.Inner.Lent.{Lent}
 
 -- the same field with other values of its length
 pub as-long : {n : Vec3i} {a b : ℕ} → Lent n a → b ≡ a → Lent n b

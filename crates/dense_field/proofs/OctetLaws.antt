@@ -17,7 +17,7 @@ use Rattle.geometry.specs.Causes.{firstOf}
 use Rattle.geometry.specs.Index.{placeOf, nextIndices}
 use Rattle.geometry.specs.Octet.{octetOrder, octetPlaces}
 use Rattle.dense_field.specs.Field.{valuesRefused, pointsOf}
-use Rattle.dense_field.specs.Lent.{Lent}
+use Rattle.dense_field.specs.Inner.Lent.{Lent}
 use Rattle.dense_field.specs.Octets.{cellInside, octetOf}
 use Rattle.dense_field.specs.Cells.{octetCause}
 use Rattle.dense_field.specs.Walks.{octetStep}

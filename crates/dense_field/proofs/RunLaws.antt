@@ -22,9 +22,9 @@ use Rattle.model.specs.Flat.{Flat, partsOf}
 use Rattle.model.specs.Model.{modelValue}
 use Rattle.model.specs.Row.{modelRow}
 use Rattle.dense_field.specs.Field.{pointsOf}
-use Rattle.dense_field.specs.Lent.{Lent, Run}
+use Rattle.dense_field.specs.Inner.Lent.{Lent, Run}
 use Rattle.dense_field.specs.Points.{fieldPoint}
-use Rattle.dense_field.specs.Runs.{axisPoint, placePoint, RunPoints, flatAt}
+use Rattle.dense_field.specs.Inner.Runs.{axisPoint, placePoint, RunPoints, flatAt}
 use Rattle.dense_field.specs.Sampling.{valueAt}
 use Rattle.dense_field.proofs.Edges.{pointAt}
 

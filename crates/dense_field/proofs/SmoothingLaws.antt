@@ -19,7 +19,7 @@ use Rattle.geometry.specs.declared.Vec3i.{Vec3i}
 use Rattle.geometry.specs.Values.{vec3i}
 use Rattle.geometry.specs.Axis.{asFloat}
 use Rattle.dense_field.specs.Field.{valuesRefused, pointsOf, scratchNeeded, onEdge, outside}
-use Rattle.dense_field.specs.Lent.{Lent, Between}
+use Rattle.dense_field.specs.Inner.Lent.{Lent, Between}
 use Rattle.dense_field.specs.Smoothing.{smoothRefused, neighbourSum, valueOf, blended, blendedAt, smoothedAt, smoothedOnce, smoothed}
 use Rattle.dense_field.proofs.Edges.{edge-first, edge-last, edge-none, rowFrom, pointAt, point-of-row, out-i, out-j, not-out, outer-slab}
 use Rattle.dense_field.proofs.Lending.{lent}

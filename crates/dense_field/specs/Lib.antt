@@ -2,7 +2,6 @@
 pub mod Points
 pub mod Field
 pub mod Outcomes
-pub mod Lent
 pub mod Sampling
 pub mod Padding
 pub mod Threshold
@@ -13,3 +12,4 @@ pub mod Cells
 pub mod Walker
 pub mod Traces
 pub mod Runs
+pub mod Inner

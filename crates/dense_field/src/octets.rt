@@ -4,7 +4,7 @@ ghost use mathlib.Core.Path.{_≡_};
 ghost use Prim.Native.Nat.{_+_, _<_};
 ghost use lib.ListN.{length};
 ghost use lib.Ieee.{binary64, add, mul};
-ghost use Rattle.dense_field.specs.Lent.{Lent};
+ghost use Rattle.dense_field.specs.Inner.Lent.{Lent};
 ghost use Rattle.dense_field.specs.Octets.{cellInside, cornerIndex, cornersOf, octetOf};
 ghost use Rattle.dense_field.specs.Cells.{cornersCause, cellCornersOf, octetCause, cellValuesOf, octetWalkOf};
 ghost use Rattle.dense_field.specs.Walks.{octetStep};

@@ -6,7 +6,7 @@ ghost use Prim.Native.Nat.{_+_, _*_, _≤_, _<_};
 ghost use lib.ListN.{length};
 ghost use Rattle.lists.specs.Filled.{filled};
 ghost use Rattle.dense_field.specs.Field.{valuesRefused};
-ghost use Rattle.dense_field.specs.Lent.{Lent};
+ghost use Rattle.dense_field.specs.Inner.Lent.{Lent};
 ghost use Rattle.dense_field.specs.Outcomes.{outcomeOf};
 ghost use Rattle.dense_field.specs.Padding.{paddedAt, padded};
 use crate::Outcome;

@@ -6,7 +6,7 @@ ghost use Prim.Native.Nat.{_+_, _*_, _≤_, _<_};
 ghost use lib.ListN.{length, replicate};
 ghost use Rattle.lists.specs.Filled.{filled};
 ghost use Rattle.float.specs.Zero.{plusZero};
-ghost use Rattle.dense_field.specs.Lent.{Lent, Between};
+ghost use Rattle.dense_field.specs.Inner.Lent.{Lent, Between};
 ghost use Rattle.dense_field.specs.Smoothing.{smoothRefused, neighbourSum, valueOf, blendedAt, smoothedAt, smoothedOnce, smoothed};
 use crate::Outcome;
 use geometry::Vec3i;

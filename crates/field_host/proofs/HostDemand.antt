@@ -27,7 +27,8 @@ use Rattle.schedule.proofs.Possible.{possible}
 use Rattle.sparse_field.specs.declared.Input.{Input}
 use Rattle.sparse_field.specs.declared.Record.{Record}
 use Rattle.sparse_field.specs.Records.{sparse, lent, jobIn, recordIn, byFlag, noRecord, noModel}
-use Rattle.sparse_field.specs.Calls.{Handed, handed, called, openedRecord, openedMemory}
+use Rattle.sparse_field.specs.Calls.{Handed, handed, called}
+use Rattle.sparse_field.specs.Inner.Parts.{openedRecord, openedMemory}
 use Rattle.sparse_field.specs.Lists.{Held, answerIn}
 use Rattle.sparse_field.proofs.Opening.{sized, nothing, sparse-laws}
 use Rattle.sparse_field.proofs.CallLaws.{refusedBy, acceptedWith, step-none, step-impossible, step-accepted, drop-accepted}

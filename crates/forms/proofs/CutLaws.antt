@@ -11,7 +11,8 @@ use Rattle.forms.specs.Digits.{digitOf}
 use Rattle.forms.specs.Fronts as fronts
 use Rattle.forms.specs.Fronts.{hexAfter, decimalAfter, decimalFront}
 use Rattle.forms.specs.Forms.{Piece, hex, decimal, byte, isField, Line, off, line, readPiece, withNumber, onFront, readForm}
-use Rattle.forms.specs.Fitting.{endsDecimal, separated, mostPiece, mostOf, cutFront, cutLine}
+use Rattle.forms.specs.Fitting.{mostPiece, mostOf}
+use Rattle.forms.specs.Inner.Cuts.{endsDecimal, separated, cutFront, cutLine}
 use Rattle.forms.proofs.Cases.{below-or, equal-or, never}
 use Rattle.forms.proofs.NumberLaws.{hex-digit, hex-other, decimal-digit, decimal-past, decimal-ends, decimal-first, decimal-large, decimal-none, decimal-nought, digit-some}
 use Rattle.forms.proofs.FormLaws.{byte-read, byte-other, front-most, and-left, separated-rest}

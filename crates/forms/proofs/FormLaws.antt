@@ -10,7 +10,8 @@ use lib.Seq.{take-all}
 use Rattle.forms.specs.Digits.{hexOf, decimalCount, decimalOf}
 use Rattle.forms.specs.Fronts as fronts
 use Rattle.forms.specs.Forms.{Piece, hex, decimal, byte, spellPiece, isField, after, spell, fields, Line, off, line, readPiece, withNumber, onFront, readForm}
-use Rattle.forms.specs.Fitting.{endsNumber, endsDecimal, separated, FitsPiece, Fits, Spells, mostPiece, mostOf}
+use Rattle.forms.specs.Fitting.{FitsPiece, Fits, Spells, mostPiece, mostOf}
+use Rattle.forms.specs.Inner.Cuts.{endsNumber, endsDecimal, separated}
 use Rattle.forms.proofs.Cases.{equal-or, never}
 use Rattle.forms.proofs.DigitLaws.{digits-length, count-most}
 use Rattle.forms.proofs.NumberLaws.{off-number, rest-same, hex-spelled, hex-sound, decimal-spelled, decimal-sound}

@@ -8,7 +8,7 @@ use mathlib.Core.Bool.{true}
 use borrow.Author.Tests.{lt-ltb, le-ltb, le-leb, lt-leb, leb-true, eq-eqb, ne-eqb}
 use Rattle.forms.specs.Digits.{digitByte, digitOf, digits, hexOf, decimalCount, decimalOf}
 use Rattle.forms.specs.Fronts.{off, number, hexAfter, hexFront, decimalAfter, decimalFront}
-use Rattle.forms.specs.Fitting.{endsNumber}
+use Rattle.forms.specs.Inner.Cuts.{endsNumber}
 use Rattle.forms.proofs.Cases.{below-or, equal-or}
 use Rattle.forms.proofs.DigitLaws.{digit-of-byte, byte-of-digit, digits-more, count-one, count-next, tenth-below, zero-decimal, decimal-one, decimal-more, byte-number}
 

@@ -6,7 +6,8 @@ use Rattle.forms.specs.Bytes.{bytes}
 use Rattle.forms.specs.Digits.{digitByte, digitOf, digits, decimalCount}
 use Rattle.forms.specs.Fronts.{hexAfter, decimalAfter, decimalFront}
 use Rattle.forms.specs.Forms.{pieceOf, spellPiece, isField, after, spell, off, line, readPiece, withNumber, onFront, readForm}
-use Rattle.forms.specs.Fitting.{endsDecimal, separated, mostPiece, mostOf, most}
+use Rattle.forms.specs.Fitting.{mostPiece, mostOf, most}
+use Rattle.forms.specs.Inner.Cuts.{endsDecimal, separated}
 
 blocks-read : readForm 4294967295 (map pieceOf (bytes "(blocks D D)\n")) (bytes "(blocks 2 10)\n(band") ≡ line (2 ∷ 10 ∷ []) (bytes "(band")
 unfolding pieceOf readForm readPiece onFront withNumber isField decimalFront decimalAfter digitOf

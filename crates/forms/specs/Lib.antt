@@ -2,5 +2,5 @@ pub mod Bytes
 pub mod Digits
 pub mod Fronts
 pub mod Forms
-pub mod Answers
 pub mod Fitting
+pub mod Inner

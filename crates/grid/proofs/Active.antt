@@ -9,7 +9,7 @@ use Rattle.geometry.specs.Box.{intersectsOf}
 use Rattle.grid.specs.declared.Grid.{Grid}
 use Rattle.grid.specs.Nodes.{sizeOf}
 use Rattle.grid.specs.Boxes.{nodeLeast, nodeMost, nodeBoxAt, nodeBox, childBoxAt, childBox, nodeIndices, childIndices, active}
-use Rattle.grid.specs.Activity.{axisActive}
+use Rattle.grid.specs.Inner.Activity.{axisActive}
 
 -- by the two comparisons of the code
 module _ (least most s : Float) (n i ci : ℕ) where

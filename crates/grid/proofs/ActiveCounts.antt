@@ -14,8 +14,8 @@ use Rattle.grid.specs.Ranges.{countBelow}
 use Rattle.grid.specs.Blocks.{cube}
 use Rattle.grid.specs.Nodes.{sizeOf, nodeCounts, nodesOf}
 use Rattle.grid.specs.Boxes.{active, nodeIndices, childIndices, nodeLeast, nodeMost}
-use Rattle.grid.specs.Activity.{axisActive}
-use Rattle.grid.specs.Counting.{sumBelow, activeIn, activeOf, axisCount, axisTotal}
+use Rattle.grid.specs.Inner.Activity.{axisActive, axisCount, axisTotal}
+use Rattle.grid.specs.Counting.{sumBelow, activeIn, activeOf}
 use Rattle.grid.proofs.Active.{by-axes}
 use Rattle.grid.proofs.RangeLists.{countBelow-cong, countBelow-le}
 use Rattle.grid.proofs.Sums.{sum-cong, sum-le, sum-places, count-places}

@@ -14,7 +14,7 @@ use Rattle.grid.specs.Blocks.{isBlock, cube}
 use Rattle.grid.specs.Corners.{among, needed}
 use Rattle.grid.specs.CornerList.{nonzero, cornerListCauses, cornerListOf, CornersOnce}
 use Rattle.grid.specs.declared.CornerList.the-variants.{Count, Refused}
-use Rattle.grid.specs.CornerMarks.{neededTo, Marks, ZeroFrom, Gathered}
+use Rattle.grid.specs.Inner.CornerMarks.{neededTo, Marks, ZeroFrom, Gathered}
 use Rattle.grid.proofs.RangeLists.{listBelow-cong, countBelow-cong, among-listBelow, no-repeat}
 use Rattle.grid.proofs.MarkLaws.{needed-within}
 

@@ -19,7 +19,7 @@ use Rattle.grid.specs.Blocks.{cube}
 use Rattle.grid.specs.Boxes.{childIndices}
 use Rattle.grid.specs.Corners.{octet, among, needed}
 use Rattle.grid.specs.CornerList.{nonzero}
-use Rattle.grid.specs.CornerMarks.{marked, eightFrom, neededTo, Marks}
+use Rattle.grid.specs.Inner.CornerMarks.{marked, eightFrom, neededTo, Marks}
 use Rattle.grid.proofs.RangeLists.{anyBelow-none}
 
 -- ---- whether an element is nonzero

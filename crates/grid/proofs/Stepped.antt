@@ -8,7 +8,7 @@ use Rattle.geometry.specs.Index.{indicesOf}
 use Rattle.geometry.specs.Axis.{along, stepAlong}
 use Rattle.grid.specs.Leaves.{leafPoint}
 use Rattle.grid.specs.Corners.{cornerPoint}
-use Rattle.grid.specs.Steps.{leafSteps, steppedPoint, cornerAt}
+use Rattle.grid.specs.Inner.Steps.{leafSteps, steppedPoint, cornerAt}
 
 pub leaf-stepped : (b : BoundingBox) (l p : ℕ) {steps : Vec3} → steps ≡ leafSteps b l → steppedPoint (b .min) steps (indicesOf p l l) ≡ leafPoint b l p
 unfolding along leafPoint leafSteps steppedPoint

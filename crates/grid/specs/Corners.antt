@@ -1,11 +1,9 @@
 -- Document 01, "Sparse field": the corners of a node, and those that its active children need.
 use Prim.Native.Nat.{ℕ, _+_}
 use mathlib.Core.Bool.{Bool, false, _&&_, _||_}
-use mathlib.Core.List.{List, [], _∷_, map}
+use mathlib.Core.List.{List, _∷_}
 use lib.Dec.{eqb}
-use lib.ListN.{getD}
-use lib.Ieee.{Float, binary64, add, mul}
-use Rattle.float.specs.Zero.{plusZero}
+use lib.Ieee.{binary64, add, mul}
 use Rattle.geometry.specs.declared.Vec3.{Vec3}
 use Rattle.geometry.specs.declared.BoundingBox.{BoundingBox}
 use Rattle.geometry.specs.Values.{vec3}
@@ -29,10 +27,6 @@ cornerPoint b n corner =
 -- the eight corners of child c, in octet order
 unfoldable pub octet : (n c : ℕ) → List ℕ
 octet n c = octetPlaces (n + 1) (n + 1) (childIndices n c)
-
--- the values at them, out of the values at all corners of the node
-unfoldable pub octetValues : List Float → (n c : ℕ) → List Float
-octetValues corners n c = map (λ p. getD corners p plusZero) (octet n c)
 
 -- whether a number is in a list
 unfoldable pub among : ℕ → List ℕ → Bool

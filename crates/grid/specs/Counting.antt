@@ -1,12 +1,10 @@
 -- Document 01: the "active children" of a node, and of the whole grid.
 use Prim.Native.Nat.{ℕ, zero, suc, _+_}
-use lib.Ieee.{Float}
 use Rattle.grid.specs.declared.Grid.{Grid}
 use Rattle.grid.specs.Ranges.{countBelow}
 use Rattle.grid.specs.Blocks.{cube}
 use Rattle.grid.specs.Nodes.{nodesOf}
 use Rattle.grid.specs.Boxes.{active}
-use Rattle.grid.specs.Activity.{axisActive}
 
 -- the sum of a function's values below n
 unfoldable pub sumBelow : ℕ → (ℕ → ℕ) → ℕ
@@ -20,10 +18,3 @@ activeIn g v = countBelow (cube (g .inner)) (active g v)
 -- the active children of all nodes
 unfoldable pub activeOf : Grid → ℕ
 activeOf g = sumBelow (nodesOf g) (activeIn g)
-
--- on one axis: the children of node i that bounds from `least` to `most` meet, and those of the first `nodes` nodes
-unfoldable pub axisCount : (least most s : Float) → (n i : ℕ) → ℕ
-axisCount least most s n i = countBelow n (axisActive least most s n i)
-
-unfoldable pub axisTotal : (least most s : Float) → (n nodes : ℕ) → ℕ
-axisTotal least most s n nodes = sumBelow nodes (axisCount least most s n)

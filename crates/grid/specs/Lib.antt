@@ -6,9 +6,7 @@ pub mod Boxes
 pub mod Corners
 pub mod Leaves
 pub mod Pruning
-pub mod Activity
-pub mod Steps
 pub mod CornerList
-pub mod CornerMarks
 pub mod Counting
 pub mod Causes
+pub mod Inner

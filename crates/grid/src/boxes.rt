@@ -2,7 +2,7 @@
 ghost use mathlib.Core.Path.{_≡_};
 ghost use Prim.Native.Nat.{_<_};
 ghost use Rattle.grid.specs.Boxes.{nodeLeast, nodeMost, nodeBoxAt, nodeBox, childBoxAt, childBox, active};
-ghost use Rattle.grid.specs.Activity.{axisActive};
+ghost use Rattle.grid.specs.Inner.Activity.{axisActive};
 use crate::Grid;
 use crate::nodes::indices;
 use crate::nodes::node_counts;

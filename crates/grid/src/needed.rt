@@ -6,7 +6,7 @@ ghost use Rattle.grid.specs.Ranges.{countBelow};
 ghost use Rattle.grid.specs.Blocks.{cube};
 ghost use Rattle.grid.specs.Corners.{needed};
 ghost use Rattle.grid.specs.CornerList.{nonzero, cornerListOf, CornersOnce, HoldsCorners};
-ghost use Rattle.grid.specs.CornerMarks.{marked, eightFrom, Marks, ZeroFrom, Gathered};
+ghost use Rattle.grid.specs.Inner.CornerMarks.{marked, eightFrom, Marks, ZeroFrom, Gathered};
 use crate::CornerList;
 use crate::blocks::cube_of;
 use crate::nodes::is_block;

@@ -10,7 +10,8 @@ ghost use Rattle.geometry.specs.Octet.{octetPlaces};
 ghost use Rattle.grid.specs.Blocks.{cube};
 ghost use Rattle.grid.specs.Corners as corners;
 ghost use Rattle.grid.specs.Leaves.{leafPoint};
-ghost use Rattle.grid.specs.Steps.{leafSteps, steppedPoint, cornerAt};
+ghost use Rattle.grid.specs.Inner.Octets.{octetValues};
+ghost use Rattle.grid.specs.Inner.Steps.{leafSteps, steppedPoint, cornerAt};
 use crate::nodes::indices;
 use crate::nodes::steps_between;
 use geometry::BoundingBox;
@@ -117,7 +118,7 @@ fn value_at(values: &[f64], p: usize) -> f64
 // The values at a child's eight corners.
 pub fn octet_values(values: &[f64], n: u32, c: usize) -> [f64; 8]
     requires { ⌜ (0 < n) × (n ≤ 64) × (c < cube n) × (cube (n + 1) ≤ length (now values)) ⌝ }
-    ensures { λ r. ⌜ r ≡ corners.octetValues (now (values .entry)) n c ⌝ }
+    ensures { λ r. ⌜ r ≡ octetValues (now (values .entry)) n c ⌝ }
 {
     let p = octet(n, c);
     [

@@ -6,7 +6,8 @@ use mathlib.Core.Bool.{true}
 use mathlib.Core.List.{List, [], _∷_}
 use lib.ListN.{length, take}
 use Rattle.forms.specs.Forms.{Piece, Line, off, line, readForm}
-use Rattle.forms.specs.Fitting.{separated, most}
+use Rattle.forms.specs.Fitting.{most}
+use Rattle.forms.specs.Inner.Cuts.{separated}
 use Rattle.forms.proofs.FormLaws.{form-most}
 use Rattle.forms.proofs.CutLaws.{off-cut, line-cut}
 use Rattle.job_text.specs.Lines.{limit, boundsForm, cellForm, blocksForm, bandForm, PartKind, partForm, partKinds}

@@ -7,7 +7,8 @@ use mathlib.Core.List.{List, [], _∷_, _++_}
 use lib.ListN.{length}
 use Rattle.forms.specs.Digits.{digitOf}
 use Rattle.forms.specs.Forms.{pieceOf, isField, after, spellPiece, spell, Line, readPiece, withNumber, onFront, readForm}
-use Rattle.forms.specs.Fitting.{endsDecimal, separated, mostPiece, mostOf, most}
+use Rattle.forms.specs.Fitting.{mostPiece, mostOf, most}
+use Rattle.forms.specs.Inner.Cuts.{endsDecimal, separated}
 use Rattle.forms.proofs.FormLaws.{form-spelled}
 use Rattle.job_text.specs.Lines.{limit, boundsForm, cellForm, blocksForm, bandForm, PartKind, const, sphere, plane, min, max, add, sub, neg, partForm}
 use Rattle.job_text.specs.Parts.{Spelt, part, orPart, partAmong, readPart}

@@ -16,7 +16,8 @@ use Rattle.model.specs.Part.{partIn}
 use Rattle.sparse_field.specs.declared.Input.{Input}
 use Rattle.job_text.specs.Lines.{limit}
 use Rattle.job_text.specs.Parts.{partFrom, Spelt}
-use Rattle.job_text.specs.Reading.{componentOf, componentsOf, patternsOf, inputOf, readJob, readText, readingOf}
+use Rattle.job_text.specs.Reading.{componentOf, componentsOf, patternsOf, readJob, readText, readingOf}
+use Rattle.job_text.specs.Inner.Inputs.{inputOf}
 use Rattle.job_text.specs.Texts.{speltPart, writtenInput, inputText, Double, FitsPart, FitsParts, FitsInput}
 use Rattle.job_text.specs.OnForm.{OnPart, OnParts, OnForms}
 use Rattle.job_text.proofs.Complete.{reading-complete}

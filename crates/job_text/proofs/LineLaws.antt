@@ -19,7 +19,7 @@ use Rattle.forms.proofs.DigitLaws.{digits-length}
 use Rattle.forms.proofs.Stores.{sets-append}
 use Rattle.job_text.specs.Lines.{leafForm, leafEnd, constantForm}
 use Rattle.job_text.specs.Listing.{bitsIn, valuesText, leafLine, constantLine, leafValues, kindLine}
-use Rattle.job_text.specs.Lengths.{leafLength, constantLength, kindLength}
+use Rattle.job_text.specs.Inner.Lengths.{leafLength, constantLength, kindLength}
 use Rattle.job_text.specs.Written.{placed}
 
 -- ---- values

@@ -24,7 +24,7 @@ use Rattle.forms.specs.Forms.{spell, spellPiece, pieceOf, isField, after}
 use Rattle.job_text.specs.declared.Listing.the-variants.{Bytes, Refused}
 use Rattle.job_text.specs.Lines.{doneForm}
 use Rattle.job_text.specs.Listing.{doneLine, linesFrom, kindLine, lineAt, listingTo}
-use Rattle.job_text.specs.Lengths.{lengthAt, Sizes}
+use Rattle.job_text.specs.Inner.Lengths.{lengthAt, Sizes}
 use Rattle.job_text.specs.Written.{placed, allPlaced, putBytes, putAnswer}
 use Rattle.job_text.proofs.LineLaws.{line-measured, kind-most, decimal-length}
 

@@ -5,7 +5,7 @@ use native.Mathlib.Omega.{arith}
 use mathlib.Core.Bool.{true}
 use mathlib.Core.List.{List, [], _∷_}
 use Rattle.forms.specs.Forms.{Piece, Line, off, line, readForm}
-use Rattle.forms.specs.Fitting.{separated}
+use Rattle.forms.specs.Inner.Cuts.{separated}
 use Rattle.forms.proofs.FormLaws.{form-sound, form-spelled, off-line}
 use Rattle.job_text.specs.Lines.{limit, boundsForm, cellForm, blocksForm, bandForm}
 use Rattle.job_text.specs.Parts.{Spelt, PartLine, none, part, readPart}

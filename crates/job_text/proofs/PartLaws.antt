@@ -6,7 +6,8 @@ use mathlib.Core.List.{List}
 use lib.ListN.{take}
 use lib.Seq.{getD-take}
 use Rattle.forms.specs.Forms.{pieceOf, isField, fields}
-use Rattle.job_text.specs.Lines.{PartKind, const, sphere, plane, min, max, add, sub, neg, partForm, kindOf}
+use Rattle.job_text.specs.Lines.{PartKind, const, sphere, plane, min, max, add, sub, neg, partForm}
+use Rattle.job_text.specs.Inner.Kinds.{kindOf}
 use Rattle.job_text.specs.Parts.{partFrom, patternFrom}
 
 -- the last kind stands for every number from 7 on

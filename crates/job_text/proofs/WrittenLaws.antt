@@ -22,7 +22,7 @@ use Rattle.sparse_field.specs.Plan.{planWith}
 use Rattle.sparse_field.specs.Records.{sparse, lent, jobIn, countsIn, cursorIn}
 use Rattle.sparse_field.proofs.Judgement.{no-cause, bound-fits}
 use Rattle.job_text.specs.declared.Listing.the-variants.{Refused, NotPrintable}
-use Rattle.job_text.specs.Lengths.{Sizes}
+use Rattle.job_text.specs.Inner.Lengths.{Sizes}
 use Rattle.job_text.specs.Listing.{lineAt, listingTo, listing}
 use Rattle.job_text.specs.Written.{allPlaced, printable, recordListing, refusedPut, putListing, possibleWritten, written}
 

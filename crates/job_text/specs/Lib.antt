@@ -1,12 +1,11 @@
 pub mod Lines
 pub mod Parts
 pub mod Reading
-pub mod Answers
 pub mod Texts
 pub mod OnForm
 pub mod NanBits
 pub mod Values
 pub mod Listing
-pub mod Lengths
 pub mod Written
 pub mod Listed
+pub mod Inner

@@ -1,8 +1,7 @@
 -- Document 01, "Job text and `fieldlist`": the lines of a job's text, and those of a listing. H stands for a float's bits, D for a decimal number.
 use Prim.Native.Nat.{ℕ}
 use Prim.Native.String.{String}
-use mathlib.Core.List.{List, [], _∷_, map}
-use lib.ListN.{getD}
+use mathlib.Core.List.{List, _∷_, map}
 use Rattle.forms.specs.Bytes.{bytes}
 use Rattle.forms.specs.Forms.{Piece, pieceOf}
 
@@ -53,9 +52,6 @@ partForm neg = form "(neg D)\n"
 -- in the order of their numbers in the code
 abbrev pub partKinds : List PartKind
 partKinds = const ∷ sphere ∷ plane ∷ min ∷ max ∷ add ∷ sub ∷ neg ∷ []
-
-abbrev pub kindOf : ℕ → PartKind
-kindOf k = getD partKinds k neg
 
 -- ---- a listing
 

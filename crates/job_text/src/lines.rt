@@ -4,7 +4,7 @@ ghost use mathlib.Core.Bool.{true};
 ghost use Prim.Native.Nat.{_+_, _≤_};
 ghost use lib.ListN.{length};
 ghost use lib.Seq.{sets};
-ghost use Rattle.job_text.specs.Lengths.{leafLength, constantLength, kindLength};
+ghost use Rattle.job_text.specs.Inner.Lengths.{leafLength, constantLength, kindLength};
 ghost use Rattle.job_text.specs.Listing.{bitsIn, valuesText, leafLine, constantLine, kindLine};
 ghost use Rattle.job_text.specs.Written.{placed};
 

@@ -5,7 +5,7 @@ ghost use lib.ListN.{length, drop};
 ghost use Rattle.job_text.specs.Lines.{limit};
 ghost use Rattle.job_text.specs.Parts.{word};
 ghost use Rattle.job_text.specs.Reading.{readParts, gridOf, bandOf, noJob, offReading, readText, readingOf};
-ghost use Rattle.job_text.specs.Answers.{modelReading};
+ghost use Rattle.job_text.specs.Inner.Answers.{modelReading};
 use crate::Job;
 use crate::Judgement;
 use crate::LIMIT;

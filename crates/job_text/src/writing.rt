@@ -11,7 +11,7 @@ ghost use Rattle.schedule.specs.Totals.{sumBelow};
 ghost use Rattle.schedule.specs.Lent.{memoryOf, held, entered};
 ghost use Rattle.sparse_field.specs.Records.{sparse, jobIn, countsIn, cursorIn};
 ghost use Rattle.forms.specs.Forms.{pieceOf, spell};
-ghost use Rattle.job_text.specs.Lengths.{lengthAt, Sizes};
+ghost use Rattle.job_text.specs.Inner.Lengths.{lengthAt, Sizes};
 ghost use Rattle.job_text.specs.Lines.{refusedForm, offForm};
 ghost use Rattle.job_text.specs.Listing.{doneLine, linesFrom, lineAt, listingTo};
 ghost use Rattle.job_text.specs.Written.{allPlaced, putAnswer, putBytes, possibleWritten, written};

@@ -19,7 +19,8 @@ use Rattle.float.specs.Zero.{plusZero}
 use Rattle.model.specs.Part.{past, partValue}
 use Rattle.model.specs.Model.{valuesTo, modelValue}
 use Rattle.model.specs.Flat.{Flat, partAt, partsOf}
-use Rattle.model.specs.Row.{laneAt, filledRow, lane, valuesAt, evaluatedRows, modelRow}
+use Rattle.model.specs.Row.{valuesAt, evaluatedRows, modelRow}
+use Rattle.model.specs.Inner.Lanes.{laneAt, filledRow, lane}
 use Rattle.model.proofs.Values.{length-valuesTo, reads-below}
 use Rattle.model.proofs.ReadBack.{partAt-below}
 use Rattle.model.proofs.FlatValues.{value-more, none-value}

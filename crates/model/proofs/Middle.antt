@@ -11,7 +11,7 @@ use lib.Ieee.{Float}
 use borrow.Author.Tests.{ltb-true, ltb-false}
 use Rattle.lists.proofs.Lists.{getD-map-in}
 use Rattle.model.specs.Part.{past}
-use Rattle.model.specs.Row.{laneAt, filledRow}
+use Rattle.model.specs.Inner.Lanes.{laneAt, filledRow}
 use Rattle.model.proofs.Rows.{filled-is}
 
 module _ (values : List Float) (p n : ℕ) (g : Float → Float) (long : laneAt p n ≤ length values) where

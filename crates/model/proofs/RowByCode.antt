@@ -11,7 +11,7 @@ use Rattle.geometry.specs.declared.Vec3.{Vec3}
 use Rattle.geometry.specs.Values.{vec3}
 use Rattle.model.specs.Part.{past, sphereValue, planeValue, partValue}
 use Rattle.model.specs.Flat.{Flat, partAt}
-use Rattle.model.specs.Row.{laneAt, filledRow, lane}
+use Rattle.model.specs.Inner.Lanes.{laneAt, filledRow, lane}
 use Rattle.model.proofs.Rows.{filled-cong}
 use Rattle.model.proofs.ByCode.{at-entries, valueOf, of-constant, of-sphere, of-plane, of-min, of-max, of-add, of-sub, of-neg, first-late, second-late, of-other}
 

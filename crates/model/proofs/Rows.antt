@@ -8,7 +8,7 @@ use lib.ListN.{length, getD, set}
 use lib.Ieee.{Float}
 use Rattle.lists.proofs.Filling as lists
 use Rattle.model.specs.Part.{past}
-use Rattle.model.specs.Row.{laneAt, filledRow}
+use Rattle.model.specs.Inner.Lanes.{laneAt, filledRow}
 
 module _ (values : List Float) (p : ℕ) where
   -- the function of places that a function of lanes stands for

@@ -1,5 +1,5 @@
 -- Values of parts at a row of points: part p's value at lane k stands at p × 64 + k.
-use Prim.Native.Nat.{ℕ, _+_, _-_, _*_, _/_, _%_}
+use Prim.Native.Nat.{ℕ, _-_, _/_, _%_}
 use mathlib.Core.Bool.{cond, _&&_}
 use mathlib.Core.List.{List}
 use lib.Dec.{ltb}
@@ -10,18 +10,6 @@ use Rattle.lists.specs.Filled.{filled}
 use Rattle.model.specs.Part.{past}
 use Rattle.model.specs.Model.{valuesTo, modelValue}
 use Rattle.model.specs.Flat.{Flat, partsOf}
-
--- the place of part p's value at lane k
-abbrev pub laneAt : (p k : ℕ) → ℕ
-laneAt p k = p * 64 + k
-
--- row p with its first n lanes set to f 0, f 1, ..
-unfoldable pub filledRow : List Float → (p n : ℕ) → (ℕ → Float) → List Float
-filledRow values p n f = filled (p * 64) n (λ q. f (q - p * 64)) values
-
--- the values of the first p parts at lane k
-abbrev pub lane : List Float → (k p : ℕ) → List Float
-lane values k p = tabulate p (λ q. getD values (laneAt q k) past)
 
 -- the values of the first `count` parts at point k of three lists of coordinates
 abbrev pub valuesAt : Flat → ℕ → (px py pz : List Float) → ℕ → List Float

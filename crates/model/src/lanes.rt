@@ -9,7 +9,7 @@ ghost use Rattle.root.specs.Root.{squareRoot};
 ghost use Rattle.geometry.specs.Values.{vec3};
 ghost use Rattle.geometry.specs.Distance.{distanceSquaredOf};
 ghost use Rattle.model.specs.Part.{past, sphereValue, planeValue};
-ghost use Rattle.model.specs.Row.{laneAt, filledRow};
+ghost use Rattle.model.specs.Inner.Lanes.{laneAt, filledRow};
 use super::point;
 
 pub fn fill_constant(values: &mut [f64; 4096], p: usize, n: usize, w: f64)

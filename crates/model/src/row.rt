@@ -7,7 +7,8 @@ ghost use Rattle.float.specs.Zero.{plusZero};
 ghost use Rattle.geometry.specs.Values.{vec3};
 ghost use Rattle.model.specs.Part.{past, partValue};
 ghost use Rattle.model.specs.Flat.{flatIn, partFrom, placed, partAt};
-ghost use Rattle.model.specs.Row.{laneAt, filledRow, lane, evaluatedRows};
+ghost use Rattle.model.specs.Row.{evaluatedRows};
+ghost use Rattle.model.specs.Inner.Lanes.{laneAt, filledRow, lane};
 use super::lanes;
 use super::point;
 

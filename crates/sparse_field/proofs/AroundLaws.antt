@@ -19,7 +19,7 @@ use Rattle.grid.specs.Corners.{octet, needed}
 use Rattle.grid.proofs.Eight.{each}
 use Rattle.grid.proofs.Needing.{needed-child, octet-needed}
 use Rattle.grid.proofs.Octets.{within, octet-length}
-use Rattle.sparse_field.specs.Around.{either, rowHas, slabHas, around}
+use Rattle.sparse_field.specs.Inner.Around.{either, rowHas, slabHas, around}
 
 -- ---- the two children along an axis
 

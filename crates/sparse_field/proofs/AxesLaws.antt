@@ -16,7 +16,7 @@ use Rattle.model.specs.Part.{past}
 use Rattle.grid.specs.Blocks.{cube}
 use Rattle.grid.specs.Leaves.{leafPoint}
 use Rattle.grid.proofs.Octets.{within}
-use Rattle.sparse_field.specs.Axes.{axesPoint}
+use Rattle.sparse_field.specs.Inner.Axes.{axesPoint}
 
 module _ (b : BoundingBox) (l : ℕ) (above : 0 < l) (small : l ≤ 64) where
   -- the places of one axis

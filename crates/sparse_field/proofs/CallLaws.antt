@@ -22,7 +22,8 @@ use Rattle.sparse_field.specs.declared.Input.{Input}
 use Rattle.sparse_field.specs.declared.Record.{Record}
 use Rattle.sparse_field.specs.declared.Answer.the-variants.{Accepted, Refused}
 use Rattle.sparse_field.specs.Records.{sparse, lent, numberOf, jobIn, byFlag, recordIn, recordOut, noRecord}
-use Rattle.sparse_field.specs.Calls.{Handed, handed, called, openedRecord, openedMemory, steppedEngine}
+use Rattle.sparse_field.specs.Calls.{Handed, handed, called}
+use Rattle.sparse_field.specs.Inner.Parts.{openedRecord, openedMemory, steppedEngine}
 
 -- a refused call: the record that it was given, and the memory as it was
 abbrev pub refusedBy : ℕ → Record → Memory → Handed

@@ -18,7 +18,7 @@ use Rattle.grid.specs.Blocks.{cube}
 use Rattle.grid.specs.Nodes.{nodesOf}
 use Rattle.grid.specs.Boxes.{nodeBox, childBox}
 use Rattle.grid.specs.Leaves.{leafPoint}
-use Rattle.grid.specs.Corners.{octetValues}
+use Rattle.grid.specs.Inner.Octets.{octetValues}
 use Rattle.grid.specs.Pruning as pruning
 use Rattle.schedule.specs.Schedule.{Plan, Memory, constant, leaf}
 use Rattle.schedule.specs.Opened.{nonzero}
@@ -28,9 +28,9 @@ use Rattle.sparse_field.specs.declared.Progress.{Progress}
 use Rattle.sparse_field.specs.declared.Cursor.the-variants.{Point}
 use Rattle.sparse_field.specs.declared.Stop.the-variants.{Through, At}
 use Rattle.schedule.specs.Lent.{memoryOf}
-use Rattle.sparse_field.specs.FlatValue.{flatValue}
+use Rattle.sparse_field.specs.Inner.FlatValue.{flatValue}
 use Rattle.sparse_field.specs.Plan.{decideOf, at, boxOf, planWith}
-use Rattle.sparse_field.specs.Progress.{plan, Sized, Ready, readingIn, ChildrenAdvanced, leafProgress}
+use Rattle.sparse_field.specs.Inner.Progress.{plan, Sized, Ready, readingIn, ChildrenAdvanced, leafProgress}
 use Rattle.sparse_field.proofs.Turns.{progress, turn-active, turn-skip, turn-constant, turn-leaf, filledStore}
 
 -- ---- how far a leaf's points have come

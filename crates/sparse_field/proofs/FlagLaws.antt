@@ -13,7 +13,7 @@ use borrow.Author.Tests.{eq-eqb, ne-eqb}
 use borrow.Rule.Slice.PartMut.{putMid}
 use Rattle.schedule.specs.Totals.{bit}
 use Rattle.schedule.specs.Opened.{nonzero}
-use Rattle.sparse_field.specs.Flags.{flagsFrom, agreesFrom, inRows}
+use Rattle.sparse_field.specs.Inner.Flags.{flagsFrom, agreesFrom, inRows}
 
 -- ---- places in rows of n
 

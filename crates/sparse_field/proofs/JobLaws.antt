@@ -14,9 +14,9 @@ use Rattle.schedule.specs.Schedule.{Plan, Memory, Cursor, eventsFrom}
 use Rattle.schedule.specs.Totals.{activeAll}
 use Rattle.sparse_field.specs.declared.Input.{Input}
 use Rattle.sparse_field.specs.declared.Progress.{Progress}
-use Rattle.sparse_field.specs.FlatValue.{flatValue}
+use Rattle.sparse_field.specs.Inner.FlatValue.{flatValue}
 use Rattle.sparse_field.specs.Plan.{planWith, planOf, valueOf}
-use Rattle.sparse_field.specs.Progress.{plan, Advanced, readingIn}
+use Rattle.sparse_field.specs.Inner.Progress.{plan, Advanced, readingIn}
 
 module _ (i : Input) (words : List ℕ) (reals : List Float) (passed : refusedByFour (i .model) ≡ false) (long : length (i .model .parts) ≡ 64)
     (laid : flatOf words reals ≡ layoutOf (map partIn (i .model .parts))) where

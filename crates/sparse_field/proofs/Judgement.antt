@@ -40,8 +40,8 @@ use Rattle.sparse_field.specs.declared.Record.{Record}
 use Rattle.sparse_field.specs.Plan.{planWith, planOf}
 use Rattle.sparse_field.specs.Records.{numberOf, lengthsIn, countsIn, cursorIn, jobIn, sparse}
 use Rattle.schedule.specs.Lent.{memoryOf}
-use Rattle.sparse_field.specs.Flags.{countNonzero}
-use Rattle.sparse_field.specs.Judged.{RightKinds, wrongProgress}
+use Rattle.sparse_field.specs.Inner.Flags.{countNonzero}
+use Rattle.sparse_field.specs.Inner.Judged.{RightKinds, wrongProgress}
 use Rattle.sparse_field.proofs.FlagLaws.{nonzero-true}
 
 -- ---- an input without a cause

@@ -19,7 +19,7 @@ use Rattle.grid.specs.Ranges.{anyBelow}
 use Rattle.grid.specs.Blocks.{cube}
 use Rattle.grid.specs.Nodes.{sizeOf, nodeCounts, nodesOf}
 use Rattle.grid.specs.Boxes.{active, childIndices}
-use Rattle.grid.specs.Activity.{axisActive}
+use Rattle.grid.specs.Inner.Activity.{axisActive}
 use Rattle.grid.specs.Corners as corners
 use Rattle.grid.specs.CornerList as kinds
 use Rattle.grid.proofs.Active.{by-axes}
@@ -31,7 +31,7 @@ use Rattle.schedule.specs.Possible.{sameActive}
 use Rattle.schedule.proofs.Activity.{active-at}
 use Rattle.sparse_field.specs.declared.Input.{Input}
 use Rattle.sparse_field.specs.Plan.{planWith, planOf}
-use Rattle.sparse_field.specs.Flags.{flagsFrom, agreesFrom, tableTest, nodeTest, gridTest}
+use Rattle.sparse_field.specs.Inner.Flags.{flagsFrom, agreesFrom, tableTest, nodeTest, gridTest}
 use Rattle.sparse_field.proofs.FlagLaws.{length-flags, flags-cong, flags-append, flags-none, agrees-cong, agrees-append, agrees-not, nonzero-eqb}
 
 -- ---- a node's children, by the tables of three axes

@@ -35,12 +35,12 @@ use Rattle.sparse_field.specs.declared.Cursor.the-variants.{End, Corner}
 use Rattle.sparse_field.specs.Records.{cursorIn}
 use Rattle.sparse_field.specs.declared.Stop.the-variants.{Through, At}
 use Rattle.schedule.specs.Lent.{memoryOf}
-use Rattle.sparse_field.specs.CornerRun.{CornerRun, neededFrom, evaluatedFrom}
+use Rattle.sparse_field.specs.Inner.CornerRun.{CornerRun, neededFrom, evaluatedFrom}
 use Rattle.sparse_field.specs.Plan as plans
 use Rattle.sparse_field.specs.Plan.{planWith, decideOf, boxOf}
-use Rattle.sparse_field.specs.Runs.{runOf}
-use Rattle.sparse_field.specs.FlatValue.{flatValue}
-use Rattle.sparse_field.specs.Progress.{plan, Sized, Lent, afterStop, IfThrough, stateIn, Advanced, Ready, readingIn, ZeroCorners, NodeAdvanced, Turned, Onward, leafProgress}
+use Rattle.sparse_field.specs.Inner.Runs.{runOf}
+use Rattle.sparse_field.specs.Inner.FlatValue.{flatValue}
+use Rattle.sparse_field.specs.Inner.Progress.{plan, Sized, Lent, afterStop, IfThrough, stateIn, Advanced, Ready, readingIn, ZeroCorners, NodeAdvanced, Turned, Onward, leafProgress}
 use Rattle.sparse_field.proofs.NodeKinds.{part-needed}
 use Rattle.sparse_field.proofs.RunLaws.{run-corners}
 use Rattle.sparse_field.proofs.Turns.{progress, stopped, advanced-start, advanced-then, filledStore, turn-points}

@@ -34,13 +34,13 @@ use Rattle.sparse_field.specs.declared.Cursor.{Cursor}
 use Rattle.sparse_field.specs.declared.Progress.{Progress}
 use Rattle.sparse_field.specs.declared.Cursor.the-variants.{End, Corner, Point}
 use Rattle.sparse_field.specs.Plan.{planWith, planOf, valueOf}
-use Rattle.sparse_field.specs.Calls.{startMemory}
-use Rattle.sparse_field.specs.Progress.{Sized, Lent, Advanced, readingIn, ZeroCorners}
-use Rattle.sparse_field.specs.Records.{sparse, lent, cursorIn, cursorAt}
-use Rattle.sparse_field.specs.Startable.{Startable}
+use Rattle.sparse_field.specs.Inner.Parts.{startMemory, cursorAt}
+use Rattle.sparse_field.specs.Inner.Progress.{Sized, Lent, Advanced, readingIn, ZeroCorners}
+use Rattle.sparse_field.specs.Records.{sparse, lent, cursorIn}
+use Rattle.sparse_field.specs.Inner.Startable.{Startable}
 use Rattle.sparse_field.proofs.Judgement.{NoCause, no-cause, active-all}
 use Rattle.sparse_field.proofs.NodeLaws.{plan-laws, node-begins}
-use Rattle.sparse_field.specs.Runs.{runOf}
+use Rattle.sparse_field.specs.Inner.Runs.{runOf}
 use Rattle.sparse_field.proofs.ChildLaws.{active-few}
 use Rattle.sparse_field.proofs.Results.{final, engine-after}
 

@@ -27,9 +27,10 @@ use Rattle.sparse_field.specs.declared.Progress.{Progress}
 use Rattle.sparse_field.specs.declared.Stop.{Stop}
 use Rattle.sparse_field.specs.declared.Stop.the-variants.{Through, At}
 use Rattle.sparse_field.specs.Plan.{planOf, planWith}
-use Rattle.sparse_field.specs.Runs.{Run, runOf}
-use Rattle.sparse_field.specs.Progress.{stateIn, Advanced, afterStop, readingIn}
-use Rattle.sparse_field.specs.Records.{sparse, lent, cursorIn, cursorOut, cursorAt, recordOut, recordAt}
+use Rattle.sparse_field.specs.Inner.Runs.{Run, runOf}
+use Rattle.sparse_field.specs.Inner.Progress.{stateIn, Advanced, afterStop, readingIn}
+use Rattle.sparse_field.specs.Records.{sparse, lent, cursorIn, cursorOut, recordOut}
+use Rattle.sparse_field.specs.Inner.Parts.{cursorAt, recordAt}
 use Rattle.sparse_field.proofs.RunLaws.{run-end}
 
 -- a cursor comes back as it was

@@ -16,8 +16,8 @@ use Rattle.model.specs.Flat.{flatOf, partsOf}
 use Rattle.model.specs.Model.{modelValue}
 use Rattle.model.specs.Row.{modelRow}
 use Rattle.sparse_field.specs.Plan.{at}
-use Rattle.sparse_field.specs.FlatValue.{flatValue}
-use Rattle.sparse_field.specs.RowLent.{RowLent}
+use Rattle.sparse_field.specs.Inner.FlatValue.{flatValue}
+use Rattle.sparse_field.specs.Inner.RowLent.{RowLent}
 
 -- a row after its points were written and evaluated
 pub record RowMade (words : List ℕ) (reals : List Float) (parts len : ℕ) (point : ℕ → Vec3) (xs ys zs values px py pz results : List Float) : Type 0 where

@@ -9,8 +9,8 @@ use lib.Ieee.{Float}
 use Rattle.schedule.specs.Schedule.{Plan, Event, Work, Site, corner, point, evaluate, work, State, state, apply, applyAll, split, evaluations, Cursor, end, at, cursorOf, eventsFrom, reading}
 use Rattle.schedule.specs.Totals.{sumFrom, bit}
 use Rattle.schedule.proofs.Next.{corner-evaluate, corner-skip, point-evaluate}
-use Rattle.sparse_field.specs.Runs.{Run, runOf}
-use Rattle.sparse_field.specs.CornerRun.{neededFrom, evaluatedFrom}
+use Rattle.sparse_field.specs.Inner.Runs.{Run, runOf}
+use Rattle.sparse_field.specs.Inner.CornerRun.{neededFrom, evaluatedFrom}
 use Rattle.lists.specs.Filled.{filled}
 
 module _ (P : Plan) where

@@ -8,9 +8,9 @@ use native.Mathlib.Omega.{arith}
 use lib.ListN.{length, getD, take}
 use lib.Ieee.{Float}
 use Rattle.schedule.specs.Totals.{sumFrom, bit}
-use Rattle.sparse_field.specs.CornerRun.{neededFrom, evaluatedFrom, CornerRun}
-use Rattle.sparse_field.specs.Gathered.{Gathered}
-use Rattle.sparse_field.specs.Written.{written}
+use Rattle.sparse_field.specs.Inner.CornerRun.{neededFrom, evaluatedFrom, CornerRun}
+use Rattle.sparse_field.specs.Inner.Gathered.{Gathered}
+use Rattle.sparse_field.specs.Inner.Written.{written}
 use Rattle.sparse_field.proofs.Writing.{evaluated-written, evaluated-add, listed-below}
 
 -- first r terms, then s more

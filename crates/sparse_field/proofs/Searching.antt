@@ -10,8 +10,8 @@ use lib.ListN.{length, take, set}
 use lib.Seq.{take-suc-set}
 use Rattle.schedule.specs.Totals.{sumFrom, bit}
 use Rattle.schedule.proofs.Sums.{sumFrom-snoc}
-use Rattle.sparse_field.specs.CornerRun.{neededFrom}
-use Rattle.sparse_field.specs.Gathered.{neededList, Gathering}
+use Rattle.sparse_field.specs.Inner.CornerRun.{neededFrom}
+use Rattle.sparse_field.specs.Inner.Gathered.{neededList, Gathering}
 
 module _ (test : ℕ → Bool) where
   -- one corner more, at the end

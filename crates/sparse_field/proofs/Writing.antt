@@ -10,9 +10,9 @@ use lib.ListN.{length, getD, take, set, length-set}
 use lib.Seq.{take-suc, take-all}
 use lib.Ieee.{Float}
 use Rattle.model.specs.Part.{past}
-use Rattle.sparse_field.specs.CornerRun.{evaluatedFrom}
-use Rattle.sparse_field.specs.Gathered.{neededList}
-use Rattle.sparse_field.specs.Written.{written, scattered}
+use Rattle.sparse_field.specs.Inner.CornerRun.{evaluatedFrom}
+use Rattle.sparse_field.specs.Inner.Gathered.{neededList}
+use Rattle.sparse_field.specs.Inner.Written.{written, scattered}
 
 -- ---- a row of values, stored one after another
 

@@ -1,17 +1,12 @@
 -- What open, step and drop hand back and leave in the lent slices, for every record and memory.
-use Prim.Native.Nat.{ℕ}
-use mathlib.Core.Bool.{false}
 use Rattle.schedule.specs.Schedule.{Memory}
 use Rattle.schedule.specs.Calls as calls
-use Rattle.schedule.specs.Opened.{Lengths, opened}
-use Rattle.schedule.specs.Engine.{Engine, openedEngine, engineStepJob, engineCall}
-use Rattle.sparse_field.specs.declared.Input.{Input}
+use Rattle.schedule.specs.Engine.{Engine, engineCall}
 use Rattle.sparse_field.specs.declared.Record.{Record}
 use Rattle.sparse_field.specs.declared.Answer.{Answer}
 use Rattle.sparse_field.specs.declared.Answer.the-variants.{Accepted, Refused}
 use Rattle.sparse_field.specs.declared.Outcome.{Outcome}
-use Rattle.sparse_field.specs.Plan.{planOf}
-use Rattle.sparse_field.specs.Records.{sparse, jobIn, recordIn, recordOut}
+use Rattle.sparse_field.specs.Records.{sparse, recordIn, recordOut}
 
 -- what a call hands back, and the memory after it
 pub record Handed : Type 0 where
@@ -30,18 +25,3 @@ unfoldable pub called : calls.Call sparse → Record → Memory → Handed
 called c r m =
     let o = engineCall sparse c (record { jobRecord = recordIn r; memory = m }) in
     handed r (o .answer) (o .next)
-
--- what an accepted open writes before the first event
-abbrev pub startMemory : Input → Lengths → Memory
-startMemory i l = opened (planOf i) l .memory
-
--- the record and the memory after an accepted open
-abbrev pub openedRecord : Input → Lengths → Record
-openedRecord i l = recordOut (openedEngine sparse i l .jobRecord)
-
-abbrev pub openedMemory : Input → Lengths → Memory
-openedMemory i l = openedEngine sparse i l .memory
-
--- the engine after an accepted step
-abbrev pub steppedEngine : ℕ → Record → Memory → Engine sparse
-steppedEngine budget r m = engineStepJob sparse budget (jobIn r) m false .next

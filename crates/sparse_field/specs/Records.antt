@@ -1,15 +1,11 @@
 -- The record that the code hands on, and the schedule's record that it stands for.
-use Prim.Native.Nat.{ℕ, _*_}
+use Prim.Native.Nat.{ℕ}
 use mathlib.Core.Bool.{Bool, true, false}
-use mathlib.Core.List.{List}
 use lib.ListN.{replicate}
 use Rattle.geometry.specs.Values.{vec3, box}
 use Rattle.float.specs.Zero.{plusZero}
 use Rattle.model.specs.declared.ImplicitModel.{ImplicitModel}
-use Rattle.model.specs.declared.ModelComponent.{ModelComponent}
 use Rattle.model.specs.declared.Part.the-variants.{Constant}
-use Rattle.grid.specs.declared.Grid.{Grid}
-use Rattle.grid.specs.declared.Band.{Band}
 use Rattle.grid.specs.declared.Lengths as grids
 use Rattle.grid.specs.declared.Refusal.{Refusal}
 use Rattle.grid.specs.declared.Refusal.the-variants.{None, By}
@@ -23,8 +19,6 @@ use Rattle.sparse_field.specs.declared.Input.{Input}
 use Rattle.sparse_field.specs.declared.Counts.{Counts}
 use Rattle.sparse_field.specs.declared.Cursor.{Cursor}
 use Rattle.sparse_field.specs.declared.Cursor.the-variants.{End, Corner, Point}
-use Rattle.sparse_field.specs.declared.Stop.{Stop}
-use Rattle.sparse_field.specs.declared.Stop.the-variants.{Through, At}
 use Rattle.sparse_field.specs.declared.Record.{Record}
 use Rattle.sparse_field.specs.Plan.{planOf}
 
@@ -106,18 +100,3 @@ jobOut j = record { job = true; input = j .input; lengths = lent (j .lengths); c
 abbrev pub recordOut : JobRecord sparse → Record
 recordOut noJob = noRecord
 recordOut (job j) = jobOut j
-
--- the cursor where a function has stopped, or the end
-abbrev pub cursorAt : Stop → Cursor
-cursorAt Through = End
-cursorAt (At a) = a
-
--- the record of an input's job: its lengths, its counts, and where it has come to
-abbrev pub recordAt : Input → grids.Lengths → (nodes active leaves points evaluations : ℕ) → Stop → Record
-recordAt i l nodes active leaves points evaluations stop = record {
-  job = true;
-  input = i;
-  lengths = l;
-  counts = record { nodes = nodes; active = active; leaves = leaves; sampled = leaves * points; evaluations = evaluations };
-  cursor = cursorAt stop;
-}

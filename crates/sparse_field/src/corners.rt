@@ -6,13 +6,13 @@ ghost use Rattle.geometry.specs.Values.{vec3i};
 ghost use Rattle.grid.specs.Blocks.{cube};
 ghost use Rattle.grid.specs.Corners.{needed, cornerPoint};
 ghost use Rattle.grid.specs.CornerList.{nonzero};
-ghost use Rattle.sparse_field.specs.Around.{rowHas, slabHas, around};
-ghost use Rattle.sparse_field.specs.CornerRun.{CornerRun};
-ghost use Rattle.sparse_field.specs.FlatValue.{valueIn};
-ghost use Rattle.sparse_field.specs.Gathered.{Gathered};
+ghost use Rattle.sparse_field.specs.Inner.Around.{rowHas, slabHas, around};
+ghost use Rattle.sparse_field.specs.Inner.CornerRun.{CornerRun};
+ghost use Rattle.sparse_field.specs.Inner.FlatValue.{valueIn};
+ghost use Rattle.sparse_field.specs.Inner.Gathered.{Gathered};
 ghost use Rattle.sparse_field.specs.Plan.{at};
-ghost use Rattle.sparse_field.specs.RowLent.{RowLent};
-ghost use Rattle.sparse_field.specs.Written.{written, scattered};
+ghost use Rattle.sparse_field.specs.Inner.RowLent.{RowLent};
+ghost use Rattle.sparse_field.specs.Inner.Written.{written, scattered};
 use geometry::BoundingBox;
 
 // How many needed corners a search found, and where it ended.

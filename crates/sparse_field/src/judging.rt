@@ -13,8 +13,8 @@ ghost use Rattle.schedule.specs.Possible.{sameLengths, validCursor, insideChild
 ghost use Rattle.sparse_field.specs.Plan.{planOf};
 ghost use Rattle.sparse_field.specs.Records.{numberOf, lengthsIn, countsIn, cursorIn, jobIn, sparse};
 ghost use Rattle.schedule.specs.Lent.{entered};
-ghost use Rattle.sparse_field.specs.Flags.{countNonzero};
-ghost use Rattle.sparse_field.specs.Judged.{RightKinds, wrongLeaves, wrongProgress};
+ghost use Rattle.sparse_field.specs.Inner.Flags.{countNonzero};
+ghost use Rattle.sparse_field.specs.Inner.Judged.{RightKinds, wrongLeaves, wrongProgress};
 use crate::Counts;
 use crate::Cursor;
 use crate::Input;

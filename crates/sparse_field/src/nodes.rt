@@ -10,20 +10,8 @@ ghost use Rattle.schedule.specs.Schedule.{eventsFrom, childrenLeft, nodesLeft, 
 ghost use Rattle.schedule.specs.Totals.{activeBefore, activeAll};
 ghost use Rattle.schedule.specs.Lent.{held, entered, left};
 ghost use Rattle.sparse_field.specs.Records.{cursorIn};
-ghost use Rattle.sparse_field.specs.Startable.{Startable};
-ghost use Rattle.sparse_field.specs.Progress.{
-  planIn,
-  planNow,
-  Sized,
-  Lent,
-  Ready,
-  Advanced,
-  NodeAdvanced,
-  Turned,
-  Onward,
-  ZeroCorners,
-  readingIn,
-};
+ghost use Rattle.sparse_field.specs.Inner.Startable.{Startable};
+ghost use Rattle.sparse_field.specs.Inner.Progress.{planIn, planNow, Sized, Lent, Ready, Advanced, NodeAdvanced, Turned, Onward, ZeroCorners, readingIn};
 use crate::Cursor;
 use crate::Progress;
 use crate::Stop;

@@ -7,10 +7,10 @@ ghost use Rattle.geometry.specs.Axis.{along};
 ghost use Rattle.model.specs.Part.{past};
 ghost use Rattle.grid.specs.Blocks.{cube};
 ghost use Rattle.grid.specs.Leaves.{leafPoint};
-ghost use Rattle.sparse_field.specs.Axes.{axesPoint};
-ghost use Rattle.sparse_field.specs.FlatValue.{valueIn};
+ghost use Rattle.sparse_field.specs.Inner.Axes.{axesPoint};
+ghost use Rattle.sparse_field.specs.Inner.FlatValue.{valueIn};
 ghost use Rattle.sparse_field.specs.Plan.{at};
-ghost use Rattle.sparse_field.specs.RowLent.{RowLent};
+ghost use Rattle.sparse_field.specs.Inner.RowLent.{RowLent};
 use crate::corners::row_length;
 use geometry::BoundingBox;
 

@@ -7,7 +7,7 @@ use Prim.Native.Nat.{ℕ, _+_, _≤_, _-_}
 use lib.ListN.{length}
 use Rattle.lists.specs.Filled.{filled}
 use Rattle.lists.proofs.Filling.{filled-none, filled-length, filled-store, filled-done}
-use Rattle.dense_field.specs.Runs.{axisPoint}
+use Rattle.dense_field.specs.Inner.Runs.{axisPoint}
 use Rattle.dense_field.proofs.sampling.fill_along.Statement.{statement}
 use Rattle.dense_field.proofs.sampling.fill_along.Tie as tie
 

@@ -4,7 +4,7 @@ use native.Mathlib.Nat.{add-zero, add-assoc}
 use native.Mathlib.Omega.{arith}
 use borrow.Author.Needs.{needs}
 use Prim.Native.Nat.{_+_, _-_, _≤_}
-use Rattle.dense_field.specs.Runs.{RunPoints}
+use Rattle.dense_field.specs.Inner.Runs.{RunPoints}
 use Rattle.dense_field.proofs.Edges.{pointAt}
 use Rattle.dense_field.proofs.RunLaws.{Indices, indices, after-stretch, more-points}
 use Rattle.dense_field.proofs.sampling.fill_points.Statement.{statement}

@@ -10,7 +10,7 @@ use Rattle.lists.proofs.Filling.{filled-none, filled-length, filled-more, fille
 use Rattle.float.specs.Zero.{plusZero}
 use Rattle.model.specs.Flat.{flatOf}
 use Rattle.dense_field.specs.Field.{pointsOf}
-use Rattle.dense_field.specs.Runs.{flatAt}
+use Rattle.dense_field.specs.Inner.Runs.{flatAt}
 use Rattle.dense_field.proofs.Lending.{as-long}
 use Rattle.dense_field.proofs.sampling.sample_places.Statement.{statement}
 use Rattle.dense_field.proofs.sampling.sample_places.Tie as tie

@@ -4,8 +4,7 @@ use mathlib.Core.Bool.{cond}
 use Prim.Native.Nat.{ℕ, _-_, _≤_}
 use native.Mathlib.Omega.{arith}
 use Rattle.grid.specs.Ranges.{countBelow}
-use Rattle.grid.specs.Activity.{axisActive}
-use Rattle.grid.specs.Counting.{axisCount}
+use Rattle.grid.specs.Inner.Activity.{axisActive, axisCount}
 use Rattle.grid.proofs.RangeLists.{countBelow-le}
 use Rattle.grid.proofs.ActiveCounts.{axis-met, axis-count-more, bit-le}
 use borrow.Author.Needs.{needs}

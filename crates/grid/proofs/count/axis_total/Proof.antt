@@ -2,7 +2,8 @@
 use mathlib.Core.Path.{_≡_, refl, ap, _∙_}
 use Prim.Native.Nat.{_-_, _≤_}
 use native.Mathlib.Omega.{arith}
-use Rattle.grid.specs.Counting.{sumBelow, axisTotal}
+use Rattle.grid.specs.Counting.{sumBelow}
+use Rattle.grid.specs.Inner.Activity.{axisTotal}
 use Rattle.grid.proofs.ActiveCounts.{axisCount-le, total-few, axis-total-more}
 use borrow.Author.Needs.{needs}
 use Rattle.grid.proofs.count.axis_total.Statement.{statement}

@@ -4,7 +4,7 @@ use Prim.Native.Nat.{ℕ, _+_, _-_, _*_, _≤_}
 use native.Mathlib.Nat.{zero-mul, mul-le-mul}
 use native.Mathlib.Omega.{arith}
 use lib.ListN.{length}
-use Rattle.grid.specs.CornerMarks.{Marks}
+use Rattle.grid.specs.Inner.CornerMarks.{Marks}
 use borrow.Author.Needs.{needs}
 use Rattle.grid.proofs.needed.mark.Statement.{statement}
 use Rattle.grid.proofs.needed.mark.Tie as tie

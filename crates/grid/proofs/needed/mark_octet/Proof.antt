@@ -2,7 +2,7 @@
 use mathlib.Core.Path.{refl}
 use native.Mathlib.Omega.{arith}
 use lib.ListN.{length-set}
-use Rattle.grid.specs.CornerMarks.{marked, eightFrom}
+use Rattle.grid.specs.Inner.CornerMarks.{marked, eightFrom}
 use borrow.Author.Needs.{needs}
 use Rattle.grid.proofs.needed.mark_octet.Statement.{statement}
 use Rattle.grid.proofs.needed.mark_octet.Tie as tie

@@ -5,7 +5,7 @@ use Prim.Native.Nat.{ℕ, _+_, _-_, _*_, _≤_, _<_}
 use native.Mathlib.Nat.{add-zero}
 use native.Mathlib.Omega.{arith}
 use lib.ListN.{length}
-use Rattle.grid.specs.CornerMarks.{Marks}
+use Rattle.grid.specs.Inner.CornerMarks.{Marks}
 use Rattle.grid.proofs.MarkLaws.{RowFits, row-fits, row-octet-below, row-more, row-skip, length-marked}
 use borrow.Author.Needs.{needs}
 use Rattle.grid.proofs.needed.mark_row.Statement.{statement}

@@ -1,5 +1,5 @@
 -- `corner_at` meets its contract.
-use Rattle.grid.specs.Steps.{cornerAt}
+use Rattle.grid.specs.Inner.Steps.{cornerAt}
 use borrow.Author.Needs.{needs}
 use Rattle.grid.proofs.points.corner_at.Statement.{statement}
 use Rattle.grid.proofs.points.corner_at.Tie as tie

@@ -1,6 +1,6 @@
 -- `corner_point` meets its contract.
 use Rattle.grid.specs.Corners.{cornerPoint}
-use Rattle.grid.specs.Steps.{cornerAt}
+use Rattle.grid.specs.Inner.Steps.{cornerAt}
 use borrow.Author.Needs.{needs}
 use Rattle.grid.proofs.points.corner_point.Statement.{statement}
 use Rattle.grid.proofs.points.corner_point.Tie as tie

@@ -7,7 +7,7 @@ use Rattle.lists.specs.Filled.{filled}
 use Rattle.lists.proofs.Filling.{filled-none, front-store, filled-done, filled-same}
 use Rattle.geometry.specs.Index.{indicesOf}
 use Rattle.grid.specs.Corners.{cornerPoint}
-use Rattle.grid.specs.Steps.{cornerAt}
+use Rattle.grid.specs.Inner.Steps.{cornerAt}
 use Rattle.grid.proofs.Stepped.{corner-stepped}
 use borrow.Author.Needs.{needs}
 use Rattle.grid.proofs.points.corner_points.Statement.{statement}

@@ -1,7 +1,7 @@
 -- `leaf_point` meets its contract.
 use mathlib.Core.Path.{ap, _∙_}
 use Rattle.grid.proofs.Stepped.{leaf-stepped}
-use Rattle.grid.specs.Steps.{steppedPoint}
+use Rattle.grid.specs.Inner.Steps.{steppedPoint}
 use borrow.Author.Needs.{needs}
 use Rattle.grid.proofs.points.leaf_point.Statement.{statement}
 use Rattle.grid.proofs.points.leaf_point.Tie as tie

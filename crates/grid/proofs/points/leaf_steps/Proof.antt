@@ -1,5 +1,5 @@
 -- `leaf_steps` meets its contract.
-use Rattle.grid.specs.Steps.{leafSteps}
+use Rattle.grid.specs.Inner.Steps.{leafSteps}
 use borrow.Author.Needs.{needs}
 use Rattle.grid.proofs.points.leaf_steps.Statement.{statement}
 use Rattle.grid.proofs.points.leaf_steps.Tie as tie

@@ -6,7 +6,7 @@ use native.Mathlib.Omega.{arith}
 use lib.ListN.{length, getD}
 use lib.Ieee.{Float}
 use Rattle.float.specs.Zero.{plusZero}
-use Rattle.grid.specs.Corners.{octetValues}
+use Rattle.grid.specs.Inner.Octets.{octetValues}
 use Rattle.grid.proofs.Eight.{eight}
 use Rattle.grid.proofs.Octets.{octet-below, octet-length}
 use borrow.Author.Needs.{needs}

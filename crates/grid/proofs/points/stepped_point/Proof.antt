@@ -1,5 +1,5 @@
 -- `stepped_point` meets its contract.
-use Rattle.grid.specs.Steps.{steppedPoint}
+use Rattle.grid.specs.Inner.Steps.{steppedPoint}
 use borrow.Author.Needs.{needs}
 use Rattle.grid.proofs.points.stepped_point.Statement.{statement}
 use Rattle.grid.proofs.points.stepped_point.Tie as tie

@@ -1,6 +1,6 @@
 -- `lines::child_length` meets its contract, by the kind.
 use mathlib.Core.Path.{sym, _∙_}
-use Rattle.job_text.specs.Lengths.{constantLength}
+use Rattle.job_text.specs.Inner.Lengths.{constantLength}
 use Rattle.job_text.proofs.LineLaws.{no-length, leaf-length, constant-length}
 use borrow.Author.Needs.{needs}
 use Rattle.job_text.proofs.lines.child_length.Statement.{statement}

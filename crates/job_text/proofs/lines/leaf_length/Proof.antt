@@ -1,6 +1,6 @@
 -- `lines::leaf_length` meets its contract.
 use native.Mathlib.Omega.{arith}
-use Rattle.job_text.specs.Lengths.{leafLength}
+use Rattle.job_text.specs.Inner.Lengths.{leafLength}
 use Rattle.job_text.proofs.LineLaws.{leaf-front-most}
 use borrow.Author.Needs.{needs}
 use Rattle.job_text.proofs.lines.leaf_length.Statement.{statement}

@@ -6,7 +6,7 @@ use native.Mathlib.Omega.{arith}
 use borrow.Author.Needs.{needs}
 use Rattle.schedule.specs.Totals.{sumFrom, sumBelow}
 use Rattle.schedule.proofs.Sums.{sumBelow-snoc}
-use Rattle.job_text.specs.Lengths.{lengthAt}
+use Rattle.job_text.specs.Inner.Lengths.{lengthAt}
 use Rattle.job_text.proofs.ListingLaws.{length-most}
 use Rattle.job_text.proofs.writing.lines_length.Statement.{statement}
 use Rattle.job_text.proofs.writing.lines_length.Tie as tie

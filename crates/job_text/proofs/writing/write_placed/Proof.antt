@@ -8,7 +8,7 @@ use Rattle.schedule.specs.Schedule.{Memory}
 use Rattle.schedule.specs.Totals.{sumBelow}
 use Rattle.schedule.specs.Lent.{memoryOf}
 use Rattle.sparse_field.specs.Records.{countsIn}
-use Rattle.job_text.specs.Lengths.{lengthAt}
+use Rattle.job_text.specs.Inner.Lengths.{lengthAt}
 use Rattle.job_text.specs.Listing.{doneLine, listingTo}
 use Rattle.job_text.proofs.ListingLaws.{listing-measured, refused-answer, refused-bytes, accepted-answer}
 use borrow.Author.Needs.{needs}

@@ -2,7 +2,7 @@
 use borrow.Author.Needs.{needs}
 use mathlib.Core.Path.{_≡_, refl, ap, _∙_}
 use Prim.Native.Nat.{ℕ, _-_, _≤_}
-use Rattle.model.specs.Row.{filledRow}
+use Rattle.model.specs.Inner.Lanes.{filledRow}
 use Rattle.model.proofs.Rows.{no-lanes, lane-more}
 use native.Mathlib.Omega.{arith}
 use Rattle.model.proofs.lanes.fill_constant.Statement.{statement}

@@ -7,7 +7,7 @@ use denote.Ref.{now}
 use Rattle.lists.specs.Filled.{filled}
 use Rattle.lists.proofs.Filling.{filled-none, filled-length, front-store, filled-done}
 use Rattle.model.specs.Part.{past}
-use Rattle.model.specs.Row.{laneAt}
+use Rattle.model.specs.Inner.Lanes.{laneAt}
 use native.Mathlib.Omega.{arith}
 use Rattle.model.proofs.row.copy_row.Statement.{statement}
 use Rattle.model.proofs.row.copy_row.Tie as tie

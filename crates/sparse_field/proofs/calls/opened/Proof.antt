@@ -4,7 +4,7 @@ use mathlib.Core.Path.{_≡_, refl, sym, ap, subst, _∙_}
 use native.Mathlib.Omega.{arith}
 use Rattle.schedule.specs.Opened.{lengthsOf}
 use Rattle.sparse_field.specs.Plan.{planOf, planWith}
-use Rattle.sparse_field.specs.Progress.{Lent}
+use Rattle.sparse_field.specs.Inner.Progress.{Lent}
 use Rattle.sparse_field.specs.Records.{lent, recordOut}
 use Rattle.sparse_field.proofs.Judgement.{active-all}
 use Rattle.sparse_field.proofs.NodeLaws.{nodes-few}

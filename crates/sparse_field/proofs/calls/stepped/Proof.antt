@@ -10,7 +10,7 @@ use Rattle.schedule.specs.Possible.{Possible}
 use Rattle.schedule.proofs.Possible.{possible}
 use Rattle.schedule.proofs.Sums.{up-to-most}
 use Rattle.sparse_field.specs.Plan.{planOf, planWith}
-use Rattle.sparse_field.specs.Progress.{Sized, Lent}
+use Rattle.sparse_field.specs.Inner.Progress.{Sized, Lent}
 use Rattle.sparse_field.specs.Records.{sparse, lent, lengthsIn, cursorIn, jobIn, recordOut}
 use Rattle.sparse_field.proofs.Judgement.{NoCause, no-cause, bound-fits}
 use Rattle.sparse_field.proofs.Opening.{sized, lent-memory, valid-startable, active-within, sparse-laws}

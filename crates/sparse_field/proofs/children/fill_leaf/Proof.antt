@@ -8,7 +8,7 @@ use lib.Ieee.{Float}
 use Rattle.grid.specs.Blocks.{cube}
 use Rattle.grid.specs.Leaves.{leafPoint}
 use Rattle.lists.specs.Filled.{filled}
-use Rattle.sparse_field.specs.FlatValue.{flatValue}
+use Rattle.sparse_field.specs.Inner.FlatValue.{flatValue}
 use Rattle.sparse_field.specs.Plan.{at}
 use Rattle.sparse_field.proofs.Stretch.{stretch-filled, stretch-long}
 use borrow.Author.Needs.{needs}

@@ -9,7 +9,7 @@ use Rattle.grid.specs.Blocks.{cube}
 use Rattle.sparse_field.specs.declared.Stop.the-variants.{Through, At}
 use Rattle.schedule.specs.Lent.{memoryOf}
 use Rattle.sparse_field.specs.Plan.{planWith}
-use Rattle.sparse_field.specs.Progress.{plan, ChildrenAdvanced}
+use Rattle.sparse_field.specs.Inner.Progress.{plan, ChildrenAdvanced}
 use Rattle.sparse_field.proofs.Turns.{progress, advanced-start, advanced-through, advanced-then, advanced-stopped, children-upto}
 use Rattle.sparse_field.proofs.children.run_children.Statement.{statement}
 use Rattle.sparse_field.proofs.children.run_children.Tie as tie

@@ -3,7 +3,7 @@ use mathlib.Core.Path.{refl, _∙_}
 use lib.ListN.{length, getD}
 use Rattle.grid.specs.Corners.{cornerPoint}
 use Rattle.sparse_field.specs.Plan.{at}
-use Rattle.sparse_field.specs.FlatValue.{flatValue}
+use Rattle.sparse_field.specs.Inner.FlatValue.{flatValue}
 use Rattle.sparse_field.proofs.RowValues.{RowMade, row-value, row-kept}
 use Rattle.sparse_field.proofs.Writing.{scattered-all}
 use borrow.Author.Needs.{needs}

@@ -5,15 +5,14 @@ use Prim.Native.Nat.{_+_, _-_, _<_, _≤_}
 use native.Mathlib.Nat.{mul-le-mul}
 use native.Mathlib.Omega.{arith}
 use lib.ListN.{length, length-set}
-use Rattle.geometry.specs.Index.{indicesOf}
+use Rattle.geometry.specs.Index.{indicesOf, nextIndices}
 use Rattle.grid.specs.Blocks.{cube}
 use Rattle.grid.specs.Corners.{needed}
 use Rattle.grid.specs.CornerList.{nonzero}
-use Rattle.geometry.specs.Index.{nextIndices}
 use Rattle.geometry.proofs.Next.{next-of}
 use Rattle.grid.proofs.Octets.{Within, within}
-use Rattle.sparse_field.specs.Around.{around}
-use Rattle.sparse_field.specs.Gathered.{Gathering}
+use Rattle.sparse_field.specs.Inner.Around.{around}
+use Rattle.sparse_field.specs.Inner.Gathered.{Gathering}
 use Rattle.sparse_field.proofs.AroundLaws.{needed-is}
 use Rattle.sparse_field.proofs.Searching.{gathering-none, gathering-more, gathering-skip}
 use borrow.Author.Needs.{needs}

@@ -5,7 +5,7 @@ use mathlib.Core.Logic.{⊎-elim}
 use Prim.Native.Nat.{ℕ, _*_, _-_, _<_}
 use native.Mathlib.Omega.{arith}
 use Rattle.grid.specs.CornerList.{nonzero}
-use Rattle.sparse_field.specs.Around.{slabHas}
+use Rattle.sparse_field.specs.Inner.Around.{slabHas}
 use Rattle.sparse_field.proofs.AroundLaws.{either-before, either-here, either-none, slab-within, rows-small}
 use borrow.Author.Needs.{needs}
 use Rattle.sparse_field.proofs.corners.has_child.Statement.{statement}

@@ -4,7 +4,7 @@ use native.Mathlib.Omega.{arith}
 use Prim.Native.Nat.{_+_, _≤_}
 use Rattle.grid.specs.CornerList.{nonzero}
 use Rattle.grid.proofs.Octets.{within}
-use Rattle.sparse_field.specs.Around.{around}
+use Rattle.sparse_field.specs.Inner.Around.{around}
 use Rattle.sparse_field.proofs.AroundLaws.{needed-is}
 use borrow.Author.Needs.{needs}
 use Rattle.sparse_field.proofs.corners.is_needed.Statement.{statement}

@@ -10,8 +10,8 @@ use Rattle.grid.specs.Blocks.{cube}
 use Rattle.grid.specs.Corners.{needed, cornerPoint}
 use Rattle.grid.specs.CornerList.{nonzero}
 use Rattle.sparse_field.specs.Plan.{at}
-use Rattle.sparse_field.specs.FlatValue.{flatValue}
-use Rattle.sparse_field.specs.RowLent.{RowLent}
+use Rattle.sparse_field.specs.Inner.FlatValue.{flatValue}
+use Rattle.sparse_field.specs.Inner.RowLent.{RowLent}
 use Rattle.sparse_field.proofs.Running.{Ran, ran-none, gathered-below, row-ran, row-ended, row-less}
 use borrow.Author.Needs.{needs}
 use Rattle.sparse_field.proofs.corners.run_corners.Statement.{statement}

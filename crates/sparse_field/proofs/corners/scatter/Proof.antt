@@ -3,7 +3,7 @@ use mathlib.Core.Path.{_≡_, ap, _∙_}
 use Prim.Native.Nat.{_-_, _≤_}
 use native.Mathlib.Omega.{arith}
 use lib.ListN.{length}
-use Rattle.sparse_field.specs.Written.{scattered}
+use Rattle.sparse_field.specs.Inner.Written.{scattered}
 use Rattle.sparse_field.proofs.Writing.{scattered-none, scattered-next, scattered-length}
 use borrow.Author.Needs.{needs}
 use Rattle.sparse_field.proofs.corners.scatter.Statement.{statement}

@@ -5,9 +5,9 @@ use Rattle.model.proofs.Accepted.{count-le}
 use Rattle.schedule.specs.Schedule.{Memory}
 use Rattle.schedule.specs.Totals.{activeAll}
 use Rattle.schedule.specs.Lent.{memoryOf}
-use Rattle.sparse_field.specs.Progress.{Lent}
+use Rattle.sparse_field.specs.Inner.Progress.{Lent}
 use Rattle.sparse_field.specs.Records.{cursorIn}
-use Rattle.sparse_field.specs.Startable.{Startable}
+use Rattle.sparse_field.specs.Inner.Startable.{Startable}
 use Rattle.sparse_field.proofs.JobLaws.{same-plan, with-plan}
 use borrow.Author.Needs.{needs}
 use Rattle.sparse_field.proofs.jobs.run_job.Statement.{statement}

@@ -6,7 +6,7 @@ use native.Mathlib.Omega.{arith}
 use lib.ListN.{length, getD, length-set}
 use lib.Seq.{getD-set-same, getD-set-other}
 use borrow.Author.Count.{below-none, below-more}
-use Rattle.grid.specs.Activity.{axisActive}
+use Rattle.grid.specs.Inner.Activity.{axisActive}
 use borrow.Author.Needs.{needs}
 use Rattle.sparse_field.proofs.kinds.axis_table.Statement.{statement}
 use Rattle.sparse_field.proofs.kinds.axis_table.Tie as tie

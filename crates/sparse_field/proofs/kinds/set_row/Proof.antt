@@ -6,7 +6,7 @@ use Prim.Native.Nat.{ℕ, _-_, _≤_, _<_}
 use native.Mathlib.Omega.{arith}
 use lib.ListN.{length, set}
 use borrow.Author.Tests.{not-true, not-false}
-use Rattle.sparse_field.specs.Flags.{flagsFrom, tableTest}
+use Rattle.sparse_field.specs.Inner.Flags.{flagsFrom, tableTest}
 use Rattle.sparse_field.proofs.FlagLaws.{flagged, flagged-none, flagged-length, flagged-set, flagged-all, flags-none}
 use borrow.Author.Needs.{needs}
 use Rattle.sparse_field.proofs.kinds.set_row.Statement.{statement}

@@ -6,7 +6,7 @@ use native.Mathlib.Nat.{zero-mul, mul-le-mul-right}
 use native.Mathlib.Omega.{arith}
 use lib.ListN.{length}
 use borrow.Author.Tests.{not-true, not-false}
-use Rattle.sparse_field.specs.Flags.{flagsFrom, inRows, tableTest, slabTest}
+use Rattle.sparse_field.specs.Inner.Flags.{flagsFrom, inRows, tableTest, slabTest}
 use Rattle.sparse_field.proofs.FlagLaws.{flagged, flagged-none, flagged-length, flagged-all, flags-none, row-below, row-length, rows-more}
 use borrow.Author.Needs.{needs}
 use Rattle.sparse_field.proofs.kinds.set_slab.Statement.{statement}

@@ -7,7 +7,7 @@ use native.Mathlib.Omega.{arith}
 use lib.ListN.{length}
 use Rattle.grid.specs.Blocks.{cube}
 use Rattle.grid.proofs.BlockLaws.{square-le}
-use Rattle.sparse_field.specs.Flags.{inRows, tableTest, slabTest, nodeTest}
+use Rattle.sparse_field.specs.Inner.Flags.{inRows, tableTest, slabTest, nodeTest}
 use Rattle.sparse_field.proofs.FlagLaws.{flagged, flagged-none, flagged-length, flagged-all, row-below, row-length, rows-more}
 use borrow.Author.Needs.{needs}
 use Rattle.sparse_field.proofs.kinds.set_slabs.Statement.{statement}

@@ -6,7 +6,7 @@ use native.Mathlib.Nat.{zero-mul, mul-le-mul-right}
 use native.Mathlib.Omega.{arith}
 use lib.ListN.{take, length-take, length-drop}
 use borrow.Author.Tests.{not-true, not-false}
-use Rattle.sparse_field.specs.Flags.{agreesFrom, tableTest, slabTest}
+use Rattle.sparse_field.specs.Inner.Flags.{agreesFrom, tableTest, slabTest}
 use Rattle.sparse_field.proofs.FlagLaws.{agrees-none, agrees-all, row-below, rows-agree, rows-differ}
 use borrow.Author.Needs.{needs}
 use Rattle.sparse_field.proofs.kinds.slab_right.Statement.{statement}

@@ -4,7 +4,7 @@ use mathlib.Core.Path.{sym, subst}
 use native.Mathlib.Numerals.{add-one}
 use native.Mathlib.Omega.{arith}
 use Rattle.schedule.specs.Totals.{activeBefore}
-use Rattle.sparse_field.specs.Progress.{plan}
+use Rattle.sparse_field.specs.Inner.Progress.{plan}
 use Rattle.sparse_field.proofs.Turns.{came-through}
 use Rattle.sparse_field.proofs.NodeLaws.{nodes-few, onward-stopped, onward-through}
 use borrow.Author.Needs.{needs}

@@ -14,7 +14,7 @@ use Rattle.sparse_field.specs.declared.Progress.{Progress}
 use Rattle.schedule.specs.Totals.{activeBefore}
 use Rattle.schedule.specs.Lent.{memoryOf}
 use Rattle.sparse_field.specs.Plan.{planWith}
-use Rattle.sparse_field.specs.Progress.{plan, Advanced, readingIn}
+use Rattle.sparse_field.specs.Inner.Progress.{plan, Advanced, readingIn}
 use Rattle.sparse_field.proofs.Turns.{advanced-then, came-through, node-stopped}
 use Rattle.sparse_field.proofs.NodeLaws.{leaves-inside, node-points}
 use borrow.Author.Needs.{needs}

@@ -1,8 +1,8 @@
 -- `nodes::run_from` meets its contract: the cursor's node, and then all nodes after it.
 use mathlib.Core.Path.{subst}
 use Rattle.sparse_field.specs.Plan.{planWith}
-use Rattle.sparse_field.specs.Progress.{plan}
-use Rattle.sparse_field.specs.Startable.{Startable}
+use Rattle.sparse_field.specs.Inner.Progress.{plan}
+use Rattle.sparse_field.specs.Inner.Startable.{Startable}
 use Rattle.sparse_field.proofs.NodeLaws.{turned, node-onward, at-cursor, at-end}
 use borrow.Author.Needs.{needs}
 use Rattle.sparse_field.proofs.nodes.run_from.Statement.{statement}

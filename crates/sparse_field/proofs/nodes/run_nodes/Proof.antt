@@ -12,7 +12,7 @@ use Rattle.schedule.specs.Totals.{activeBefore}
 use Rattle.sparse_field.specs.declared.Stop.the-variants.{Through, At}
 use Rattle.schedule.specs.Lent.{memoryOf}
 use Rattle.sparse_field.specs.Plan.{planWith}
-use Rattle.sparse_field.specs.Progress.{plan, Advanced, ZeroCorners}
+use Rattle.sparse_field.specs.Inner.Progress.{plan, Advanced, ZeroCorners}
 use Rattle.sparse_field.proofs.Turns.{progress, advanced-start, advanced-through, advanced-stopped, came-through}
 use Rattle.sparse_field.proofs.NodeLaws.{nodes-few, node-after, nodes-end, nodes-upto}
 use Rattle.sparse_field.proofs.nodes.run_nodes.Statement.{statement}

@@ -8,7 +8,7 @@ use Rattle.lists.proofs.Filling.{filled-same, filled-done}
 use Rattle.grid.specs.Blocks.{cube}
 use Rattle.grid.specs.Leaves.{leafPoint}
 use Rattle.sparse_field.specs.Plan.{at}
-use Rattle.sparse_field.specs.FlatValue.{flatValue}
+use Rattle.sparse_field.specs.Inner.FlatValue.{flatValue}
 use Rattle.sparse_field.proofs.AxesLaws.{axes-leaf}
 use borrow.Author.Needs.{needs}
 use Rattle.sparse_field.proofs.points.fill_points.Statement.{statement}

@@ -6,10 +6,10 @@ use lib.ListN.{length, length-replicate}
 use Rattle.float.specs.Zero.{plusZero}
 use Rattle.lists.specs.Filled.{filled}
 use Rattle.lists.proofs.Filling.{filled-none, filled-length, filled-more, filled-done}
-use Rattle.sparse_field.specs.Axes.{axesPoint}
+use Rattle.sparse_field.specs.Inner.Axes.{axesPoint}
 use Rattle.sparse_field.specs.Plan.{at}
-use Rattle.sparse_field.specs.FlatValue.{flatValue}
-use Rattle.sparse_field.specs.RowLent.{RowLent}
+use Rattle.sparse_field.specs.Inner.FlatValue.{flatValue}
+use Rattle.sparse_field.specs.Inner.RowLent.{RowLent}
 use borrow.Author.Needs.{needs}
 use Rattle.sparse_field.proofs.points.fill_rows.Statement.{statement}
 use Rattle.sparse_field.proofs.points.fill_rows.Tie as tie

@@ -4,14 +4,13 @@ use Prim.Native.Nat.{_+_, _-_, _≤_}
 use native.Mathlib.Nat.{add-zero, add-assoc}
 use native.Mathlib.Omega.{arith}
 use lib.ListN.{getD}
-use Rattle.geometry.specs.Index.{indicesOf}
+use Rattle.geometry.specs.Index.{indicesOf, nextIndices}
 use Rattle.lists.specs.Filled.{filled}
 use Rattle.lists.proofs.Filling.{filled-none, front-store, filled-done}
 use Rattle.model.specs.Part.{past}
-use Rattle.geometry.specs.Index.{nextIndices}
 use Rattle.geometry.proofs.Next.{next-of}
 use Rattle.grid.proofs.Octets.{Within, within}
-use Rattle.sparse_field.specs.Axes.{axesPoint}
+use Rattle.sparse_field.specs.Inner.Axes.{axesPoint}
 use borrow.Author.Needs.{needs}
 use Rattle.sparse_field.proofs.points.place_points.Statement.{statement}
 use Rattle.sparse_field.proofs.points.place_points.Tie as tie

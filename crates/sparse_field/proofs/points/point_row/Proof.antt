@@ -3,9 +3,9 @@ use mathlib.Core.Path.{_≡_, ap, _∙_}
 use Prim.Native.Nat.{_+_, _-_}
 use native.Mathlib.Omega.{arith}
 use Rattle.lists.proofs.Filling.{filled-same}
-use Rattle.sparse_field.specs.Axes.{axesPoint}
+use Rattle.sparse_field.specs.Inner.Axes.{axesPoint}
 use Rattle.sparse_field.specs.Plan.{at}
-use Rattle.sparse_field.specs.FlatValue.{flatValue}
+use Rattle.sparse_field.specs.Inner.FlatValue.{flatValue}
 use Rattle.sparse_field.proofs.RowValues.{RowMade, row-value, row-kept}
 use borrow.Author.Needs.{needs}
 use Rattle.sparse_field.proofs.points.point_row.Statement.{statement}

@@ -5,7 +5,7 @@ use mathlib.Core.Logic.{_⊎_}
 use mathlib.Core.Bool.{Bool, true, cond}
 use mathlib.Core.List.{List, [], _∷_}
 use lib.ListN.{take}
-use Rattle.sparse_field.specs.CornerRun.{neededFrom}
+use Rattle.sparse_field.specs.Inner.CornerRun.{neededFrom}
 
 -- those of r corners from i on that pass the test
 unfoldable pub neededList : (ℕ → Bool) → (r i : ℕ) → List ℕ

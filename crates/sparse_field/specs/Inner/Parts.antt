@@ -1,0 +1,46 @@
+-- The parts of what open and step do, as the functions below them state them.
+use Prim.Native.Nat.{ℕ, _*_}
+use mathlib.Core.Bool.{false, true}
+use Rattle.schedule.specs.Schedule.{Memory}
+use Rattle.schedule.specs.Opened.{Lengths, opened}
+use Rattle.schedule.specs.Engine.{Engine, openedEngine, engineStepJob}
+use Rattle.sparse_field.specs.declared.Input.{Input}
+use Rattle.sparse_field.specs.declared.Record.{Record}
+use Rattle.sparse_field.specs.Plan.{planOf}
+use Rattle.sparse_field.specs.Records.{sparse, jobIn, recordOut}
+use Rattle.grid.specs.declared.Lengths as grids
+use Rattle.schedule.specs.JobRecord.{job}
+use Rattle.sparse_field.specs.declared.Cursor.{Cursor}
+use Rattle.sparse_field.specs.declared.Cursor.the-variants.{End}
+use Rattle.sparse_field.specs.declared.Stop.{Stop}
+use Rattle.sparse_field.specs.declared.Stop.the-variants.{Through, At}
+
+-- what an accepted open writes before the first event
+abbrev pub startMemory : Input → Lengths → Memory
+startMemory i l = opened (planOf i) l .memory
+
+-- the record and the memory after an accepted open
+abbrev pub openedRecord : Input → Lengths → Record
+openedRecord i l = recordOut (openedEngine sparse i l .jobRecord)
+
+abbrev pub openedMemory : Input → Lengths → Memory
+openedMemory i l = openedEngine sparse i l .memory
+
+-- the engine after an accepted step
+abbrev pub steppedEngine : ℕ → Record → Memory → Engine sparse
+steppedEngine budget r m = engineStepJob sparse budget (jobIn r) m false .next
+
+-- the cursor where a function has stopped, or the end
+abbrev pub cursorAt : Stop → Cursor
+cursorAt Through = End
+cursorAt (At a) = a
+
+-- the record of an input's job: its lengths, its counts, and where it has come to
+abbrev pub recordAt : Input → grids.Lengths → (nodes active leaves points evaluations : ℕ) → Stop → Record
+recordAt i l nodes active leaves points evaluations stop = record {
+  job = true;
+  input = i;
+  lengths = l;
+  counts = record { nodes = nodes; active = active; leaves = leaves; sampled = leaves * points; evaluations = evaluations };
+  cursor = cursorAt stop;
+}
