@@ -1,7 +1,7 @@
 -- What sampling's inner functions leave, and its causes.
 use Prim.Native.Nat.{ℕ}
 use mathlib.Core.Bool.{cond, _||_}
-use mathlib.Core.List.{_∷_}
+use mathlib.Core.List.{[], _∷_}
 use lib.Dec.{eqb}
 use lib.Ieee.{Float}
 use Rattle.geometry.specs.declared.Vec3.{Vec3}

@@ -1,7 +1,7 @@
 -- Which numbers fit a form, and how many bytes a line of it has at most.
 use Prim.Native.Nat.{ℕ, _+_, _-_, _^_, _≤_, _<_}
 use mathlib.Core.Path.{_≡_}
-use mathlib.Core.List.{List, _∷_, _++_}
+use mathlib.Core.List.{List, [], _∷_, _++_}
 use lib.ListN.{length, getD}
 use Rattle.forms.specs.Forms.{Piece, hex, decimal, byte, after, spell, fields}
 

@@ -1,7 +1,7 @@
 -- Document 01, "Sparse field": the corners of a node, and those that its active children need.
 use Prim.Native.Nat.{ℕ, _+_}
 use mathlib.Core.Bool.{Bool, false, _&&_, _||_}
-use mathlib.Core.List.{List, _∷_}
+use mathlib.Core.List.{List, [], _∷_}
 use lib.Dec.{eqb}
 use lib.Ieee.{binary64, add, mul}
 use Rattle.geometry.specs.declared.Vec3.{Vec3}

@@ -1,7 +1,7 @@
 -- Document 01, "Job text and `fieldlist`": the lines of a job's text, and those of a listing. H stands for a float's bits, D for a decimal number.
 use Prim.Native.Nat.{ℕ}
 use Prim.Native.String.{String}
-use mathlib.Core.List.{List, _∷_, map}
+use mathlib.Core.List.{List, [], _∷_, map}
 use Rattle.forms.specs.Bytes.{bytes}
 use Rattle.forms.specs.Forms.{Piece, pieceOf}
 

@@ -1,7 +1,7 @@
 -- What a text is read as: the input that it spells with the bits of its constants, or 12 with a line. Document 01: "The line
 -- named is the first off its form, or the one after the last if the text ends early."
 use Prim.Native.Nat.{ℕ, zero, suc, _+_, _-_}
-use mathlib.Core.List.{List, _∷_, _++_, map}
+use mathlib.Core.List.{List, [], _∷_, _++_, map}
 use lib.ListN.{length, replicate}
 use Rattle.float.specs.Zero.{plusZero}
 use Rattle.geometry.specs.declared.Vec3.{Vec3}

@@ -6,7 +6,6 @@ use lib.Ieee.{Float, le}
 use Rattle.geometry.specs.Axis.{along, alongEnd}
 use Rattle.grid.specs.Boxes.{nodeLeast, nodeMost}
 use Rattle.grid.specs.Ranges.{countBelow}
-use Rattle.grid.specs.Inner.Activity.{axisActive}
 use Rattle.grid.specs.Counting.{sumBelow}
 
 -- whether bounds from `least` to `most` meet child ci of node i, where a node is s long and has n children
