@@ -1,7 +1,7 @@
 -- Open and drop do not look at the record that they find: in the arrays and in the memory they leave the same from any.
 use Prim.Native.Nat.{ℕ, zero, suc}
 use mathlib.Core.Path.{_≡_, refl}
-use Rattle.schedule.specs.Schedule.{Memory}
+use Rattle.schedule.specs.Memory.{Memory}
 use Rattle.schedule.specs.Opened.{lengthsOf}
 use Rattle.schedule.specs.Calls.{opens, drops}
 use Rattle.schedule.specs.Engine.{engineCall, engineOpen}

@@ -1,5 +1,4 @@
--- DEMAND 3 for the C interface: for every list of the C functions' opens, steps and drops on one record and one set of lent memory, refused calls among
--- them, answers, counts and every lent element equal those of the ledger. `onStation` is made of `hosted`, which the contracts of the three functions name.
+-- DEMAND 3 for the C interface: its calls implement the engine, so the ledger theorem holds of every list of them. specs/Demand has the statements.
 use Prim.Native.Nat.{ℕ, zero, suc, _<_}
 use mathlib.Core.Path.{_≡_, refl, sym, ap, subst, _∙_}
 use mathlib.Core.Bool.{Bool, true, false, cond}
@@ -14,28 +13,31 @@ use Rattle.model.specs.declared.Part.the-variants.{Constant}
 use Rattle.model.specs.declared.ModelComponent.{ModelComponent}
 use Rattle.model.specs.Flat.{Flat, flatOf}
 use Rattle.model.proofs.Accepted.{count-le}
-use Rattle.schedule.specs.Schedule.{Memory}
-use Rattle.schedule.specs.Opened.{Lengths, lengthsOf}
+use Rattle.schedule.specs.Memory.{Memory}
+use Rattle.schedule.specs.Opened.{Lengths, lengthsOf, stateAt}
 use Rattle.schedule.specs.Calls.{opens, steps, drops, refused, run}
 use Rattle.schedule.specs.Engine.{advanced, engineCall, engineOpen, engineStepJob}
 use Rattle.schedule.specs.Possible.{impossible}
-use Rattle.schedule.specs.Ledger.{ledgerCall, firstLedger}
-use Rattle.schedule.specs.Agree.{Agree}
+use Rattle.schedule.specs.Ledger.{noEntry, entry}
+use Rattle.schedule.specs.BudgetSum.{budgetSum}
+use Rattle.schedule.specs.JobRecord.{noJob, atEnd}
 use Rattle.schedule.specs.Implements.{Implements}
-use Rattle.schedule.proofs.Implements.{viewRun, implements-ledger}
+use Rattle.schedule.proofs.Implements.{implements-ledger, implements-drop, implements-elements, implements-finished}
 use Rattle.schedule.proofs.Possible.{possible}
 use Rattle.sparse_field.specs.declared.Input.{Input}
 use Rattle.sparse_field.specs.declared.Record.{Record}
-use Rattle.sparse_field.specs.Records.{sparse, lent, jobIn, recordIn, byFlag, noRecord, noModel}
+use Rattle.sparse_field.specs.Plan.{planOf}
+use Rattle.sparse_field.specs.Records.{sparse, lent, jobIn, recordIn, cursorIn, byFlag, noRecord, noModel}
 use Rattle.sparse_field.specs.Calls.{Handed, handed, called}
 use Rattle.sparse_field.specs.Inner.Parts.{openedRecord, openedMemory}
 use Rattle.sparse_field.specs.Lists.{Held, answerIn}
-use Rattle.sparse_field.proofs.Opening.{sized, nothing, sparse-laws}
+use Rattle.sparse_field.proofs.Opening.{sized, nothing, sparse-laws, long-enough}
 use Rattle.sparse_field.proofs.CallLaws.{refusedBy, acceptedWith, step-none, step-impossible, step-accepted, drop-accepted}
 use Rattle.sparse_field.proofs.Demand.{implemented}
 use Rattle.field_host.specs.Given.{inputGiven}
 use Rattle.field_host.specs.Carried.{Carried, inputIn, fits, flagged, recordGiven, unread, decoded, encoded}
 use Rattle.field_host.specs.Hosted.{answerNumber, leftBy, carriedAfter, hosted}
+use Rattle.field_host.specs.Demand.{NoJob, HostDemandThree, HostDropLeavesZeros, HostEqualBudgets, HostFinishedField, recordAfter}
 use Rattle.field_host.specs.Lists.{HostCall, opensWith, stepsBy, dropsAll, callOf, Station, answerOf, onStation, engineAt}
 use Rattle.field_host.proofs.RecordBack.{record-back}
 use Rattle.field_host.proofs.Unread.{no-flag}
@@ -150,11 +152,27 @@ host-implemented = record {
       ∙ implemented .next (callOf c) (heldAt s);
 }
 
--- ---- the theorem
+-- ---- the theorem, and what belongs to it
 
--- any list of calls, from arrays of any contents whose first word is 0 and any contents of the memory
-pub host-demand-three : (cs : List HostCall) (s : Station) → getD (s .carried .words) 0 0 ≡ 0
-    → Agree sparse (viewRun sparse HostCall Station callOf engineAt onStation host-implemented (run onStation cs s)) (run (ledgerCall sparse) (map callOf cs) (firstLedger sparse (s .memory)))
-host-demand-three cs s none =
-    implements-ledger sparse HostCall Station callOf engineAt onStation host-implemented sparse-laws cs s
-    (ap (λ b. byFlag b (decoded (s .carried))) (no-flag (s .carried) none))
+no-job : (s : Station) → NoJob s → engineAt s .jobRecord ≡ noJob
+no-job s none = ap (λ b. byFlag b (decoded (s .carried))) (no-flag (s .carried) none)
+
+pub host-demand-three : HostDemandThree
+host-demand-three cs s none = implements-ledger sparse HostCall Station callOf engineAt onStation host-implemented sparse-laws s (no-job s none) cs
+
+pub host-dropped : HostDropLeavesZeros
+host-dropped cs s none = implements-drop sparse HostCall Station callOf engineAt onStation host-implemented sparse-laws s (no-job s none) cs dropsAll refl
+
+elements : (cs : List HostCall) (s : Station) → NoJob s → (i : Input) (n : ℕ) → budgetSum sparse (lengthsOf (s .memory)) (map callOf cs) noEntry ≡ entry i n
+    → run onStation cs s .last .memory ≡ stateAt (planOf i) (lengthsOf (s .memory)) n .memory
+elements cs s none = implements-elements sparse HostCall Station callOf engineAt onStation host-implemented sparse-laws s (no-job s none) cs
+
+pub host-equal-elements : HostEqualBudgets
+host-equal-elements cs₁ cs₂ s₁ s₂ none₁ none₂ lengths i n budgets₁ budgets₂ =
+    elements cs₁ s₁ none₁ i n budgets₁ ∙ ap (λ l. stateAt (planOf i) l n .memory) lengths ∙ sym (elements cs₂ s₂ none₂ i n budgets₂)
+
+pub host-finished-field : HostFinishedField
+host-finished-field cs s none flag ends =
+    let r = recordAfter cs s in
+    implements-finished sparse HostCall Station callOf engineAt onStation host-implemented sparse-laws s (no-job s none) long-enough cs (jobIn r)
+    (ap (λ b. byFlag b r) flag) (ap (λ a. atEnd (cursorIn a)) ends)

@@ -68,5 +68,5 @@ inputGiven s inner leaf l count =
     }
 
 -- of arrays that are lent, as a call finds them
-abbrev pub inputIn : LentSlice Float → (inner leaf : ℕ) → LentSlice ℕ → LentSlice Float → (count : ℕ) → Input
-inputIn settings inner leaf parts reals count = inputGiven (now (settings .entry)) inner leaf (flatIn parts reals) count
+abbrev pub inputLent : LentSlice Float → (inner leaf : ℕ) → LentSlice ℕ → LentSlice Float → (count : ℕ) → Input
+inputLent settings inner leaf parts reals count = inputGiven (now (settings .entry)) inner leaf (flatIn parts reals) count

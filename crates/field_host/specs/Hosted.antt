@@ -4,7 +4,7 @@ use mathlib.Core.Bool.{cond}
 use mathlib.Core.List.{List, [], _∷_}
 use lib.Dec.{eqb}
 use lib.ListN.{getD}
-use Rattle.schedule.specs.Schedule.{Memory}
+use Rattle.schedule.specs.Memory.{Memory}
 use Rattle.sparse_field.specs.declared.Counts.{Counts}
 use Rattle.sparse_field.specs.declared.Answer.{Answer}
 use Rattle.sparse_field.specs.declared.Answer.the-variants.{Accepted, Refused}

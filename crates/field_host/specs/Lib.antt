@@ -4,4 +4,5 @@ pub mod Carried
 pub mod Hosted
 pub mod Answers
 pub mod Lists
+pub mod Demand
 pub mod Needed

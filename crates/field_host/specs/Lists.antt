@@ -3,7 +3,7 @@ use Prim.Native.Nat.{ℕ, zero, suc}
 use mathlib.Core.List.{List}
 use lib.Ieee.{Float}
 use Rattle.model.specs.Flat.{Flat}
-use Rattle.schedule.specs.Schedule.{Memory}
+use Rattle.schedule.specs.Memory.{Memory}
 use Rattle.schedule.specs.Calls.{opens, steps, drops, Answer, accepted, refused, Outcome}
 use Rattle.schedule.specs.Engine.{Engine}
 use Rattle.sparse_field.specs.Records.{sparse, recordIn}

@@ -4,7 +4,7 @@
 ghost use mathlib.Core.Path.{_≡_};
 ghost use Rattle.schedule.specs.Calls.{opens, steps, drops};
 ghost use Rattle.schedule.specs.Lent.{entered, left};
-ghost use Rattle.field_host.specs.Given.{inputIn};
+ghost use Rattle.field_host.specs.Given.{inputLent};
 ghost use Rattle.field_host.specs.Carried.{carriedIn, carriedOut};
 ghost use Rattle.field_host.specs.Hosted.{answerNumber, carriedAfter, hosted};
 use crate::given::input_given;
@@ -54,13 +54,13 @@ pub extern "C" fn jisampode_open(
     corners: &mut [f64],
 ) -> u32
     ensures answer { λ r. ⌜ r
-        ≡ hosted (opens (inputIn settings inner leaf parts reals count)) (carriedIn record_words record_parts record_settings record_reals)
+        ≡ hosted (opens (inputLent settings inner leaf parts reals count)) (carriedIn record_words record_parts record_settings record_reals)
         (entered kinds numbers places store corners) .number ⌝ }
     ensures carried { λ _. ⌜ carriedOut record_words record_parts record_settings record_reals
-        ≡ hosted (opens (inputIn settings inner leaf parts reals count)) (carriedIn record_words record_parts record_settings record_reals)
+        ≡ hosted (opens (inputLent settings inner leaf parts reals count)) (carriedIn record_words record_parts record_settings record_reals)
         (entered kinds numbers places store corners) .carried ⌝ }
     ensures memory { λ _. ⌜ left kinds numbers places store corners
-        ≡ hosted (opens (inputIn settings inner leaf parts reals count)) (carriedIn record_words record_parts record_settings record_reals)
+        ≡ hosted (opens (inputLent settings inner leaf parts reals count)) (carriedIn record_words record_parts record_settings record_reals)
         (entered kinds numbers places store corners) .memory ⌝ }
 {
     let input = input_given(settings, inner, leaf, parts, reals, count);

@@ -2,7 +2,7 @@
 ghost use mathlib.Core.Path.{_≡_};
 ghost use Prim.Native.Nat.{_<_};
 ghost use Rattle.model.specs.Flat.{flatIn, partFrom};
-ghost use Rattle.field_host.specs.Given.{inputIn, boxGiven, boxIn, partCoded, componentGiven, modelGiven};
+ghost use Rattle.field_host.specs.Given.{inputLent, boxGiven, boxIn, partCoded, componentGiven, modelGiven};
 use geometry::BoundingBox;
 use geometry::Vec3;
 use grid::Band;
@@ -111,7 +111,7 @@ pub fn input_given(
     reals: &[f64; 256],
     count: u32,
 ) -> Input
-    ensures { λ r. ⌜ r ≡ inputIn settings inner leaf parts reals count ⌝ }
+    ensures { λ r. ⌜ r ≡ inputLent settings inner leaf parts reals count ⌝ }
 {
     let bounds = box_of(
         settings[0],

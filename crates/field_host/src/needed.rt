@@ -2,7 +2,7 @@
 ghost use mathlib.Core.Path.{_≡_};
 ghost use mathlib.Core.Bool.{false};
 ghost use Rattle.grid.specs.Causes.{refusedByTwo, refusedByFive};
-ghost use Rattle.field_host.specs.Given.{inputIn};
+ghost use Rattle.field_host.specs.Given.{inputLent};
 ghost use Rattle.field_host.specs.Needed.{neededLengths, lengthList, anyRefusal, refusalNumber, lengthsLeft};
 use crate::given::input_given;
 use grid::Grid;
@@ -54,10 +54,10 @@ pub extern "C" fn jisampode_lengths(
     count: u32,
     lengths: &mut [usize; 5],
 ) -> u32
-    ensures answer { λ r. ⌜ r ≡ refusalNumber (anyRefusal (inputIn settings inner leaf parts reals count)) ⌝ }
+    ensures answer { λ r. ⌜ r ≡ refusalNumber (anyRefusal (inputLent settings inner leaf parts reals count)) ⌝ }
     ensures lengths { λ _. ⌜ now (lengths .exit)
-        ≡ lengthsLeft (now (lengths .entry)) (anyRefusal (inputIn settings inner leaf parts reals count))
-        (inputIn settings inner leaf parts reals count .grid) ⌝ }
+        ≡ lengthsLeft (now (lengths .entry)) (anyRefusal (inputLent settings inner leaf parts reals count))
+        (inputLent settings inner leaf parts reals count .grid) ⌝ }
 {
     let input = input_given(settings, inner, leaf, parts, reals, count);
     let refusal = any_refusal(input);

@@ -7,7 +7,8 @@ use mathlib.Core.List.{List, [], _∷_}
 use lib.ListN.{length}
 use borrow.Author.Tests.{le-leb}
 use Rattle.grid.proofs.BlockLaws.{cube-le}
-use Rattle.schedule.specs.Schedule.{Plan, Memory}
+use Rattle.schedule.specs.Plan.{Plan}
+use Rattle.schedule.specs.Memory.{Memory}
 use Rattle.schedule.specs.Totals.{leavesAll, total, evaluationsBound}
 use Rattle.schedule.specs.Opened.{Lengths, lengthsOf, stateAt}
 use Rattle.schedule.specs.Counts.{countsWith}

@@ -10,7 +10,8 @@ use lib.Ieee.{binary64, toBits}
 use Rattle.lists.specs.Tabulate.{tabulate}
 use Rattle.lists.proofs.Tables.{length-tabulate}
 use Rattle.grid.specs.Blocks.{cube}
-use Rattle.schedule.specs.Schedule.{Plan, Decision, constant, leaf, decision}
+use Rattle.schedule.specs.Schedule.{decision}
+use Rattle.schedule.specs.Plan.{Plan, Decision, constant, leaf}
 use Rattle.schedule.specs.Totals.{sumFrom, sumBelow, bit, countBefore, activeAll, leavesAll, total}
 use Rattle.schedule.specs.Counts.{countsWith}
 use Rattle.schedule.proofs.Sums.{sumBelow-snoc, sumBits-most, before-next, before-node, before-all}

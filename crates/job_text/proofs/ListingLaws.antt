@@ -15,7 +15,7 @@ use Rattle.lists.proofs.Lists.{getD-any}
 use Rattle.lists.proofs.Tests.{and-left, and-right}
 use Rattle.lists.proofs.Filling.{filled-all, filled-constant, filled-length, take-filled}
 use Rattle.float.specs.Zero.{plusZero}
-use Rattle.schedule.specs.Schedule.{Memory}
+use Rattle.schedule.specs.Memory.{Memory}
 use Rattle.schedule.specs.Totals.{sumFrom, sumBelow}
 use Rattle.schedule.specs.Counts.{Counts}
 use Rattle.schedule.proofs.Sums.{sumFrom-most}

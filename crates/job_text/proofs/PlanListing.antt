@@ -13,7 +13,9 @@ use Rattle.forms.proofs.Cases.{below-or}
 use Rattle.float.specs.Zero.{plusZero}
 use Rattle.lists.specs.Tabulate.{tabulate}
 use Rattle.lists.proofs.Tables.{tabulate-cong}
-use Rattle.schedule.specs.Schedule.{Plan, Memory, Decision, constant, leaf, filled, zeros, decision}
+use Rattle.schedule.specs.Schedule.{filled, zeros, decision}
+use Rattle.schedule.specs.Plan.{Plan, Decision, constant, leaf}
+use Rattle.schedule.specs.Memory.{Memory}
 use Rattle.schedule.specs.Totals.{becomesLeaf, leavesBefore, leavesAll, total}
 use Rattle.schedule.specs.Counts.{countsWith}
 use Rattle.schedule.specs.Finished.{Finished, Child, childAt, finishedChild}

@@ -11,7 +11,7 @@ use Rattle.grid.specs.Nodes.{nodesOf}
 use Rattle.grid.specs.Causes.{childrenOf}
 use Rattle.grid.proofs.BlockLaws.{cube-le}
 use Rattle.grid.proofs.CauseLaws.{inner-block, leaf-block, few-children}
-use Rattle.schedule.specs.Schedule.{Memory}
+use Rattle.schedule.specs.Memory.{Memory}
 use Rattle.schedule.specs.JobRecord.{atEnd}
 use Rattle.schedule.specs.Opened.{lengthsOf}
 use Rattle.schedule.specs.Possible.{impossible}

@@ -8,7 +8,9 @@ use lib.Dec.{eqb}
 use lib.ListN.{getD}
 use Rattle.lists.specs.Tabulate.{tabulate}
 use Rattle.float.specs.Zero.{plusZero}
-use Rattle.schedule.specs.Schedule.{Plan, Memory, Decision, constant, leaf, decision}
+use Rattle.schedule.specs.Schedule.{decision}
+use Rattle.schedule.specs.Plan.{Plan, Decision, constant, leaf}
+use Rattle.schedule.specs.Memory.{Memory}
 use Rattle.schedule.specs.Totals.{leavesAll, total}
 use Rattle.schedule.specs.Counts.{Counts, countsWith}
 use Rattle.forms.specs.Digits.{hexOf}

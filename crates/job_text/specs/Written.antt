@@ -5,7 +5,7 @@ use mathlib.Core.Bool.{Bool, true, cond, _&&_, _||_, not}
 use mathlib.Core.List.{List, _++_}
 use lib.Dec.{eqb, leb}
 use lib.ListN.{length, getD, replicate}
-use Rattle.schedule.specs.Schedule.{Memory}
+use Rattle.schedule.specs.Memory.{Memory}
 use Rattle.schedule.specs.JobRecord.{isFinished}
 use Rattle.schedule.specs.Possible.{impossible}
 use Rattle.sparse_field.specs.declared.Record.{Record}

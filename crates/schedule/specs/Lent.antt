@@ -5,7 +5,7 @@ use mathlib.Core.List.{List}
 use denote.Ref.{now}
 use lib.Ieee.{Float}
 use Rattle.lists.specs.Slices.{Slice, LentSlice}
-use Rattle.schedule.specs.Schedule.{Memory}
+use Rattle.schedule.specs.Memory.{Memory}
 
 -- the memory that five slices hold
 abbrev pub memoryOf : (kinds : List ℕ) (numbers : List Float) (places : List ℕ) (store corners : List Float) → Memory

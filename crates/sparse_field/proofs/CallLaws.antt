@@ -13,7 +13,7 @@ use Rattle.grid.specs.declared.Lengths.{Lengths}
 use Rattle.grid.specs.declared.Refusal.{Refusal}
 use Rattle.grid.specs.declared.Refusal.the-variants.{None, By}
 use Rattle.grid.specs.Causes.{refusedByOne, refusedByTwo, refusedByThree, refusedByFive, refusedBySix, openCauses, refusalOf}
-use Rattle.schedule.specs.Schedule.{Memory}
+use Rattle.schedule.specs.Memory.{Memory}
 use Rattle.schedule.specs.Opened.{lengthsOf, zeroMemory}
 use Rattle.schedule.specs.Possible.{impossible}
 use Rattle.schedule.specs.Calls.{opens, steps, drops}

@@ -20,7 +20,8 @@ use Rattle.grid.specs.Boxes.{nodeBox, childBox}
 use Rattle.grid.specs.Leaves.{leafPoint}
 use Rattle.grid.specs.Inner.Octets.{octetValues}
 use Rattle.grid.specs.Pruning as pruning
-use Rattle.schedule.specs.Schedule.{Plan, Memory, constant, leaf}
+use Rattle.schedule.specs.Plan.{Plan, constant, leaf}
+use Rattle.schedule.specs.Memory.{Memory}
 use Rattle.schedule.specs.Opened.{nonzero}
 use Rattle.schedule.specs.Totals.{countOf, countAll, activeAll}
 use Rattle.schedule.proofs.Sums.{before-below, before-most, sumFrom-most, sumBits-most}

@@ -10,7 +10,9 @@ use Rattle.model.specs.Part.{partIn}
 use Rattle.model.specs.Model.{modelValue, refusedByFour}
 use Rattle.model.specs.Flat.{flatOf, layoutOf, partsOf}
 use Rattle.model.proofs.Accepted.{count-le, laid-value}
-use Rattle.schedule.specs.Schedule.{Plan, Memory, Cursor, eventsFrom}
+use Rattle.schedule.specs.Plan.{Plan}
+use Rattle.schedule.specs.Resume.{Cursor, eventsFrom}
+use Rattle.schedule.specs.Memory.{Memory}
 use Rattle.schedule.specs.Totals.{activeAll}
 use Rattle.sparse_field.specs.declared.Input.{Input}
 use Rattle.sparse_field.specs.declared.Progress.{Progress}

@@ -27,7 +27,9 @@ use Rattle.grid.specs.Counting as counting
 use Rattle.grid.specs.Causes.{refusedByOne, refusedByTwo, refusedByThree, refusedByFive, refusedBySix, childrenOf, openCauses, refusalOf, storeNeeded}
 use Rattle.grid.proofs.BlockLaws.{cube-le}
 use Rattle.grid.proofs.CauseLaws.{inner-block, leaf-block, few-children}
-use Rattle.schedule.specs.Schedule.{Plan, Cursor, at, corner, point}
+use Rattle.schedule.specs.Schedule.{corner, point}
+use Rattle.schedule.specs.Plan.{Plan}
+use Rattle.schedule.specs.Resume.{Cursor, at}
 use Rattle.schedule.specs.Totals.{sumFrom, sumBelow, bit, countOf, countBefore, countAll, activeBefore, activeAll, activeUpTo, evaluationsBound}
 use Rattle.schedule.specs.Opened.{activeAt, nonzero, ActiveKinds}
 use Rattle.schedule.specs.Counts.{countsWith, sameCounts}

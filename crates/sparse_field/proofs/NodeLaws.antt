@@ -23,7 +23,10 @@ use Rattle.grid.specs.CornerList as kinds
 use Rattle.grid.proofs.Needing.{needed-below}
 use Rattle.grid.proofs.BlockLaws.{cube-le}
 use Rattle.lists.specs.Filled.{filled}
-use Rattle.schedule.specs.Schedule.{Plan, Memory, State, Event, Decision, constant, leaf, corner, point, evaluate, at, eventsFrom, childrenLeft, nodesLeft, zeros}
+use Rattle.schedule.specs.Schedule.{Event, corner, point, evaluate, zeros}
+use Rattle.schedule.specs.Plan.{Plan, Decision, constant, leaf}
+use Rattle.schedule.specs.Resume.{at, eventsFrom, childrenLeft, nodesLeft}
+use Rattle.schedule.specs.Memory.{Memory, State}
 use Rattle.schedule.specs.Totals.{activeBefore, activeAll}
 use Rattle.schedule.specs.PlanLaws.{PlanLaws}
 use Rattle.schedule.specs.Opened.{ActiveKinds}

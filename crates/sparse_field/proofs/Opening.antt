@@ -14,7 +14,11 @@ use Rattle.grid.specs.Causes.{childrenOf}
 use Rattle.grid.proofs.Counts.{i-above, j-above, k-above}
 use Rattle.grid.proofs.CauseLaws.{inner-block, leaf-block, few-children}
 use Rattle.model.specs.declared.ImplicitModel.{ImplicitModel}
-use Rattle.schedule.specs.Schedule.{Plan, Memory, schedule, split, cursorOf, nodesFrom, nodesLeft, eventsFrom}
+use Rattle.schedule.specs.Schedule.{schedule, nodesFrom}
+use Rattle.schedule.specs.Plan.{Plan}
+use Rattle.schedule.specs.Resume.{cursorOf, nodesLeft, eventsFrom}
+use Rattle.schedule.specs.Split.{split}
+use Rattle.schedule.specs.Memory.{Memory}
 use Rattle.schedule.specs.Totals.{activeAll, activeUpTo}
 use Rattle.schedule.specs.Finished.{LongEnough}
 use Rattle.schedule.specs.Counts.{countsWith}
@@ -28,7 +32,7 @@ use Rattle.schedule.specs.PlanLaws.{Valid}
 use Rattle.schedule.specs.Stops.{AtLeast}
 use Rattle.schedule.specs.Opened as opens
 use Rattle.schedule.specs.Opened.{lengthsOf, ActiveKinds}
-use Rattle.schedule.specs.Model.{ModelLaws}
+use Rattle.schedule.specs.Inputs.{InputsLaws}
 use Rattle.sparse_field.specs.declared.Input.{Input}
 use Rattle.sparse_field.specs.declared.Cursor.{Cursor}
 use Rattle.sparse_field.specs.declared.Progress.{Progress}
@@ -75,7 +79,7 @@ valid-startable P (Corner v i) n valid most least = (valid .0, omega (arith, val
 valid-startable P (Point v c p) n valid most least = (valid .0, valid .1, omega (arith, valid .3), least, most)
 
 -- an input without a cause has a lawful plan and enough corners
-pub sparse-laws : ModelLaws sparse
+pub sparse-laws : InputsLaws sparse
 unfolding planWith
 sparse-laws = record {
   planLaws = λ l i none.

@@ -4,8 +4,12 @@ use mathlib.Core.Path.{_≡_, refl, sym, ap, _∙_}
 use mathlib.Core.Bool.{true}
 use mathlib.Core.List.{List, []}
 use native.Mathlib.Omega.{arith}
-use Rattle.schedule.specs.Schedule as schedule
-use Rattle.schedule.specs.Schedule.{Plan, Memory, State, Event, applyAll, split, evaluations, cursorOf, eventsFrom}
+use Rattle.schedule.specs.Resume as resume
+use Rattle.schedule.specs.Schedule.{Event}
+use Rattle.schedule.specs.Plan.{Plan}
+use Rattle.schedule.specs.Resume.{cursorOf, eventsFrom}
+use Rattle.schedule.specs.Split.{split, evaluations}
+use Rattle.schedule.specs.Memory.{Memory, State, applyAll}
 use lib.ListN.{length}
 use Rattle.grid.specs.declared.Lengths as grids
 use Rattle.grid.specs.Blocks.{cube}
@@ -81,7 +85,7 @@ module _ (i : Input) (l : opened.Lengths) (k b leaves most : ℕ) (m m₁ : Memo
 
 -- ---- from a cursor of the plan
 
-module _ (i : Input) (laws : PlanLaws (planOf i)) (b leaves most : ℕ) (m m₁ : Memory) (a : schedule.Cursor) (r : Progress)
+module _ (i : Input) (laws : PlanLaws (planOf i)) (b leaves most : ℕ) (m m₁ : Memory) (a : resume.Cursor) (r : Progress)
     (done : Advanced (planOf i) b leaves m m₁ (eventsFrom (planOf i) a (readingIn m)) [] r most) (valid : Valid (planOf i) a) where
   -- the leaves are among the active children
   pub leaves-after : planOf i .corners ≤ length (m .corners) → AtLeast 1 a leaves → leaves ≤ activeUpTo (planOf i) a → r .leaves ≤ activeAll (planOf i)

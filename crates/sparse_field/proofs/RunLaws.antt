@@ -6,7 +6,11 @@ use mathlib.Core.List.{List, [], _∷_}
 use native.Mathlib.Omega.{arith}
 use lib.ListN.{set, length, length-set}
 use lib.Ieee.{Float}
-use Rattle.schedule.specs.Schedule.{Plan, Event, Work, Site, corner, point, evaluate, work, State, state, apply, applyAll, split, evaluations, Cursor, end, at, cursorOf, eventsFrom, reading}
+use Rattle.schedule.specs.Schedule.{Event, Work, Site, corner, point, evaluate, work}
+use Rattle.schedule.specs.Plan.{Plan}
+use Rattle.schedule.specs.Resume.{Cursor, end, at, cursorOf, eventsFrom, reading}
+use Rattle.schedule.specs.Split.{split, evaluations}
+use Rattle.schedule.specs.Memory.{State, state, apply, applyAll}
 use Rattle.schedule.specs.Totals.{sumFrom, bit}
 use Rattle.schedule.proofs.Next.{corner-evaluate, corner-skip, point-evaluate}
 use Rattle.sparse_field.specs.Inner.Runs.{Run, runOf}

@@ -13,7 +13,10 @@ use borrow.Author.Tests.{ltb-true, ltb-false}
 use Rattle.float.specs.Zero.{plusZero}
 use Rattle.lists.specs.Filled.{filled}
 use Rattle.lists.proofs.Filling.{filled-length}
-use Rattle.schedule.specs.Schedule.{Plan, Memory, State, Site, Event, constant, leaf, corner, point, evaluate, work, makeConstant, makeLeaf, clearCorners, apply, at, eventsFrom, childrenLeft, nodesLeft, zeros}
+use Rattle.schedule.specs.Schedule.{Site, Event, corner, point, evaluate, work, makeConstant, makeLeaf, clearCorners, zeros}
+use Rattle.schedule.specs.Plan.{Plan, constant, leaf}
+use Rattle.schedule.specs.Resume.{at, eventsFrom, childrenLeft, nodesLeft}
+use Rattle.schedule.specs.Memory.{Memory, State, apply}
 use Rattle.schedule.specs.Totals.{activeBefore, activeAll, bit}
 use Rattle.schedule.specs.PlanLaws.{PlanLaws}
 use Rattle.schedule.specs.Opened.{nonzero, activeAt}

@@ -3,7 +3,8 @@ use Prim.Native.Nat.{ℕ, _+_, _-_, _≤_, min}
 use native.Mathlib.Omega.{arith}
 use mathlib.Core.Path.{_≡_, refl, ap, subst, _∙_}
 use mathlib.Core.Bool.{true, false}
-use Rattle.schedule.specs.Schedule.{Plan, Memory}
+use Rattle.schedule.specs.Plan.{Plan}
+use Rattle.schedule.specs.Memory.{Memory}
 use Rattle.schedule.specs.Totals.{total}
 use Rattle.schedule.specs.Opened.{Lengths, lengthsOf, stateAt}
 use Rattle.schedule.specs.Finished.{Finished}

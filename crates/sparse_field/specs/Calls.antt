@@ -1,5 +1,5 @@
 -- What open, step and drop hand back and leave in the lent slices, for every record and memory.
-use Rattle.schedule.specs.Schedule.{Memory}
+use Rattle.schedule.specs.Memory.{Memory}
 use Rattle.schedule.specs.Calls as calls
 use Rattle.schedule.specs.Engine.{Engine, engineCall}
 use Rattle.sparse_field.specs.declared.Record.{Record}

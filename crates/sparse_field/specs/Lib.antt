@@ -3,4 +3,5 @@ pub mod Plan
 pub mod Records
 pub mod Calls
 pub mod Lists
+pub mod Demand
 pub mod Inner

@@ -1,7 +1,7 @@
 -- Whole lists of calls, as the code makes them: each call with its input or budget, on a record and a memory.
 use Prim.Native.Nat.{ℕ}
 use mathlib.Core.List.{List}
-use Rattle.schedule.specs.Schedule.{Memory}
+use Rattle.schedule.specs.Memory.{Memory}
 use Rattle.schedule.specs.Calls as calls
 use Rattle.schedule.specs.Engine.{Engine}
 use Rattle.sparse_field.specs.declared.Record.{Record}

@@ -16,7 +16,7 @@ use Rattle.grid.specs.Boxes as boxes
 use Rattle.grid.specs.Corners as corners
 use Rattle.grid.specs.Leaves.{leafPoint}
 use Rattle.grid.specs.Pruning as pruning
-use Rattle.schedule.specs.Schedule.{Plan, Decision, constant, leaf}
+use Rattle.schedule.specs.Plan.{Plan, Decision, constant, leaf}
 use Rattle.sparse_field.specs.declared.Input.{Input}
 
 -- "an active child becomes constant exactly when hi + h < min_val or lo - h > max_val, else a leaf. A constant is (0 + c0 + .. + c7) / 8": by its box and its octet's values

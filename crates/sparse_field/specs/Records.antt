@@ -11,9 +11,10 @@ use Rattle.grid.specs.declared.Refusal.{Refusal}
 use Rattle.grid.specs.declared.Refusal.the-variants.{None, By}
 use Rattle.grid.specs.Causes.{refusalOf}
 use Rattle.schedule.specs.Schedule as schedule
+use Rattle.schedule.specs.Resume as resume
 use Rattle.schedule.specs.Opened as opened
 use Rattle.schedule.specs.Counts as counts
-use Rattle.schedule.specs.Model.{Model}
+use Rattle.schedule.specs.Inputs.{Inputs}
 use Rattle.schedule.specs.JobRecord.{Job, JobRecord, noJob, job}
 use Rattle.sparse_field.specs.declared.Input.{Input}
 use Rattle.sparse_field.specs.declared.Counts.{Counts}
@@ -34,7 +35,7 @@ numberOf None = 0
 numberOf (By n) = n
 
 -- the inputs of sparse fields: the causes of open, and the plan of each
-abbrev pub sparse : Model
+abbrev pub sparse : Inputs
 sparse = record { Input = Input; cause = λ l i. numberOf (refusalOf (i .grid) (i .band) (i .model) (lent l)); plan = planOf }
 
 -- ---- the schedule's record of the code's
@@ -45,10 +46,10 @@ lengthsIn l = record { kinds = l .kinds; numbers = l .numbers; places = l .place
 abbrev pub countsIn : Counts → counts.Counts
 countsIn c = record { nodes = c .nodes; active = c .active; leaves = c .leaves; sampled = c .sampled; evaluations = c .evaluations }
 
-abbrev pub cursorIn : Cursor → schedule.Cursor
-cursorIn End = schedule.end
-cursorIn (Corner v i) = schedule.at (schedule.corner v i)
-cursorIn (Point v c p) = schedule.at (schedule.point v c p)
+abbrev pub cursorIn : Cursor → resume.Cursor
+cursorIn End = resume.end
+cursorIn (Corner v i) = resume.at (schedule.corner v i)
+cursorIn (Point v c p) = resume.at (schedule.point v c p)
 
 -- the job of a record, whatever its flag is
 abbrev pub jobIn : Record → Job sparse
@@ -67,10 +68,10 @@ recordIn r = byFlag (r .job) r
 abbrev pub countsOut : counts.Counts → Counts
 countsOut c = record { nodes = c .nodes; active = c .active; leaves = c .leaves; sampled = c .sampled; evaluations = c .evaluations }
 
-abbrev pub cursorOut : schedule.Cursor → Cursor
-cursorOut schedule.end = End
-cursorOut (schedule.at (schedule.corner v i)) = Corner v i
-cursorOut (schedule.at (schedule.point v c p)) = Point v c p
+abbrev pub cursorOut : resume.Cursor → Cursor
+cursorOut resume.end = End
+cursorOut (resume.at (schedule.corner v i)) = Corner v i
+cursorOut (resume.at (schedule.point v c p)) = Point v c p
 
 -- a model without parts: 64 constants +0, none of which counts
 abbrev pub noModel : ImplicitModel

@@ -5,7 +5,7 @@ ghost use mathlib.Core.List.{[]};
 ghost use Prim.Native.Nat.{_≤_};
 ghost use Rattle.grid.specs.Blocks.{cube};
 ghost use Rattle.model.specs.Model.{refusedByFour};
-ghost use Rattle.schedule.specs.Schedule.{eventsFrom};
+ghost use Rattle.schedule.specs.Resume.{eventsFrom};
 ghost use Rattle.schedule.specs.Totals.{activeAll};
 ghost use Rattle.schedule.specs.Lent.{held, entered, left};
 ghost use Rattle.sparse_field.specs.Plan.{planOf};

@@ -7,6 +7,7 @@ ghost use lib.Dec.{eqb};
 ghost use Rattle.grid.specs.Blocks.{cube};
 ghost use Rattle.grid.specs.Causes.{refusedByTwo, refusedByFive, refusalOf};
 ghost use Rattle.schedule.specs.Schedule as schedule;
+ghost use Rattle.schedule.specs.Resume as resume;
 ghost use Rattle.schedule.specs.Totals.{activeUpTo, evaluationsBound};
 ghost use Rattle.schedule.specs.Counts.{countsWith, sameCounts};
 ghost use Rattle.schedule.specs.Possible.{sameLengths, validCursor, insideChild, impossible};
@@ -98,7 +99,7 @@ fn evaluations_bound(input: Input) -> u64
 // Whether a cursor at a corner is at a needed one, by its node's part of the kinds.
 fn corner_right(input: Input, kinds: &[u8], v: usize, i: usize) -> bool
     requires { ⌜ RightKinds input (now kinds) ⌝ }
-    ensures { λ r. ⌜ r ≡ validCursor (planOf input) (schedule.at (schedule.corner v i)) ⌝ }
+    ensures { λ r. ⌜ r ≡ validCursor (planOf input) (resume.at (schedule.corner v i)) ⌝ }
 {
     let g = input.grid;
     let n = g.inner;
@@ -117,7 +118,7 @@ fn corner_right(input: Input, kinds: &[u8], v: usize, i: usize) -> bool
 // Whether a cursor at a point is at one of an active child.
 fn point_right(input: Input, v: usize, c: usize, p: usize) -> bool
     requires { ⌜ (refusedByTwo (input .grid) ≡ false) × (refusedByFive (input .grid) ≡ false) ⌝ }
-    ensures { λ r. ⌜ r ≡ validCursor (planOf input) (schedule.at (schedule.point v c p)) ⌝ }
+    ensures { λ r. ⌜ r ≡ validCursor (planOf input) (resume.at (schedule.point v c p)) ⌝ }
 {
     let g = input.grid;
     if v >= grid::node_total(g) {

@@ -8,7 +8,8 @@ use lib.ListN.{length}
 use Rattle.grid.specs.Blocks.{cube}
 use Rattle.grid.specs.Nodes.{nodesOf}
 use Rattle.grid.specs.Causes.{refusedByTwo, refusedByFive}
-use Rattle.schedule.specs.Schedule.{Plan, Cursor}
+use Rattle.schedule.specs.Plan.{Plan}
+use Rattle.schedule.specs.Resume.{Cursor}
 use Rattle.schedule.specs.Totals.{activeUpTo, evaluationsBound}
 use Rattle.schedule.specs.Opened.{ActiveKinds}
 use Rattle.schedule.specs.Counts.{Counts, countsWith, sameCounts}

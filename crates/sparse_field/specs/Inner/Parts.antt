@@ -1,7 +1,7 @@
 -- The parts of what open and step do, as the functions below them state them.
 use Prim.Native.Nat.{ℕ, _*_}
 use mathlib.Core.Bool.{false, true}
-use Rattle.schedule.specs.Schedule.{Memory}
+use Rattle.schedule.specs.Memory.{Memory}
 use Rattle.schedule.specs.Opened.{Lengths, opened}
 use Rattle.schedule.specs.Engine.{Engine, openedEngine, engineStepJob}
 use Rattle.sparse_field.specs.declared.Input.{Input}

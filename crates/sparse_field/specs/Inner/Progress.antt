@@ -11,7 +11,10 @@ use Rattle.grid.specs.declared.Grid.{Grid}
 use Rattle.grid.specs.declared.Band.{Band}
 use Rattle.grid.specs.Blocks.{cube}
 use Rattle.grid.specs.Nodes.{nodesOf}
-use Rattle.schedule.specs.Schedule.{Plan, Memory, State, Event, childrenLeft, nodesLeft}
+use Rattle.schedule.specs.Schedule.{Event}
+use Rattle.schedule.specs.Plan.{Plan}
+use Rattle.schedule.specs.Resume.{childrenLeft, nodesLeft}
+use Rattle.schedule.specs.Memory.{Memory, State}
 use Rattle.float.specs.Zero.{plusZero}
 use Rattle.lists.specs.Slices.{Slice, LentSlice}
 use Rattle.schedule.specs.Totals.{activeBefore, activeAll}

@@ -1,7 +1,11 @@
 -- What is left of a schedule, made with a budget: the memory, where it stops, and the budget that is left.
 use Prim.Native.Nat.{ℕ, _-_}
 use mathlib.Core.List.{List}
-use Rattle.schedule.specs.Schedule.{Plan, Event, State, applyAll, split, evaluations, Cursor, cursorOf}
+use Rattle.schedule.specs.Schedule.{Event}
+use Rattle.schedule.specs.Plan.{Plan}
+use Rattle.schedule.specs.Resume.{Cursor, cursorOf}
+use Rattle.schedule.specs.Split.{split, evaluations}
+use Rattle.schedule.specs.Memory.{State, applyAll}
 
 pub record Run : Type 0 where
   pub state : State

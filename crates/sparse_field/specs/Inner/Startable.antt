@@ -1,6 +1,6 @@
 -- Where the engine may go on: a place of the plan, with leaves that the children up to it can have made.
 use Prim.Native.Nat.{ℕ, suc, _≤_, _<_}
-use Rattle.schedule.specs.Schedule.{Plan}
+use Rattle.schedule.specs.Plan.{Plan}
 use Rattle.schedule.specs.Totals.{activeBefore}
 use Rattle.sparse_field.specs.declared.Cursor.{Cursor}
 use Rattle.sparse_field.specs.declared.Cursor.the-variants.{End, Corner, Point}

@@ -2,17 +2,16 @@
 use borrow.Author.Needs.{needs}
 use mathlib.Core.Path.{ap, _∙_}
 use denote.Ref.{now}
-use Rattle.schedule.specs.Schedule.{Memory}
+use Rattle.schedule.specs.Memory.{Memory}
 use Rattle.sparse_field.specs.declared.Outcome.{Outcome}
 use Rattle.schedule.specs.Lent.{memoryOf}
-use Rattle.sparse_field.specs.Calls.{called}
+use Rattle.sparse_field.specs.Calls.{called, Handed}
 use Rattle.field_host.specs.Carried.{Carried, carriedOf}
 use Rattle.schedule.specs.Calls.{opens}
 use Rattle.model.specs.Flat.{flatOf}
 use Rattle.sparse_field.specs.declared.Input.{Input}
 use Rattle.sparse_field.specs.declared.Record.{Record}
 use Rattle.sparse_field.specs.Records.{noRecord}
-use Rattle.sparse_field.specs.Calls.{Handed}
 use Rattle.field_host.specs.Given.{inputGiven}
 use Rattle.field_host.specs.Hosted.{answerNumber, carriedAfter}
 use Rattle.field_host.proofs.AnyRecord.{open-from-none}

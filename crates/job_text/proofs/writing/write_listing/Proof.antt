@@ -1,7 +1,7 @@
 -- `writing::write_listing` meets its contract: by the flag, and by the judgement of the record.
 use mathlib.Core.Path.{sym, ap, _∙_}
 use borrow.Author.Tests.{not-true, not-false}
-use Rattle.schedule.specs.Schedule.{Memory}
+use Rattle.schedule.specs.Memory.{Memory}
 use Rattle.schedule.specs.Lent.{memoryOf}
 use Rattle.job_text.proofs.WrittenLaws.{no-job, judged-impossible, judged-possible}
 use borrow.Author.Needs.{needs}

@@ -6,7 +6,7 @@ use borrow.Author.Tests.{not-true, not-false}
 use lib.ListN.{length}
 use Rattle.grid.specs.Blocks.{cube}
 use Rattle.grid.specs.Nodes.{nodesOf}
-use Rattle.schedule.specs.Schedule.{Memory}
+use Rattle.schedule.specs.Memory.{Memory}
 use Rattle.schedule.specs.Lent.{memoryOf}
 use Rattle.job_text.proofs.WrittenLaws.{Ready, ready, unfinished, unplaced, printed}
 use borrow.Author.Needs.{needs}

@@ -4,7 +4,7 @@ use Rattle.grid.specs.Causes.{refusalOf}
 use Rattle.sparse_field.specs.declared.Answer.the-variants.{Accepted}
 use Rattle.sparse_field.specs.Records.{numberOf}
 use Rattle.sparse_field.proofs.CallLaws.{open-refused, open-accepted}
-use Rattle.schedule.specs.Schedule.{Memory}
+use Rattle.schedule.specs.Memory.{Memory}
 use Rattle.schedule.specs.Lent.{memoryOf}
 use borrow.Author.Needs.{needs}
 use Rattle.sparse_field.proofs.calls.open.Statement.{statement}

@@ -10,7 +10,7 @@ use Rattle.sparse_field.proofs.Judgement.{active-all}
 use Rattle.sparse_field.proofs.NodeLaws.{nodes-few}
 use Rattle.sparse_field.proofs.Opening.{sized, nothing, start-lent, start-startable, opened-after, opened-leaves, active-within}
 use Rattle.sparse_field.proofs.Results.{record-same}
-use Rattle.schedule.specs.Schedule.{Memory}
+use Rattle.schedule.specs.Memory.{Memory}
 use Rattle.schedule.specs.Lent.{memoryOf}
 use borrow.Author.Needs.{needs}
 use Rattle.sparse_field.proofs.calls.opened.Statement.{statement}

@@ -6,7 +6,7 @@ use lib.ListN.{length, length-replicate}
 use Rattle.schedule.specs.Opened.{lengthsOf, kindsFrom, opened}
 use Rattle.sparse_field.specs.Plan.{planOf}
 use Rattle.sparse_field.proofs.Opening.{nothing}
-use Rattle.schedule.specs.Schedule.{Memory}
+use Rattle.schedule.specs.Memory.{Memory}
 use Rattle.schedule.specs.Lent.{memoryOf}
 use borrow.Author.Needs.{needs}
 use Rattle.sparse_field.proofs.calls.prepare.Statement.{statement}

@@ -4,7 +4,7 @@ use mathlib.Core.Bool.{Bool, true, false, not}
 use borrow.Author.Tests.{not-false}
 use Rattle.sparse_field.specs.declared.Answer.the-variants.{Accepted}
 use Rattle.sparse_field.proofs.CallLaws.{step-none, step-impossible, step-accepted}
-use Rattle.schedule.specs.Schedule.{Memory}
+use Rattle.schedule.specs.Memory.{Memory}
 use Rattle.schedule.specs.Lent.{memoryOf}
 use borrow.Author.Needs.{needs}
 use Rattle.sparse_field.proofs.calls.step.Statement.{statement}

@@ -15,7 +15,7 @@ use Rattle.sparse_field.specs.Records.{sparse, lent, lengthsIn, cursorIn
 use Rattle.sparse_field.proofs.Judgement.{NoCause, no-cause, bound-fits}
 use Rattle.sparse_field.proofs.Opening.{sized, lent-memory, valid-startable, active-within, sparse-laws}
 use Rattle.sparse_field.proofs.Results.{left-most, leaves-after, made-most, record-same, engine-after}
-use Rattle.schedule.specs.Schedule.{Memory}
+use Rattle.schedule.specs.Memory.{Memory}
 use Rattle.schedule.specs.Lent.{memoryOf}
 use borrow.Author.Needs.{needs}
 use Rattle.sparse_field.proofs.calls.stepped.Statement.{statement}

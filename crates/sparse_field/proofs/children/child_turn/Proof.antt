@@ -6,7 +6,7 @@ use native.Mathlib.Nat.{mul-le-mul-right}
 use lib.ListN.{length}
 use Rattle.grid.specs.Blocks.{cube}
 use Rattle.grid.specs.Nodes.{nodesOf}
-use Rattle.schedule.specs.Schedule.{Memory}
+use Rattle.schedule.specs.Memory.{Memory}
 use Rattle.sparse_field.specs.Plan.{planWith}
 use Rattle.schedule.specs.Lent.{memoryOf}
 use Rattle.sparse_field.proofs.ChildLaws.{place-few, leaves-few, skipped, constant-turn, leaf-inside, leaf-turn}

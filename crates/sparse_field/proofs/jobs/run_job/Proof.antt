@@ -2,7 +2,7 @@
 use Prim.Native.Nat.{_≤_}
 use mathlib.Core.Path.{subst}
 use Rattle.model.proofs.Accepted.{count-le}
-use Rattle.schedule.specs.Schedule.{Memory}
+use Rattle.schedule.specs.Memory.{Memory}
 use Rattle.schedule.specs.Totals.{activeAll}
 use Rattle.schedule.specs.Lent.{memoryOf}
 use Rattle.sparse_field.specs.Inner.Progress.{Lent}

@@ -9,7 +9,10 @@ use Rattle.grid.specs.Nodes.{nodesOf}
 use Rattle.grid.proofs.BlockLaws.{cube-le}
 use mathlib.Core.List.{List}
 use lib.Ieee.{Float}
-use Rattle.schedule.specs.Schedule.{Plan, Memory, Event, childrenLeft}
+use Rattle.schedule.specs.Schedule.{Event}
+use Rattle.schedule.specs.Plan.{Plan}
+use Rattle.schedule.specs.Resume.{childrenLeft}
+use Rattle.schedule.specs.Memory.{Memory}
 use Rattle.sparse_field.specs.declared.Progress.{Progress}
 use Rattle.schedule.specs.Totals.{activeBefore}
 use Rattle.schedule.specs.Lent.{memoryOf}

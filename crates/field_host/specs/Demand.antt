@@ -1,0 +1,55 @@
+-- DEMAND 3 for the C interface, and what belongs to it, as statements about whole lists of its calls. proofs/HostDemand has a term for each.
+-- `onStation` is made of `hosted`, which the contracts of the three functions name.
+use Prim.Native.Nat.{ℕ}
+use mathlib.Core.Path.{_≡_}
+use mathlib.Core.Bool.{true}
+use mathlib.Core.List.{List, [], _∷_, _++_, map}
+use lib.ListN.{getD}
+use Rattle.schedule.specs.Opened.{lengthsOf, zeroMemory}
+use Rattle.schedule.specs.Finished.{Finished}
+use Rattle.schedule.specs.BudgetSum.{budgetSum}
+use Rattle.schedule.specs.Calls.{run}
+use Rattle.schedule.specs.Ledger.{noEntry, entry, ledgerCall, firstLedger}
+use Rattle.schedule.specs.Agree.{Agree}
+use Rattle.schedule.specs.Implements.{viewRun}
+use Rattle.sparse_field.specs.declared.Input.{Input}
+use Rattle.sparse_field.specs.declared.Cursor.the-variants.{End}
+use Rattle.sparse_field.specs.declared.Record.{Record}
+use Rattle.sparse_field.specs.Plan.{planOf}
+use Rattle.sparse_field.specs.Records.{sparse}
+use Rattle.field_host.specs.Carried.{decoded}
+use Rattle.field_host.specs.Lists.{HostCall, dropsAll, callOf, Station, onStation, engineAt}
+
+-- arrays without a job: the first word is 0, whatever else they hold
+abbrev pub NoJob : Station → Type 0
+NoJob s = getD (s .carried .words) 0 0 ≡ 0
+
+-- Any list of the three functions' calls, refused ones among them, from any such arrays and any contents of the memory: the answers, every
+-- element, and the job with its counts are the ledger's.
+abbrev pub HostDemandThree : Type 0
+HostDemandThree =
+    (cs : List HostCall) (s : Station) → NoJob s
+    → Agree sparse (viewRun sparse engineAt (run onStation cs s)) (run (ledgerCall sparse) (map callOf cs) (firstLedger sparse (s .memory)))
+
+-- After any such list a drop leaves all zeros.
+abbrev pub HostDropLeavesZeros : Type 0
+HostDropLeavesZeros =
+    (cs : List HostCall) (s : Station) → NoJob s → run onStation (cs ++ (dropsAll ∷ [])) s .last .memory ≡ zeroMemory (lengthsOf (s .memory))
+
+-- Two jobs of one input and equal slice lengths, given budgets of equal sum since their opens, hold equal elements.
+abbrev pub HostEqualBudgets : Type 0
+HostEqualBudgets =
+    (cs₁ cs₂ : List HostCall) (s₁ s₂ : Station) → NoJob s₁ → NoJob s₂ → lengthsOf (s₁ .memory) ≡ lengthsOf (s₂ .memory)
+    → (i : Input) (n : ℕ) → budgetSum sparse (lengthsOf (s₁ .memory)) (map callOf cs₁) noEntry ≡ entry i n
+    → budgetSum sparse (lengthsOf (s₂ .memory)) (map callOf cs₂) noEntry ≡ entry i n
+    → run onStation cs₁ s₁ .last .memory ≡ run onStation cs₂ s₂ .last .memory
+
+-- the record that the arrays read as after a list
+abbrev pub recordAfter : List HostCall → Station → Record
+recordAfter cs s = decoded (run onStation cs s .last .carried)
+
+-- After any such list a finished job holds the plan's own values, and zeros elsewhere.
+abbrev pub HostFinishedField : Type 0
+HostFinishedField =
+    (cs : List HostCall) (s : Station) → NoJob s → recordAfter cs s .job ≡ true → recordAfter cs s .cursor ≡ End
+    → Finished (planOf (recordAfter cs s .input)) (run onStation cs s .last .memory)

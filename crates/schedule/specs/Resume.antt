@@ -1,0 +1,41 @@
+-- A cursor names the next evaluation of a job, or its end; what is left of the schedule follows from it and from what the corners hold.
+use Prim.Native.Nat.{ℕ, suc, _-_}
+use mathlib.Core.List.{List, [], _∷_, _++_}
+use lib.ListN.{getD}
+use lib.Ieee.{Float}
+use Rattle.float.specs.Zero.{plusZero}
+use Rattle.schedule.specs.Memory.{State}
+use Rattle.schedule.specs.Schedule.{Event, Site, childrenFrom, clearCorners, corner, cornersFrom, evaluate, filled, nodesFrom, point, pointsFrom, work}
+use Rattle.schedule.specs.Plan.{Plan}
+
+-- the end, or the site of the next evaluation
+pub data Cursor : Type 0 where
+  end : Cursor
+  at : Site → Cursor
+
+-- the cursor where a list of events is left
+unfoldable pub cursorOf : List Event → Cursor
+cursorOf [] = end
+cursorOf (evaluate s x ∷ es) = at s
+cursorOf (work w ∷ es) = cursorOf es
+
+-- the nodes that are left from v on
+unfoldable pub nodesLeft : Plan → ℕ → List Event
+unfolding nodesFrom
+nodesLeft P v = nodesFrom P (P .nodes - v) v
+
+-- what is left from child c of node v on, where the corners hold `read`
+unfoldable pub childrenLeft : Plan → ℕ → ℕ → (ℕ → Float) → List Event
+unfolding childrenFrom nodesLeft
+childrenLeft P v c read = childrenFrom P read v (P .children - c) c ++ (work clearCorners ∷ nodesLeft P (suc v))
+
+-- what is left at a cursor, where the corners hold `read`
+unfoldable pub eventsFrom : Plan → Cursor → (ℕ → Float) → List Event
+unfolding cornersFrom pointsFrom childrenLeft
+eventsFrom P end read = []
+eventsFrom P (at (corner v i)) read = cornersFrom P v (P .corners - i) i ++ childrenLeft P v 0 (filled P v i read)
+eventsFrom P (at (point v c p)) read = pointsFrom P v c (P .leafPoints - p) p ++ childrenLeft P v (suc c) read
+
+-- what the corners hold in a state
+abbrev pub reading : State → ℕ → Float
+reading s i = getD (s .memory .corners) i plusZero
