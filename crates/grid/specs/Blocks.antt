@@ -1,4 +1,4 @@
--- Document 01, cause 2: "block size not 2, 4, 8, 16, 32 or 64".
+-- The sizes that a block may have (rule G1). Any other is cause 2.
 use Prim.Native.Nat.{ℕ, _*_}
 use mathlib.Core.Bool.{Bool, _||_}
 use lib.Dec.{eqb}
