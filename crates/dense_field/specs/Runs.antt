@@ -23,7 +23,7 @@ use Rattle.dense_field.specs.Sampling.{valueAt}
 use Rattle.dense_field.specs.declared.Outcome.{Outcome}
 use Rattle.dense_field.specs.declared.Outcome.the-variants as outcome
 
--- one coordinate of a field's point: "origin + cell × i"
+-- one coordinate of a field's point (rule D4)
 abbrev pub axisPoint : (origin cell : Float) → ℕ → Float
 axisPoint origin cell i = add binary64 origin (mul binary64 cell (asFloat i))
 
@@ -39,7 +39,7 @@ pub record RunPoints (origin : Vec3) (cell : Float) (n : Vec3i) (at len : ℕ) (
 unfoldable pub flatAt : Flat → ℕ → Vec3 → Float → Vec3i → ℕ → Float
 flatAt l count origin cell n p = valueAt (partsOf l count) count (placePoint origin cell n p)
 
--- 1 of the origin and the cell size, then 4, then 9; 0 where none applies
+-- 1 of the origin and the cell size, then 4, then 9; 0 where none applies (rule D5)
 unfoldable pub sampleCause : ImplicitModel → Vec3 → Float → Vec3i → (len : ℕ) → ℕ
 sampleCause m origin cell n len =
     firstOf
@@ -47,6 +47,6 @@ sampleCause m origin cell n len =
     (λ number. number)
     0
 
--- the answer of that number
+-- the answer of that number (rule D5)
 unfoldable pub sampleOutcome : ℕ → Outcome
 sampleOutcome number = cond (eqb number 0) outcome.Done (outcome.Refused number)

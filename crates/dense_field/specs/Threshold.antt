@@ -1,4 +1,4 @@
--- Document 01: "Threshold: |v| < limit becomes +0."
+-- Threshold: small values become +0, all others stay (rule D11).
 use mathlib.Core.Bool.{cond}
 use mathlib.Core.List.{List, map}
 use lib.Ieee.{Float, lt}

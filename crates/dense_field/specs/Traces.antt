@@ -1,4 +1,4 @@
--- A walk from its start: the answers of repeated steps, each from the cursor that the one before it hands on.
+-- A walk from its start: the answers of repeated steps, each from the cursor that the one before it hands on (rule W1).
 use Prim.Native.Nat.{ℕ, zero, suc}
 use mathlib.Core.List.{List}
 use lib.Ieee.{Float}
@@ -33,7 +33,7 @@ unfoldable pub cellTrace : BoundingBox → Vec3i → ℕ → CellStep
 cellTrace b n zero = cellStep b n (vec3i 0 0 0)
 cellTrace b n (suc p) = cellAfter b n (cellTrace b n p)
 
--- the cell of an octet walker after p times `next` from its start, and what step p finds
+-- the cell of an octet walker after p times `next` from its start, and what step p finds (rule W8)
 unfoldable pub octetCell : Vec3i → List Float → ℕ → Vec3i
 octetCell n vs zero = vec3i 0 0 0
 octetCell n vs (suc p) = afterStep (octetWalkOf n vs (octetCell n vs p) .step) (octetCell n vs p)
