@@ -1,4 +1,4 @@
--- How long the five slices of a job have to be: "The first three need nodes × n³, corners (n+1)³, store active × L³."
+-- How long the five slices of a job have to be (rules S3 and R16).
 use Prim.Native.Nat.{ℕ, _+_}
 use mathlib.Core.List.{List, [], _∷_}
 use Rattle.grid.specs.declared.Grid.{Grid}
@@ -27,7 +27,7 @@ longest =
       corners = 18446744073709551615;
     }
 
--- the cause that an open on slices of any length meets
+-- the cause that an open on the longest slices meets (rule R16)
 abbrev pub anyRefusal : Input → Refusal
 anyRefusal i = refusalOf (i .grid) (i .band) (i .model) longest
 

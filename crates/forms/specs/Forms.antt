@@ -1,5 +1,5 @@
--- The form of a line: its bytes, among which the letter H stands for a float's bits and D for a decimal number. No word of a
--- line has an upper-case letter.
+-- The form of a line: its bytes, among which the letter H stands for a float's bits and D for a decimal number (rules T1 to T3). No word of
+-- a line has an upper-case letter.
 use Prim.Native.Nat.{ℕ, _+_}
 use mathlib.Core.Bool.{Bool, true, false, cond}
 use mathlib.Core.List.{List, [], _∷_, _++_}
@@ -51,7 +51,7 @@ pub data Line : Type 0 where
   off : Line
   line : (numbers rest : List ℕ) → Line
 
--- a piece at the front of a text, where "a decimal number above" the limit is off the form; a byte counts as 0
+-- a piece at the front of a text, where a decimal number past the limit is off the form (rule T2); a byte counts as 0
 unfoldable pub readPiece : (limit : ℕ) → Piece → List ℕ → Front
 readPiece limit hex t = hexFront t
 readPiece limit decimal t = decimalFront limit t

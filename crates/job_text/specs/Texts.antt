@@ -1,4 +1,4 @@
--- The text of a job.
+-- The text of a job (rules T4 to T6).
 use Prim.Native.Nat.{ℕ, _-_, _≤_}
 use mathlib.Core.Path.{_≡_}
 use mathlib.Core.List.{List, [], _∷_, _++_, map}
@@ -28,7 +28,7 @@ textOf w =
     spell boundsForm (w .bounds)
     ++ (spell cellForm (w .cell) ++ (spell blocksForm (w .blocks) ++ (spell bandForm (w .band) ++ partsText (w .parts))))
 
--- ---- the text of an input: floats by their bits
+-- ---- the text of an input: floats by their bits (rules T1 and F14)
 
 spelt : PartKind → List ℕ → Spelt
 spelt k xs = record { kind = k; numbers = xs }

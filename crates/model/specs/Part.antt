@@ -31,8 +31,8 @@ planeValue n d x y z =
     (add binary64 (add binary64 (mul binary64 x (n .x)) (mul binary64 y (n .y))) (mul binary64 z (n .z)))
     d
 
--- A part's value at a point, from the values of the parts before it: a constant's own number (rule M3), a shape's value, or what an
--- operation makes of its inputs' values (rule M6).
+-- The value at a point of a part of each sort (rule M2), from the values of the parts before it: a constant's own number (rule M3), a shape's
+-- value, or what an operation of binary64 makes of its inputs' values (rules M6 and F1).
 unfoldable pub partValue : Part → (x y z : Float) → List Float → Float
 partValue (Constant w) x y z values = w
 partValue (Sphere centre r) x y z values = sphereValue centre r x y z

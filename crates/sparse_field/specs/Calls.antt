@@ -1,4 +1,4 @@
--- What open, step and drop hand back and leave in the lent slices, for every record and memory.
+-- What open, step and drop hand back and leave in the lent slices, for every record and memory (rule C55).
 use Prim.Native.Nat.{ℕ}
 use mathlib.Core.Bool.{false}
 use mathlib.Core.List.{List}
@@ -15,7 +15,7 @@ use Rattle.sparse_field.specs.declared.Outcome.{Outcome}
 use Rattle.sparse_field.specs.Plan.{planOf}
 use Rattle.sparse_field.specs.Records.{sparse, jobIn, recordIn, recordOut}
 
--- the memory that five slices hold
+-- the memory that five slices hold (rule S1)
 abbrev pub memoryOf : (kinds : List ℕ) (numbers : List Float) (places : List ℕ) (store corners : List Float) → Memory
 memoryOf kinds numbers places store corners =
     record { kinds = kinds; numbers = numbers; places = places; store = store; corners = corners }
@@ -25,14 +25,14 @@ pub record Handed : Type 0 where
   pub outcome : Outcome
   pub memory : Memory
 
--- what the engine's outcome is in the code: a refused call hands back the record that it was given
+-- what the engine's outcome is in the code: a refused call hands back the record that it was given (rules R5 and C54)
 abbrev pub handed : Record → calls.Answer → Engine sparse → Handed
 handed r calls.accepted e =
     record { outcome = record { answer = Accepted; next = recordOut (e .jobRecord) }; memory = e .memory }
 handed r (calls.refused n) e =
     record { outcome = record { answer = Refused n; next = r }; memory = e .memory }
 
--- a call on a record and a memory
+-- a call on a record and a memory (rules S13 to S15)
 unfoldable pub called : calls.Call sparse → Record → Memory → Handed
 called c r m =
     let o = engineCall sparse c (record { jobRecord = recordIn r; memory = m }) in
