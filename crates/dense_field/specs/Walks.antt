@@ -57,7 +57,7 @@ cellStep b n c =
     cell.Refused
     (cond (ltb (c .k) (n .k)) (cell.Cell (walkCell b n c) (nextIndices c (n .i) (n .j))) (cell.Done c))
 
--- 9; done without any cell or with k past the last; 10 with i or j past the last; else the next cell (rules W6 and W7)
+-- 9; done without any cell or with k past the last; 10 where only i or j is; else the next cell (rules W6 and W7)
 unfoldable pub octetStep : Vec3i → (len : ℕ) → Vec3i → OctetStep
 octetStep n len c =
     let cells = vec3i (n .i - 1) (n .j - 1) (n .k - 1) in

@@ -17,7 +17,7 @@ unfoldable pub folded : (Float → Float → Float) → Float → List Float →
 folded f a [] = a
 folded f a (x ∷ l) = folded f (f a x) l
 
--- lo and hi: min and max over the octet, begun with its first value (rule G12)
+-- lo and hi, begun with the octet's first value (rule G12)
 unfoldable pub lowest : List Float → Float
 lowest [] = plusZero
 lowest (c0 ∷ rest) = folded minOf c0 rest

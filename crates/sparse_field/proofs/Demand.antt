@@ -127,7 +127,7 @@ module _ (cs : List Call) (s : Held) (none : s .held .job ≡ false) where
       subst (λ m. Finished (planOf (r .input)) m) (sym (ap (λ e. e .memory) engine))
       (finished-job sparse sparse-laws long-enough cs (s .memory) (jobIn r) same ends)
 
--- two jobs of one input and equal lengths, in one list or in two, given budgets of equal sum since their opens, hold equal elements
+-- where the input, the lengths and the sum of the budgets are the same, so are the elements, of one list or of two (rule L11)
 pub equal-elements : (cs₁ cs₂ : List Call) (s₁ s₂ : Held) → s₁ .held .job ≡ false → s₂ .held .job ≡ false → lengthsOf (s₁ .memory) ≡ lengthsOf (s₂ .memory)
     → (i : Input) (n : ℕ) → budgetSum sparse (lengthsOf (s₁ .memory)) cs₁ noEntry ≡ entry i n → budgetSum sparse (lengthsOf (s₂ .memory)) cs₂ noEntry ≡ entry i n
     → run onHeld cs₁ s₁ .last .memory ≡ run onHeld cs₂ s₂ .last .memory

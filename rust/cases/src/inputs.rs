@@ -14,7 +14,7 @@ const SOME: [f64; 2] = [-0.25, 0.0];
 /// The plane x = 0.
 const X_PLANE: Part = Part::Plane([1.0, 0.0, 0.0], 0.0);
 
-/// A grid, with the scope's band and model.
+/// A grid, with the band and the model of the plane case.
 pub fn of_grid(min: [f64; 3], max: [f64; 3], cell: f64, inner: u32, leaf: u32) -> Input {
     Input {
         min,
@@ -45,7 +45,7 @@ pub fn with_band(input: Input, band: [f64; 2]) -> Input {
     }
 }
 
-/// The scope's case: 4 leaves and 4 constants, 59 evaluations.
+/// The plane case: 4 leaves and 4 constants, 59 evaluations.
 pub fn scope_case() -> Input {
     of_grid([0.0; 3], [2.0; 3], 1.0, 2, 2)
 }

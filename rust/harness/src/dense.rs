@@ -1,4 +1,4 @@
-//! Calls on dense fields against the scope's rules, bit for bit: a computed NaN
+//! Calls on dense fields against the rules, bit for bit: a computed NaN
 //! has one pattern, and a copied one keeps its own. The points and boxes of grid
 //! walks follow the original and are not worked out here; of their NaNs the
 //! pattern is compared.

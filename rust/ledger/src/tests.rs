@@ -1,4 +1,4 @@
-//! Cases whose results are known: the scope's own, and those that its
+//! Cases whose results are known: the plane case, and those that its
 //! measurements and the differences name.
 
 use crate::floats::NAN;
@@ -9,7 +9,7 @@ use crate::{Answer, Call, Counts, Input, Ledger, Lengths, Memory, Part};
 
 const X_PLANE: Part = Part::Plane([1.0, 0.0, 0.0], 0.0);
 
-/// The scope's case with other bounds, cell and blocks.
+/// The plane case with other bounds, cell and blocks.
 fn input(min: [f64; 3], max: [f64; 3], cell: f64, inner: u32, leaf: u32) -> Input {
     Input {
         min,
@@ -245,7 +245,7 @@ fn causes_in_order() {
     }
 }
 
-/// The scope's case after so many evaluations, as a record.
+/// The plane case after so many evaluations, as a record.
 fn record_at(k: u64) -> (Record, Memory) {
     let mut memory = poisoned(lengths(9, 70, 30));
     let mut record = Record::none();

@@ -8,7 +8,7 @@ use crate::sparse::inputs::{ALL, NONE};
 use ledger::floats::NAN;
 use ledger::{Input, Part};
 
-/// The scope's answer to its case, as the scope writes it.
+/// The listing of the plane case, with letters for its numbers.
 const CASE_LISTING: [&str; 9] = [
     "(done 1 8 4 32 59)",
     "(leaf 0 0 Z P Z P Z P Z P)",

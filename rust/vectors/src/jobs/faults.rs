@@ -5,7 +5,7 @@ use super::{of_lines, spelled, CASE};
 /// A text and the line that is named.
 type Fault = (Vec<u8>, usize);
 
-/// The scope's case and one more part.
+/// The plane case and one more part.
 const LINES: [&str; 6] = [CASE[0], CASE[1], CASE[2], CASE[3], CASE[4], "(neg 0)"];
 
 /// How many of them stand before the parts.

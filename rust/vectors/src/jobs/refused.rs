@@ -22,7 +22,7 @@ impl List {
         self.due(written(input), &format!("(refused {cause})"));
     }
 
-    /// The scope's case with a change, which a cause refuses.
+    /// The plane case with a change, which a cause refuses.
     fn changed(&mut self, cause: u32, change: impl Fn(&mut Input)) {
         let mut input = scope_case();
         change(&mut input);

@@ -23,7 +23,7 @@ fn opened(script: &mut Script, lengths: Lengths, seed: u64, input: &Input) {
     assert_eq!(script.open(input), Answer::Accepted);
 }
 
-/// The scope's case, paused at every evaluation.
+/// The plane case, paused at every evaluation.
 fn scope_case(script: &mut Script) {
     let input = inputs::scope_case();
     opened(script, exact(&input), 1, &input);
