@@ -46,7 +46,7 @@ pub fn with_band(input: Input, band: [f64; 2]) -> Input {
 }
 
 /// The plane case: 4 leaves and 4 constants, 59 evaluations.
-pub fn scope_case() -> Input {
+pub fn plane_case() -> Input {
     of_grid([0.0; 3], [2.0; 3], 1.0, 2, 2)
 }
 
@@ -110,7 +110,7 @@ pub fn both(a: Lengths, b: Lengths) -> Lengths {
 
 /// An input for each of the causes 1 to 5, with no cause below it.
 pub fn refused() -> Vec<Input> {
-    let good = scope_case;
+    let good = plane_case;
     vec![
         Input {
             max: [2.0, f64::NAN, 2.0],

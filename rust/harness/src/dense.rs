@@ -132,7 +132,7 @@ fn whole(values: Vec<f64>) -> Vec<u64> {
 
 /// An input whose model has these parts. The rest of it is not looked at.
 fn of_parts(parts: &[Part]) -> Input {
-    cases::inputs::with_parts(cases::inputs::scope_case(), parts)
+    cases::inputs::with_parts(cases::inputs::plane_case(), parts)
 }
 
 fn smoothed(n: Triple, factor: f64, old: &[f64]) -> Vec<f64> {
