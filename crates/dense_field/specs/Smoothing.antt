@@ -29,10 +29,11 @@ unfoldable pub blended : (f v sum : Float) → Float
 blended f v sum =
     add binary64 (mul binary64 (sub binary64 (asFloat 1) f) v) (mul binary64 f (div binary64 sum (asFloat 6)))
 
--- the old value at p, and the one that an interior point gets
+-- the old value at p
 abbrev pub valueOf : List Float → ℕ → Float
 valueOf vs p = getD vs p plusZero
 
+-- an interior value blended with its neighbours (rules D7 and D8)
 unfoldable pub blendedAt : Vec3i → Float → List Float → ℕ → Float
 blendedAt n f vs p = blended f (valueOf vs p) (neighbourSum n vs p)
 
@@ -40,10 +41,11 @@ blendedAt n f vs p = blended f (valueOf vs p) (neighbourSum n vs p)
 unfoldable pub smoothedAt : Vec3i → Float → List Float → ℕ → Float
 smoothedAt n f vs p = cond (outside n (indicesOf p (n .i) (n .j))) (valueOf vs p) (blendedAt n f vs p)
 
--- one round, and any number of them (rules D7 and D9)
+-- one round (rule D7)
 unfoldable pub smoothedOnce : Vec3i → Float → List Float → List Float
 smoothedOnce n f vs = tabulate (pointsOf n) (smoothedAt n f vs)
 
+-- so many rounds, each on the values of the one before (rule D9)
 unfoldable pub smoothed : Vec3i → Float → ℕ → List Float → List Float
 smoothed n f zero vs = vs
 smoothed n f (suc rounds) vs = smoothedOnce n f (smoothed n f rounds vs)

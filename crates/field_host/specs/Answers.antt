@@ -41,6 +41,7 @@ unfoldable pub countNumber : PointCount → ℕ
 countNumber (count.Points n) = 0
 countNumber (count.Refused number) = number
 
+-- the counts that it leaves, or the old ones on a refusal (rule C54)
 unfoldable pub countsLeft : List ℕ → PointCount → List ℕ
 countsLeft old (count.Points n) = indexList n
 countsLeft old (count.Refused number) = old
@@ -101,6 +102,7 @@ unfoldable pub cornersNumber : CornerList → ℕ
 cornersNumber (corners.Count n) = 0
 cornersNumber (corners.Refused number) = number
 
+-- the count that it leaves, or the old one on a refusal (rule C54)
 unfoldable pub cornersCount : List ℕ → CornerList → List ℕ
 cornersCount old (corners.Count n) = n ∷ []
 cornersCount old (corners.Refused number) = old

@@ -16,6 +16,7 @@ use Rattle.sparse_field.specs.declared.Record.{Record}
 use Rattle.sparse_field.specs.Records.{noRecord}
 use Rattle.field_host.specs.Given.{inputGiven}
 
+-- the four arrays (rule R14)
 pub record Carried : Type 0 where
   pub words : List ℕ
   pub parts : List ℕ

@@ -9,6 +9,7 @@ use Rattle.grid.specs.Blocks.{cube}
 use Rattle.grid.specs.Causes.{childrenOf, storeNeeded, refusalOf}
 use Rattle.sparse_field.specs.declared.Input.{Input}
 
+-- the least lengths of an open that is accepted (rule S3)
 abbrev pub neededLengths : Grid → Lengths
 neededLengths g =
     record { kinds = childrenOf g; numbers = childrenOf g; places = childrenOf g; store = storeNeeded g; corners = cube (g .inner + 1) }
@@ -35,6 +36,7 @@ unfoldable pub refusalNumber : Refusal → ℕ
 refusalNumber None = 0
 refusalNumber (By number) = number
 
+-- what the answer leaves: the lengths, or on a refusal the old numbers (rules R16 and C54)
 unfoldable pub lengthsLeft : List ℕ → Refusal → Grid → List ℕ
 lengthsLeft old None g = lengthList (neededLengths g)
 lengthsLeft old (By number) g = old

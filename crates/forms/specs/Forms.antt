@@ -8,11 +8,13 @@ use lib.ListN.{getD, drop}
 use Rattle.forms.specs.Digits.{hexOf, decimalOf}
 use Rattle.forms.specs.Fronts.{Front, number, hexFront, decimalFront}
 
+-- a piece of a form: a float's bits, a decimal number, or a byte that stands for itself
 pub data Piece : Type 0 where
   hex : Piece
   decimal : Piece
   byte : ℕ → Piece
 
+-- the piece that a byte of a quoted form stands for: 72 is H, 68 is D
 unfoldable pub pieceOf : ℕ → Piece
 pieceOf b = cond (eqb b 72) hex (cond (eqb b 68) decimal (byte b))
 
@@ -69,6 +71,7 @@ unfoldable pub onFront : Piece → Front → (List ℕ → Line) → Line
 onFront p Front.off next = off
 onFront p (number x t) next = withNumber (isField p) x (next t)
 
+-- a line at the front of a text, piece by piece (rule T3)
 unfoldable pub readForm : (limit : ℕ) → List Piece → List ℕ → Line
 readForm limit [] t = line [] t
 readForm limit (p ∷ form) t = onFront p (readPiece limit p t) (readForm limit form)

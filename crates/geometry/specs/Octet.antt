@@ -5,6 +5,7 @@ use Rattle.geometry.specs.declared.Vec3i.{Vec3i}
 use Rattle.geometry.specs.Values.{vec3i}
 use Rattle.geometry.specs.Index.{placeOf}
 
+-- how far each corner is from the first, along i, j and k (rule B9)
 unfoldable pub octetOrder : List Vec3i
 octetOrder =
     vec3i 0 0 0 ∷ vec3i 1 0 0 ∷ vec3i 1 1 0 ∷ vec3i 0 1 0 ∷ vec3i 0 0 1 ∷ vec3i 1 0 1 ∷ vec3i 1 1 1 ∷ vec3i 0 1 1 ∷ []

@@ -11,10 +11,11 @@ use Rattle.geometry.specs.Axis.{asFloat, along, alongEnd}
 use Rattle.grid.specs.declared.Grid.{Grid}
 use Rattle.grid.specs.Nodes.{sizeOf, nodeCounts}
 
--- where node i of an axis begins, and where it ends (rule G5)
+-- where node i of an axis begins (rule G5)
 unfoldable pub nodeLeast : (least s : Float) → ℕ → Float
 nodeLeast least s i = add binary64 least (mul binary64 (asFloat i) s)
 
+-- where it ends: one node size on (rule G5)
 unfoldable pub nodeMost : (least s : Float) → ℕ → Float
 nodeMost least s i = add binary64 (nodeLeast least s i) s
 
@@ -27,10 +28,11 @@ nodeBoxAt g v =
     (vec3 (nodeLeast (b .x) s (v .i)) (nodeLeast (b .y) s (v .j)) (nodeLeast (b .z) s (v .k)))
     (vec3 (nodeMost (b .x) s (v .i)) (nodeMost (b .y) s (v .j)) (nodeMost (b .z) s (v .k)))
 
--- the indices of a node's number, and of a child's in its node (rule G4)
+-- the indices of a node's number (rule G4)
 abbrev pub nodeIndices : Grid → ℕ → Vec3i
 nodeIndices g v = let n = nodeCounts g in indicesOf v (n .i) (n .j)
 
+-- the indices of a child's number in its node (rule G4)
 abbrev pub childIndices : ℕ → ℕ → Vec3i
 childIndices n c = indicesOf c n n
 

@@ -15,10 +15,11 @@ nodeSize cell n l = mul binary64 cell (asFloat (n * (l - 1)))
 unfoldable pub nodesAlong : (least most s : Float) → ℕ
 nodesAlong least most s = max 1 (toUnsigned 64 (ceilOf (div binary64 (sub binary64 most least) s)))
 
--- the grid's node size, and its nodes along each axis (rules G2 and G3)
+-- the grid's node size (rule G2)
 abbrev pub sizeOf : Grid → Float
 sizeOf g = nodeSize (g .cell) (g .inner) (g .leaf)
 
+-- its nodes along each axis (rule G3)
 unfoldable pub nodeCounts : Grid → Vec3i
 nodeCounts g =
     vec3i

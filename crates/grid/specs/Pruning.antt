@@ -17,11 +17,12 @@ unfoldable pub folded : (Float → Float → Float) → Float → List Float →
 folded f a [] = a
 folded f a (x ∷ l) = folded f (f a x) l
 
--- lo and hi, begun with the octet's first value (rule G12)
+-- lo, begun with the octet's first value (rule G12)
 unfoldable pub lowest : List Float → Float
 lowest [] = plusZero
 lowest (c0 ∷ rest) = folded minOf c0 rest
 
+-- hi (rule G12)
 unfoldable pub highest : List Float → Float
 highest [] = plusZero
 highest (c0 ∷ rest) = folded maxOf c0 rest

@@ -78,9 +78,10 @@ leafEnd = bytes ")\n"
 abbrev pub constantForm : List Piece
 constantForm = form "(constant D D H)\n"
 
--- the number of the cause; for 12 the line (rule T13)
+-- the number of a cause (rule T13)
 abbrev pub refusedForm : List Piece
 refusedForm = form "(refused D)\n"
 
+-- the line of a text that is off its form (rule T13)
 abbrev pub offForm : List Piece
 offForm = form "(refused 12 D)\n"

@@ -20,6 +20,7 @@ unfoldable pub listedBy : Job → ℕ → List ℕ
 listedBy j zero = planListing (planOf (j .input)) (jobNan j)
 listedBy j (suc n) = spell refusedForm (suc n ∷ [])
 
+-- on the memory of the program (rule T9)
 unfoldable pub jobListed : Job → List ℕ
 jobListed j = listedBy j (sparse .cause programLengths (j .input))
 
@@ -28,5 +29,6 @@ unfoldable pub readListed : Read → List ℕ
 readListed (offAt n) = spell offForm (n ∷ [])
 readListed (written w) = jobListed (jobOf w)
 
+-- what `fieldlist` prints (rule T9)
 unfoldable pub listed : List ℕ → List ℕ
 listed text = readListed (readText text)

@@ -58,5 +58,6 @@ unfoldable pub partAmong : List PartKind → List ℕ → PartLine
 partAmong [] t = none
 partAmong (k ∷ ks) t = orPart k (readForm limit (partForm k) t) (partAmong ks t)
 
+-- a part line of any kind (rule T5)
 abbrev pub readPart : List ℕ → PartLine
 readPart t = partAmong partKinds t

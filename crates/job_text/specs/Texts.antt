@@ -33,6 +33,7 @@ textOf w =
 spelt : PartKind → List ℕ → Spelt
 spelt k xs = record { kind = k; numbers = xs }
 
+-- a part as its line has it (rule T5)
 unfoldable pub speltPart : Part → Spelt
 unfolding spelt
 speltPart (Constant w) = spelt const (toBits binary64 w ∷ [])
@@ -44,6 +45,7 @@ speltPart (Add a b) = spelt add (a ∷ b ∷ [])
 speltPart (Sub a b) = spelt sub (a ∷ b ∷ [])
 speltPart (Neg a) = spelt neg (a ∷ [])
 
+-- an input as its lines have it (rules T4 and T5)
 unfoldable pub writtenInput : Input → Written
 writtenInput i =
     let g = i .grid in

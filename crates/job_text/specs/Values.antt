@@ -15,10 +15,11 @@ use Rattle.job_text.specs.NanBits.{computedNan}
 abbrev pub floatOf : ℕ → Float
 floatOf b = ofBits binary64 b
 
--- min and max, which copy one operand's bits (rules F8 to F10)
+-- min, which copies one operand's bits (rules F8 and F9)
 unfoldable pub minBits : ℕ → ℕ → ℕ
 minBits a b = cond (isNan (floatOf b)) a (cond (isNan (floatOf a) || lt (floatOf b) (floatOf a)) b a)
 
+-- max (rules F8 and F10)
 unfoldable pub maxBits : ℕ → ℕ → ℕ
 maxBits a b = cond (isNan (floatOf b)) a (cond (isNan (floatOf a) || lt (floatOf a) (floatOf b)) b a)
 
@@ -37,12 +38,14 @@ partBits (Add a b) pattern x y z earlier = computedBits (Add a b) x y z earlier
 partBits (Sub a b) pattern x y z earlier = computedBits (Sub a b) x y z earlier
 partBits (Neg a) pattern x y z earlier = computedBits (Neg a) x y z earlier
 
+-- the bits of the first p parts' values, in the list's order (rule M8)
 unfoldable pub bitsTo : List Part → List ℕ → (x y z : Float) → ℕ → List ℕ
 bitsTo parts patterns x y z zero = []
 bitsTo parts patterns x y z (suc p) =
     let earlier = bitsTo parts patterns x y z p in
     earlier ++ (partBits (partOf parts p) (getD patterns p 0) x y z earlier ∷ [])
 
+-- those of a model's value: its last part's (rule M8)
 unfoldable pub modelBits : List Part → List ℕ → ℕ → (x y z : Float) → ℕ
 modelBits parts patterns count x y z = getD (bitsTo parts patterns x y z count) (count - 1) 0
 

@@ -65,6 +65,7 @@ pub record CentreOfSixes (vs : List Float) : Type 0 where
   pub above : getD vs 22 plusZero ≡ asFloat 6
   pub below : getD vs 4 plusZero ≡ asFloat 6
 
+-- all facts together
 pub record Measured : Type 0 where
   -- with blocks of 2 and 2, bounds that end at the middle of the node meet all 8 children (rule G7)
   pub blocks-2-2 : activeIn (cubic (asFloat 1) 2 2) ≡ 8

@@ -15,6 +15,7 @@ use Rattle.model.specs.declared.Part.the-variants.{Constant, Sphere, Pla
 
 -- ---- a part's entries, 0 where it has none (rule M9)
 
+-- the code of each sort of part (rule M9)
 unfoldable pub codeOf : Part → ℕ
 codeOf (Constant w) = 0
 codeOf (Sphere centre r) = 1
@@ -67,6 +68,7 @@ numberOf (Neg a) = plusZero
 
 -- ---- what lists of any contents stand for
 
+-- the two lists of a flat form (rule M9)
 pub record Flat : Type 0 where
   pub words : List ℕ
   pub numbers : List Float

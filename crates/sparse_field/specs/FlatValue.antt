@@ -5,5 +5,6 @@ use lib.Ieee.{Float}
 use Rattle.model.specs.Flat.{flatOf, partsOf}
 use Rattle.model.specs.Model.{modelValue}
 
+-- its last part's (rules M8 and M10)
 unfoldable pub flatValue : (words : List ℕ) (reals : List Float) (parts : ℕ) → (x y z : Float) → Float
 flatValue words reals parts x y z = modelValue (partsOf (flatOf words reals) parts) parts x y z
