@@ -140,7 +140,7 @@ impl List<'_> {
             2 => 1,
             3 => {
                 let digits = random.below(64);
-                random.next() >> digits
+                random.draw() >> digits
             }
             _ => {
                 let most = random.pick(&[3, 10, 30, 100]);

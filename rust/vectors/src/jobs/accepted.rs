@@ -258,11 +258,8 @@ fn nan_chains(list: &mut List) {
         &with(&[Part::Min(1, 2), Part::Add(0, 1), Part::Max(4, 5)]),
         b,
     );
-    let mut long = vec![constant(b); 63];
-    long[0] = constant(a);
-    for place in 1..63 {
-        long[place] = Part::Min(place as u32 - 1, 0);
-    }
+    let mut long = vec![constant(a)];
+    long.extend((1..63).map(|place| Part::Min(place - 1, 0)));
     list.value(&long, a);
     long.push(Part::Neg(62));
     list.value(&long, NAN);

@@ -142,7 +142,7 @@ fn lengths(script: &mut Script) {
             3 => &mut lengths.store,
             _ => &mut lengths.corners,
         };
-        *length = length.checked_add_signed(by).unwrap();
+        *length = (*length as i64 + by) as u64;
         lengths
     };
     for at in 0..5 {
