@@ -1,5 +1,6 @@
 -- Floor and ceiling, without error (rule F4).
--- A finite value's size is the fraction m * up e / down e. The result has the value's sign, so that the floor of -0 is -0 and the ceiling of -0.5 is -0 (rule F5).
+-- A finite value's size is the fraction m * up e / down e. The result has the value's sign (rule F5), so that the floor of -0 is -0 and
+-- the ceiling of -0.5 is -0.
 -- `round` to binary64 changes nothing here: the whole numbers that arise are values of the format (proofs/Whole).
 use Prim.Native.Nat.{ℕ, suc, _*_, _/_, _%_}
 use mathlib.Core.Bool.{true, false, cond}

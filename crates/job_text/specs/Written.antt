@@ -1,5 +1,6 @@
--- What writing a job's listing answers and leaves in the lent bytes (rules T15 and T16): 7 without a job, 8 for an impossible record, "not printable" for an unfinished job or a
--- leaf's place outside the store, then 6 where the bytes are too few. A refusal writes nothing; what lies past a listing is 0.
+-- What writing a job's listing answers and leaves in the lent bytes (rules T15 and T16): 7 without a job, 8 for an impossible record, "not
+-- printable" for an unfinished job or a leaf's place outside the store, then 6 where the bytes are too few. A refusal writes nothing; what
+-- lies past a listing is 0.
 use Prim.Native.Nat.{ℕ, zero, suc, _+_, _-_, _*_}
 use mathlib.Core.Bool.{Bool, true, cond, _&&_, _||_, not}
 use mathlib.Core.List.{List, _++_}
