@@ -315,7 +315,7 @@ static void dense_field(void)
     check(octet[0] == 111 && octet[2] == 122 && octet[6] == 222, "the last cell");
     printf("dense: %zu cells, the last from %g to %g\n", cells, octet[0], octet[6]);
 
-    /* The centre 0, its six neighbours 6. */
+    /* A 0 in the middle, and sixes around it. */
     const size_t neighbours[6] = {4, 10, 12, 14, 16, 22};
     memset(values, 0, sizeof values);
     for (size_t at = 0; at < 6; at++) {

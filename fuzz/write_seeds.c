@@ -26,7 +26,7 @@ static FILE *seed(const char *folder, unsigned number, unsigned choice, uint64_t
     return file;
 }
 
-/* The scope's model over bounds of two nodes, after k evaluations. */
+/* The plane case's model over bounds of two nodes, after k evaluations. */
 static int at(uint64_t k) {
     static const double settings[JISAMPODE_SETTINGS] = {0, 0, 0, 3, 1, 0.5, 1, -0.25, 0};
     static const uint32_t parts[JISAMPODE_PARTS] = {JISAMPODE_PLANE};

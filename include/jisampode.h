@@ -42,13 +42,13 @@ extern "C" {
 enum {
     JISAMPODE_ACCEPTED = 0,
     /* A bound or an origin is not finite, a highest bound is below the lowest,
-       or the cell size is not finite or not above 0. */
+       or the cell size is infinite, NaN, 0 or negative. */
     JISAMPODE_REFUSED_BOUNDS = 1,
-    /* A block size is not 2, 4, 8, 16, 32 or 64. */
+    /* The inner or the leaf size is none of 2, 4, 8, 16, 32, 64. */
     JISAMPODE_REFUSED_BLOCKS = 2,
     /* A limit of the band is NaN. */
     JISAMPODE_REFUSED_BAND = 3,
-    /* No part or more than 64, a part's input that is not below its own place,
+    /* No part or more than 64, a part with an input that is not before it,
        or a part's code above 7. */
     JISAMPODE_REFUSED_MODEL = 4,
     /* The node size is not finite, there are over 1,024 nodes along an axis, or
@@ -65,8 +65,8 @@ enum {
     JISAMPODE_REFUSED_DIMENSIONS = 9,
     /* A cell is outside the field: its i or j is past the last. */
     JISAMPODE_REFUSED_OUTSIDE = 10,
-    /* A walk with a count below 2 points or 1 cell or above 16,777,216 along an
-       axis, or a cursor's i or j not below its count. */
+    /* A walk has fewer than 2 points or no cell along an axis, or more than
+       16,777,216; or its cursor's i or j is at its count or past it. */
     JISAMPODE_REFUSED_WALK = 11,
     /* A job text is off its form. No call returns it: a listing prints it with
        the line, `(refused 12 LINE)`. */
@@ -238,7 +238,7 @@ uint32_t jisampode_cursor(const uint64_t record_words[JISAMPODE_WORDS],
  * The corners that a node's active children need: each once, in no promised
  * order, then zeros. kinds are the node's n³ kinds, of which those that are not 0
  * are active; the list has at least (n + 1)³ places. count[0] is how many.
- * Refused by 2, and by 6 where the kinds are not n³ or the list is shorter.
+ * Refused by 2, and by 6 for kinds that are not n³ and for a shorter list.
  */
 uint32_t jisampode_corner_list(uint32_t inner,
                                const uint8_t *kinds, size_t kinds_length,
@@ -262,7 +262,8 @@ uint32_t jisampode_sample(const uint32_t parts[JISAMPODE_PARTS],
                           size_t nx, size_t ny, size_t nz,
                           double *values, size_t values_length);
 
-/* Sets every point with an index 0 or last to a value. Refused by 9. */
+/* Sets every point on the outside to a value: those with an index that is 0 or
+   the last of its axis. Refused by 9. */
 uint32_t jisampode_padding(size_t nx, size_t ny, size_t nz, double value,
                            double *values, size_t values_length);
 
@@ -296,7 +297,7 @@ uint32_t jisampode_cell_step(const double bounds[6],
                              size_t cursor[3], double cell[6]);
 
 /* The values at the corners of a field's cells: (0,0,0) (1,0,0) (1,1,0) (0,1,0),
-   then the same with k + 1. The cells are (nx - 1) × (ny - 1) × (nz - 1). Refused
+   and these four with 1 for k. The cells are (nx - 1) × (ny - 1) × (nz - 1). Refused
    by 9, and by 10 for a cursor whose i or j is past the last; done where its k is,
    or where there are no cells. */
 uint32_t jisampode_octet_step(size_t nx, size_t ny, size_t nz,

@@ -6,8 +6,8 @@ use crate::roots::hardware_sqrt;
 
 const ROUNDS: usize = 200_000;
 
-/// min(a, b) and max(a, b): a if b is NaN, else b if a is NaN or beyond a, else
-/// a. Both copy.
+/// min and max, of which `beyond` says whether b is beyond a (rules F9 and F10).
+/// Both copy.
 pub fn chosen(a: f64, b: f64, beyond: bool) -> f64 {
     if b.is_nan() || !(a.is_nan() || beyond) {
         a

@@ -53,11 +53,15 @@ pub fn values() -> usize {
 
 /// Bounds that cause 1 does not refuse; their size may be infinite.
 fn walks(random: &mut Random, tally: &mut Tally) {
-    let mut ends = [[0.0; 3]; 2];
-    for axis in 0..3 {
+    let axes = [(); 3].map(|_| {
         let (a, b) = (finite(random), finite(random));
-        (ends[0][axis], ends[1][axis]) = if b < a { (b, a) } else { (a, b) };
-    }
+        if b < a {
+            [b, a]
+        } else {
+            [a, b]
+        }
+    });
+    let ends = [0, 1].map(|end| axes.map(|axis| axis[end]));
     let n = [(); 3].map(|_| 2 + random.next() as usize % 5);
     let at = n.map(|n| random.next() as usize % n);
     let point = host::point_step(ends, n, at).expect("a point");

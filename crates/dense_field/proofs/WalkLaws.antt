@@ -285,7 +285,7 @@ above : (m : ℕ) → (m ≡ 0 → ⊥) → 0 < m
 above zero h = absurd (h refl)
 above (suc m) h = omega arith
 
--- "A field with a dimension of 1 has no cells: the walker is done from the start"
+-- where one axis has one point there is no cell, and the walk is done at once (rule W7)
 module _ (n : Vec3i) (vs : List Float) (passed : valuesRefused n (length vs) ≡ false) (no-cell : pointsOf (vec3i (n .i - 1) (n .j - 1) (n .k - 1)) ≡ 0) where
   done-at-once : octetStep n (length vs) (vec3i 0 0 0) ≡ octet.Done (vec3i 0 0 0)
   unfolding octetStep

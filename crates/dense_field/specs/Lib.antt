@@ -1,4 +1,4 @@
--- The rules of the dense field and of the walks, from document 01, "Dense field and walks".
+-- The dense field (rules D1 to D15) and the walks (rules W1 to W9).
 pub mod Points
 pub mod Field
 pub mod Outcomes

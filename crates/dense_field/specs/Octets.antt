@@ -1,4 +1,4 @@
--- Document 01: the corners of a cell and the values there, in octet order.
+-- The corners of a cell and the values there, in octet order (rules D13 and W6).
 use Prim.Native.Nat.{ℕ, zero, suc, _+_}
 use mathlib.Core.Bool.{Bool, _&&_}
 use mathlib.Core.List.{List, map}
@@ -12,15 +12,16 @@ use Rattle.geometry.specs.Values.{vec3}
 use Rattle.geometry.specs.Axis.{asFloat}
 use Rattle.geometry.specs.Octet.{octetOrder, octetPlaces}
 
--- cause 10: a cell is inside where the point after it on each axis is one of the field
+-- a cell is inside where the point after it on each axis is one of the field; elsewhere cause 10 applies (rules D14 and C10)
 unfoldable pub cellInside : Vec3i → Vec3i → Bool
 cellInside n c = ltb (c .i + 1) (n .i) && ltb (c .j + 1) (n .j) && ltb (c .k + 1) (n .k)
 
--- i, or i + 1 "computed in f64"
+-- i, or i + 1 added as floats (rule D13)
 unfoldable pub cornerIndex : (i o : ℕ) → Float
 cornerIndex i zero = asFloat i
 cornerIndex i (suc o) = add binary64 (asFloat i) (asFloat 1)
 
+-- the corner of cell c that is o away from its first (rule D13)
 unfoldable pub cornerAt : Vec3 → Float → Vec3i → Vec3i → Vec3
 cornerAt origin cell c o =
     vec3
@@ -28,9 +29,10 @@ cornerAt origin cell c o =
     (add binary64 (origin .y) (mul binary64 (cornerIndex (c .j) (o .j)) cell))
     (add binary64 (origin .z) (mul binary64 (cornerIndex (c .k) (o .k)) cell))
 
+-- the eight corners of a cell (rule D13)
 unfoldable pub cornersOf : Vec3 → Float → Vec3i → List Vec3
 cornersOf origin cell c = map (cornerAt origin cell c) octetOrder
 
--- the eight values at a cell's corners
+-- the eight values at a cell's corners (rules D15 and W6)
 unfoldable pub octetOf : Vec3i → List Float → Vec3i → List Float
 octetOf n vs c = map (λ p. getD vs p plusZero) (octetPlaces (n .i) (n .j) c)

@@ -1,4 +1,4 @@
--- Document 01: the point count from bounds, and where a field's points stand.
+-- How many points a field over bounds has, and where a field's points stand (rules D2 to D4).
 use Prim.Native.Nat.{ℕ, suc}
 use mathlib.Core.Bool.{_||_}
 use mathlib.Core.List.{[], _∷_}
@@ -15,15 +15,16 @@ use Rattle.geometry.specs.Bounds.{boxRefused, cellRefused}
 use Rattle.dense_field.specs.declared.PointCount.{PointCount}
 use Rattle.dense_field.specs.declared.PointCount.the-variants as answer
 
--- "Point count from bounds: floor(extent / cell) + 1 per axis". A quotient past 64 bits counts as 2 ^ 64 - 1.
+-- the points of an axis: one more than the whole cells in its extent (rule D2). A quotient past 64 bits counts as 2 ^ 64 - 1 (rule F13).
 unfoldable pub pointsAlong : (least most cell : Float) → ℕ
 pointsAlong least most cell = suc (toUnsigned 64 (floorOf (div binary64 (sub binary64 most least) cell)))
 
+-- those of the three axes (rule D2)
 unfoldable pub pointCounts : BoundingBox → Float → Vec3i
 pointCounts b cell =
     vec3i (pointsAlong (b .min .x) (b .max .x) cell) (pointsAlong (b .min .y) (b .max .y) cell) (pointsAlong (b .min .z) (b .max .z) cell)
 
--- "(refused by 1, then 9)"
+-- 1 for the bounds and the cell, then 9 for the counts (rule D3)
 unfoldable pub pointCountOf : BoundingBox → Float → PointCount
 pointCountOf b cell =
     let n = pointCounts b cell in
@@ -31,7 +32,7 @@ pointCountOf b cell =
     answer.Refused
     (answer.Points n)
 
--- "Sampling at origin + cell × i."
+-- where point (i, j, k) of a field stands (rule D4)
 unfoldable pub fieldPoint : Vec3 → Float → Vec3i → Vec3
 fieldPoint origin cell at =
     vec3

@@ -14,7 +14,7 @@ use Rattle.dense_field.specs.Field.{valuesRefused}
 use Rattle.dense_field.specs.declared.Outcome.{Outcome}
 use Rattle.dense_field.specs.declared.Outcome.the-variants as outcome
 
--- 1 of the origin and the cell size, then 4, then 9; 0 where none applies
+-- 1 of the origin and the cell size, then 4, then 9; 0 where none applies (rule D5)
 unfoldable pub sampleCause : ImplicitModel → Vec3 → Float → Vec3i → (len : ℕ) → ℕ
 sampleCause m origin cell n len =
     firstOf
@@ -22,6 +22,6 @@ sampleCause m origin cell n len =
     (λ number. number)
     0
 
--- the answer of that number
+-- the answer of that number (rule D5)
 unfoldable pub sampleOutcome : ℕ → Outcome
 sampleOutcome number = cond (eqb number 0) outcome.Done (outcome.Refused number)

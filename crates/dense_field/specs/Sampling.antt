@@ -1,4 +1,4 @@
--- Document 01: "Sampling at origin + cell × i."
+-- Sampling: the model's value at every point of a field (rule D4).
 use Prim.Native.Nat.{ℕ}
 use mathlib.Core.List.{List}
 use lib.Ieee.{Float}
@@ -15,6 +15,7 @@ use Rattle.dense_field.specs.Field.{pointsOf}
 abbrev pub valueAt : List Part → ℕ → Vec3 → Float
 valueAt parts count p = modelValue parts count (p .x) (p .y) (p .z)
 
+-- the values of a whole field (rule D4)
 unfoldable pub sampled : List Part → ℕ → Vec3 → Float → Vec3i → List Float
 sampled parts count origin cell n =
     tabulate (pointsOf n) (λ p. valueAt parts count (fieldPoint origin cell (indicesOf p (n .i) (n .j))))

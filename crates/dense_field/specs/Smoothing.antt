@@ -1,4 +1,4 @@
--- Document 01: "Smoothing, per round from the old values: interior value (1 - f) × v + f × (sum / 6), sum in order i+1, i-1, j+1, j-1, k+1, k-1; others stay."
+-- Smoothing: rounds that blend each interior value with the mean of its neighbours (rules D7 to D10).
 use Prim.Native.Nat.{ℕ, zero, suc, _+_, _-_, _*_}
 use mathlib.Core.Bool.{Bool, cond, _||_}
 use mathlib.Core.List.{List}
@@ -12,11 +12,11 @@ use Rattle.geometry.specs.Index.{indicesOf}
 use Rattle.geometry.specs.Axis.{asFloat}
 use Rattle.dense_field.specs.Field.{valuesRefused, pointsOf, scratchNeeded, outside}
 
--- cause 9: "a dense dimension 0, product above 16,777,216, values not that long, scratch shorter"
+-- cause 9, of the dimensions, the values and the scratch (rules D12 and C9)
 unfoldable pub smoothRefused : Vec3i → (values scratch : ℕ) → Bool
 smoothRefused n values scratch = valuesRefused n values || ltb scratch (scratchNeeded n)
 
--- the sum of the six neighbours of an interior point, which stands at p: a row is n.i and a slab n.i * n.j long
+-- the sum of the six neighbours of an interior point, which stands at p, in the order of rule D8: a row is n.i and a slab n.i * n.j long
 unfoldable pub neighbourSum : Vec3i → List Float → ℕ → Float
 neighbourSum n vs p =
     let at : ℕ → Float = λ q. getD vs q plusZero in
@@ -24,26 +24,28 @@ neighbourSum n vs p =
     let slab = n .i * n .j in
     add binary64 (add binary64 (add binary64 (add binary64 (add binary64 (at (p + 1)) (at (p - 1))) (at (p + row))) (at (p - row))) (at (p + slab))) (at (p - slab))
 
--- (1 - f) × v + f × (sum / 6)
+-- (1 - f) × v + f × (sum / 6) (rule D7)
 unfoldable pub blended : (f v sum : Float) → Float
 blended f v sum =
     add binary64 (mul binary64 (sub binary64 (asFloat 1) f) v) (mul binary64 f (div binary64 sum (asFloat 6)))
 
--- the old value at p, and the one that an interior point gets
+-- the old value at p
 abbrev pub valueOf : List Float → ℕ → Float
 valueOf vs p = getD vs p plusZero
 
+-- an interior value blended with its neighbours (rules D7 and D8)
 unfoldable pub blendedAt : Vec3i → Float → List Float → ℕ → Float
 blendedAt n f vs p = blended f (valueOf vs p) (neighbourSum n vs p)
 
--- the new value at p, from the old values
+-- the new value at p, from the old values; an outside point keeps its own (rule D7)
 unfoldable pub smoothedAt : Vec3i → Float → List Float → ℕ → Float
 smoothedAt n f vs p = cond (outside n (indicesOf p (n .i) (n .j))) (valueOf vs p) (blendedAt n f vs p)
 
--- one round, and any number of them
+-- one round (rule D7)
 unfoldable pub smoothedOnce : Vec3i → Float → List Float → List Float
 smoothedOnce n f vs = tabulate (pointsOf n) (smoothedAt n f vs)
 
+-- so many rounds, each on the values of the one before (rule D9)
 unfoldable pub smoothed : Vec3i → Float → ℕ → List Float → List Float
 smoothed n f zero vs = vs
 smoothed n f (suc rounds) vs = smoothedOnce n f (smoothed n f rounds vs)

@@ -1,4 +1,4 @@
--- The octet walker: what it holds, and the cell at which it stands after a step.
+-- The octet walker: what it holds, and the cell at which it stands after a step (rule W8).
 use mathlib.Core.List.{List}
 use lib.Ieee.{Float}
 use denote.Ref.{RefT}
@@ -7,11 +7,11 @@ use Rattle.dense_field.specs.declared.OctetStep.{OctetStep}
 use Rattle.dense_field.specs.declared.OctetStep.the-variants as octet
 use Rattle.dense_field.specs.declared.walker.DenseCellValueIterator.{DenseCellValueIterator}
 
--- "An octet walker holds on to the field's values and its cell"
+-- a walker over values by reference, of a field of n points, that stands at cell c (rule W8)
 abbrev pub walkerAt : RefT (List Float) → Vec3i → Vec3i → DenseCellValueIterator
 walkerAt values n c = record { «data» = values; current = c; «point_count» = n }
 
--- past the last cell, and where the step is refused, the cell is unchanged
+-- the next cell; past the last one, and where the step is refused, the same (rule W8)
 unfoldable pub afterStep : OctetStep → Vec3i → Vec3i
 afterStep (octet.Cell next) c = next
 afterStep (octet.Done last) c = last

@@ -1,5 +1,4 @@
-// A cell's eight corners and the values there, in octet order: (0,0,0) (1,0,0) (1,1,0) (0,1,0), then
-// the same with k + 1.
+// A cell's eight corners and the values there, in octet order (rule B9).
 ghost use mathlib.Core.Path.{_≡_};
 ghost use Prim.Native.Nat.{_+_, _<_};
 ghost use lib.ListN.{length};

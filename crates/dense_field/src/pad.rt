@@ -79,7 +79,7 @@ fn pad_slabs(n: Vec3i, value: f64, values: &mut [f64])
     }
 }
 
-// Sets every point with an index 0 or last to a value. No other point is written. A refusal changes
+// Sets every point on the outside to a value (rule D6). No other point is written. A refusal changes
 // nothing.
 pub fn padding(n: Vec3i, value: f64, values: &mut [f64]) -> Outcome
     ensures answer { λ r. ⌜ r ≡ outcomeOf n (length (now (values .entry))) ⌝ }

@@ -1,4 +1,5 @@
--- An answer as numbers: the scope's number of a refusal and 0 for none, 100 for a walk that is done, and what is left in place of `old`.
+-- An answer as numbers: the cause of a refusal and 0 for none, 100 for a walk that is done, and what is left in place of `old` (rules C51,
+-- C54 and W10).
 use Prim.Native.Nat.{ℕ}
 use mathlib.Core.List.{List, [], _∷_}
 use lib.Ieee.{Float}
@@ -40,11 +41,12 @@ unfoldable pub countNumber : PointCount → ℕ
 countNumber (count.Points n) = 0
 countNumber (count.Refused number) = number
 
+-- the counts that it leaves, or the old ones on a refusal (rule C54)
 unfoldable pub countsLeft : List ℕ → PointCount → List ℕ
 countsLeft old (count.Points n) = indexList n
 countsLeft old (count.Refused number) = old
 
--- a walk over points: its answer, its cursor and the point
+-- a walk over points: its answer, its cursor and the point (rule W10)
 unfoldable pub pointNumber : PointStep → ℕ
 pointNumber (point.Point p next) = 0
 pointNumber (point.Done c) = 100
@@ -60,7 +62,7 @@ pointLeft old (point.Point p next) = coordinates p
 pointLeft old (point.Done c) = old
 pointLeft old (point.Refused number) = old
 
--- the same of a walk over cells
+-- the same of a walk over cells (rule W10)
 unfoldable pub cellNumber : CellStep → ℕ
 cellNumber (cell.Cell b next) = 0
 cellNumber (cell.Done c) = 100
@@ -76,7 +78,7 @@ cellLeft old (cell.Cell b next) = ends b
 cellLeft old (cell.Done c) = old
 cellLeft old (cell.Refused number) = old
 
--- the same of a walk over octets
+-- the same of a walk over octets (rule W10)
 unfoldable pub octetNumber : OctetStep → ℕ
 octetNumber (octet.Cell next) = 0
 octetNumber (octet.Done c) = 100
@@ -100,6 +102,7 @@ unfoldable pub cornersNumber : CornerList → ℕ
 cornersNumber (corners.Count n) = 0
 cornersNumber (corners.Refused number) = number
 
+-- the count that it leaves, or the old one on a refusal (rule C54)
 unfoldable pub cornersCount : List ℕ → CornerList → List ℕ
 cornersCount old (corners.Count n) = n ∷ []
 cornersCount old (corners.Refused number) = old

@@ -1,4 +1,4 @@
--- A record as a host carries it: 18 words, the model's codes and inputs, nine settings, the model's numbers.
+-- A record as a host carries it: 18 words, the model's codes and inputs, nine settings, the model's numbers (rules R14 and R15).
 use Prim.Native.Nat.{ℕ, zero, suc}
 use mathlib.Core.Bool.{Bool, true, false, not, cond, _&&_}
 use mathlib.Core.List.{List, [], _∷_, map}
@@ -18,6 +18,7 @@ use Rattle.sparse_field.specs.declared.Record.{Record}
 use Rattle.sparse_field.specs.Records.{noRecord}
 use Rattle.field_host.specs.Given.{inputGiven}
 
+-- the four arrays (rule R14)
 pub record Carried : Type 0 where
   pub words : List ℕ
   pub parts : List ℕ
@@ -64,7 +65,7 @@ cursorPoint (Point v c p) = p
 abbrev pub cursorWords : Cursor → List ℕ
 cursorWords a = cursorTag a ∷ cursorNode a ∷ cursorPlace a ∷ cursorPoint a ∷ []
 
--- the flag; inner, leaf and the part count; five lengths; five counts; the cursor
+-- the flag; inner, leaf and the part count; five lengths; five counts; the cursor (rule R14)
 abbrev pub wordsOf : Record → List ℕ
 wordsOf r =
     flagWord (r .job)
@@ -80,13 +81,14 @@ settingsOf i =
     ∷ i .grid .cell ∷ i .band .min ∷ i .band .max
     ∷ []
 
+-- a record in four arrays (rule R14)
 abbrev pub encoded : Record → Carried
 encoded r =
     let l = layoutOf (map partIn (r .input .model .parts)) in carriedOf (wordsOf r) (l .words) (settingsOf (r .input)) (l .numbers)
 
 -- ---- arrays of any contents read
 
--- whether the words are those of some record: a flag of 0 or 1, block sizes and a count of 32 bits, one of three cursors
+-- whether the words are those of some record: a flag of 0 or 1, block sizes and a count of 32 bits, one of three cursors (rule R15)
 unfoldable pub fits : List ℕ → Bool
 fits ws =
     ltb (getD ws 0 0) 2 && ltb (getD ws 1 0) 4294967296 && ltb (getD ws 2 0) 4294967296 && ltb (getD ws 3 0) 4294967296 && ltb (getD ws 14 0) 3
@@ -116,6 +118,7 @@ recordGiven i ws =
     record { job = flagged ws; input = i; lengths = lengthsGiven ws; counts = countsGiven ws; cursor = cursorGiven ws }
 
 -- what arrays read as that no record has: without a job, or with a job of the input of which every number is 0, which cause 1 refuses
+-- (rule R15)
 abbrev pub unread : Bool → Record
 unread job =
     record { job = job; input = noRecord .input; lengths = noRecord .lengths; counts = noRecord .counts; cursor = noRecord .cursor }
@@ -125,5 +128,6 @@ abbrev pub inputIn : Carried → Input
 inputIn c =
     inputGiven (c .settings) (getD (c .words) 1 0) (getD (c .words) 2 0) (flatOf (c .parts) (c .reals)) (getD (c .words) 3 0)
 
+-- the record that arrays of any contents read as (rule R15)
 unfoldable pub decoded : Carried → Record
 decoded c = cond (fits (c .words)) (recordGiven (inputIn c) (c .words)) (unread (flagged (c .words)))

@@ -25,7 +25,7 @@ abbrev pub NoJob : Station → Type 0
 NoJob s = getD (s .carried .words) 0 0 ≡ 0
 
 -- Any list of the three functions' calls, refused ones among them, from any such arrays and any contents of the memory: the answers, every
--- element, and the job with its counts are the ledger's.
+-- element, and the job with its counts are the ledger's (rule L10).
 abbrev pub HostDemandThree : Type 0
 HostDemandThree =
     (cs : List HostCall) (s : Station) → NoJob s
@@ -36,7 +36,7 @@ abbrev pub HostDropLeavesZeros : Type 0
 HostDropLeavesZeros =
     (cs : List HostCall) (s : Station) → NoJob s → run onStation (cs ++ (dropsAll ∷ [])) s .last .memory ≡ zeroMemory (lengthsOf (s .memory))
 
--- Two jobs of one input and equal slice lengths, given budgets of equal sum since their opens, hold equal elements.
+-- Two jobs of one input and equal slice lengths, given budgets of equal sum since their opens, hold equal elements (rule L11).
 abbrev pub HostEqualBudgets : Type 0
 HostEqualBudgets =
     (cs₁ cs₂ : List HostCall) (s₁ s₂ : Station) → NoJob s₁ → NoJob s₂ → lengthsOf (s₁ .memory) ≡ lengthsOf (s₂ .memory)

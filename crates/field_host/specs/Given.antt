@@ -35,7 +35,7 @@ indicesIn c = vec3i (getD c 0 0) (getD c 1 0) (getD c 2 0)
 abbrev pub gridGiven : BoundingBox → Float → (inner leaf : ℕ) → Grid
 gridGiven bounds cell inner leaf = record { bounds = bounds; cell = cell; inner = inner; leaf = leaf }
 
--- what a code reads as that no part has: its input stands below no place, so cause 4 refuses it
+-- what a code reads as that no part has: its input stands below no place, so cause 4 refuses it (rule R15)
 abbrev pub noPart : Part
 noPart = Neg 4294967295
 

@@ -18,7 +18,7 @@ unfoldable pub answerNumber : Answer → ℕ
 answerNumber Accepted = 0
 answerNumber (Refused number) = number
 
--- the arrays after a call: an accepted one writes its record, a refused one leaves them as they were
+-- the arrays after a call: an accepted one writes its record, a refused one leaves them as they were (rule R14)
 unfoldable pub leftBy : Answer → (next old : Carried) → Carried
 leftBy Accepted next old = next
 leftBy (Refused number) next old = old
@@ -36,11 +36,11 @@ abbrev pub hostedBy : Handed → Carried → Hosted
 hostedBy h old =
     record { number = answerNumber (h .outcome .answer); carried = carriedAfter (h .outcome) old; memory = h .memory }
 
--- the engine's call on the record that the arrays read as
+-- the engine's call on the record that the arrays read as (rule R15)
 unfoldable pub hosted : Call → Carried → Memory → Hosted
 hosted c old m = hostedBy (called c (decoded old) m) old
 
--- 7 without a job, then 8 for words that no record has, and else 0
+-- 7 without a job, then 8 for words that no record has, and else 0 (rule R16)
 unfoldable pub wordsNumber : List ℕ → ℕ
 wordsNumber ws = cond (eqb (getD ws 0 0) 0) 7 (cond (fits ws) 0 8)
 

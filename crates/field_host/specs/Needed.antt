@@ -1,4 +1,4 @@
--- How long the five slices of a job have to be: "The first three need nodes × n³, corners (n+1)³, store active × L³."
+-- How long the five slices of a job have to be (rules S3 and R16).
 use Prim.Native.Nat.{ℕ, _+_}
 use mathlib.Core.List.{List, [], _∷_}
 use Rattle.grid.specs.declared.Grid.{Grid}
@@ -9,6 +9,7 @@ use Rattle.grid.specs.Blocks.{cube}
 use Rattle.grid.specs.Causes.{childrenOf, storeNeeded, refusalOf}
 use Rattle.sparse_field.specs.declared.Input.{Input}
 
+-- the least lengths of an open that is accepted (rule S3)
 abbrev pub neededLengths : Grid → Lengths
 neededLengths g =
     record { kinds = childrenOf g; numbers = childrenOf g; places = childrenOf g; store = storeNeeded g; corners = cube (g .inner + 1) }
@@ -27,7 +28,7 @@ longest =
       corners = 18446744073709551615;
     }
 
--- the cause that an open on slices of any length meets
+-- the cause that an open on the longest slices meets (rule R16)
 abbrev pub anyRefusal : Input → Refusal
 anyRefusal i = refusalOf (i .grid) (i .band) (i .model) longest
 
@@ -35,6 +36,7 @@ unfoldable pub refusalNumber : Refusal → ℕ
 refusalNumber None = 0
 refusalNumber (By number) = number
 
+-- what the answer leaves: the lengths, or on a refusal the old numbers (rules R16 and C54)
 unfoldable pub lengthsLeft : List ℕ → Refusal → Grid → List ℕ
 lengthsLeft old None g = lengthList (neededLengths g)
 lengthsLeft old (By number) g = old

@@ -49,7 +49,7 @@ fn put_count(answer: PointCount, counts: &mut [usize; 3]) -> u32
     }
 }
 
-// How many points a field over bounds has along each axis. Refused by 1, then 9.
+// How many points a field over bounds has along each axis. Refused as rule D3 says.
 #[no_mangle]
 pub extern "C" fn jisampode_point_count(
     bounds: &[f64; 6],
@@ -95,7 +95,7 @@ pub extern "C" fn jisampode_sample(
     number(dense_field::sample(model, origin, cell, n, values))
 }
 
-// Every point with an index 0 or last set to a value. Refused by 9.
+// Every point on the outside set to a value. Refused by 9.
 #[no_mangle]
 pub extern "C" fn jisampode_padding(
     nx: usize,

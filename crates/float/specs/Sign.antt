@@ -2,7 +2,7 @@
 use mathlib.Core.Bool.{Bool, false}
 use lib.Ieee.{Float, nan, inf, fin}
 
--- |x|: document 01's "|v| < limit". |-0| is +0, and a NaN stays one.
+-- |x|: |-0| is +0, and a NaN stays one (rule F11)
 unfoldable pub absOf : Float → Float
 absOf nan = nan
 absOf (inf s) = inf false

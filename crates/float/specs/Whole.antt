@@ -1,5 +1,6 @@
--- Document 01, "Roots and roundings": "Floor and ceiling are exact."
--- A finite value's size is the fraction m * up e / down e. The result has the value's sign, so that the floor of -0 is -0 and the ceiling of -0.5 is -0.
+-- Floor and ceiling, without error (rule F4).
+-- A finite value's size is the fraction m * up e / down e. The result has the value's sign (rule F5), so that the floor of -0 is -0 and
+-- the ceiling of -0.5 is -0.
 -- `round` to binary64 changes nothing here: the whole numbers that arise are values of the format (proofs/Whole).
 use Prim.Native.Nat.{ℕ, suc, _*_, _/_, _%_}
 use mathlib.Core.Bool.{true, false, cond}
@@ -15,14 +16,14 @@ wholeBelow m e = m * up e / down e
 abbrev pub wholeAbove : ℕ → ℤ → ℕ
 wholeAbove m e = cond (eqb (m * up e % down e) 0) (wholeBelow m e) (suc (wholeBelow m e))
 
--- the greatest whole number that is not above the value
+-- the greatest whole number that is not above the value (rules F4 and F5)
 unfoldable pub floorOf : Float → Float
 floorOf nan = nan
 floorOf (inf s) = inf s
 floorOf (fin false m e) = round binary64 false (wholeBelow m e) 1
 floorOf (fin true m e) = round binary64 true (wholeAbove m e) 1
 
--- the least whole number that is not below the value
+-- the least whole number that is not below the value (rules F4 and F5)
 unfoldable pub ceilOf : Float → Float
 ceilOf nan = nan
 ceilOf (inf s) = inf s

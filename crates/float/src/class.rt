@@ -5,10 +5,9 @@ ghost use lib.Ieee.Scale.{finite};
 ghost use Rattle.float.specs.Sign.{negative};
 use crate::to_bits;
 
-// The value as it is, and a NaN with the bits 7ff8000000000000. Document 01: "A computed NaN is
-// stored as 7ff8000000000000; a copied one stays." The proofs know one NaN, without bits. The
-// machine's operators make NaNs of other bits, so what a public call computes goes through here
-// before it is stored or returned.
+// The value as it is, and a NaN with the bits 7ff8000000000000 (rule F7). The proofs know one NaN,
+// without bits. The machine's operators make NaNs of other bits, so what a public call computes goes
+// through here before it is stored or returned.
 pub fn computed(x: f64) -> f64
     ensures { λ r. ⌜ r ≡ x ⌝ }
 {

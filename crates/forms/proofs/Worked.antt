@@ -1,4 +1,4 @@
--- Lines of document 01, read and spelled by their forms.
+-- Lines of job texts and listings, read and spelled by their forms.
 use mathlib.Core.Path.{_≡_, refl}
 use mathlib.Core.Bool.{true}
 use mathlib.Core.List.{[], _∷_, map}

@@ -1,5 +1,4 @@
--- Numbers as bytes. Document 01: "H is a float's bits as 16 lowercase hexadecimal digits; other numbers are decimal without
--- leading zeros."
+-- Numbers as bytes: hexadecimal for floats (rule T1), decimal for all others (rule T2).
 use Prim.Native.Nat.{ℕ, zero, suc, _+_, _-_, _/_, _%_}
 use mathlib.Core.Bool.{_&&_, cond}
 use mathlib.Core.List.{List, [], _∷_, _++_}
@@ -18,7 +17,7 @@ unfoldable pub digits : (base k x : ℕ) → List ℕ
 digits base zero x = []
 digits base (suc k) x = digits base k (x / base) ++ (digitByte (x % base) ∷ [])
 
--- the 16 hexadecimal digits of a number of 64 bits
+-- the 16 hexadecimal digits of a number of 64 bits (rule T1)
 abbrev pub hexOf : ℕ → List ℕ
 hexOf x = digits 16 16 x
 
@@ -27,6 +26,6 @@ unfoldable pub decimalCount : (k x : ℕ) → ℕ
 decimalCount zero x = 1
 decimalCount (suc k) x = cond (ltb x 10) 1 (suc (decimalCount k (x / 10)))
 
--- a number of 64 bits in decimal digits, at most 20, without leading zeros
+-- a number of 64 bits in decimal digits, at most 20, the first of them no 0 unless it is the only one (rule T2)
 abbrev pub decimalOf : ℕ → List ℕ
 decimalOf x = digits 10 (decimalCount 19 x) x

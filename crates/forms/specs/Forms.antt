@@ -1,5 +1,5 @@
--- The form of a line: its bytes, among which the letter H stands for a float's bits and D for a decimal number. No word of a
--- line has an upper-case letter.
+-- The form of a line: its bytes, among which the letter H stands for a float's bits and D for a decimal number (rules T1 to T3). No word of
+-- a line has an upper-case letter.
 use Prim.Native.Nat.{ℕ, _+_}
 use mathlib.Core.Bool.{Bool, true, false, cond}
 use mathlib.Core.List.{List, [], _∷_, _++_}
@@ -8,11 +8,13 @@ use lib.ListN.{getD, drop}
 use Rattle.forms.specs.Digits.{hexOf, decimalOf}
 use Rattle.forms.specs.Fronts.{Front, number, hexFront, decimalFront}
 
+-- a piece of a form: a float's bits, a decimal number, or a byte that stands for itself
 pub data Piece : Type 0 where
   hex : Piece
   decimal : Piece
   byte : ℕ → Piece
 
+-- the piece that a byte of a quoted form stands for: 72 is H, 68 is D
 unfoldable pub pieceOf : ℕ → Piece
 pieceOf b = cond (eqb b 72) hex (cond (eqb b 68) decimal (byte b))
 
@@ -51,7 +53,7 @@ pub data Line : Type 0 where
   off : Line
   line : (numbers rest : List ℕ) → Line
 
--- a piece at the front of a text, where "a decimal number above" the limit is off the form; a byte counts as 0
+-- a piece at the front of a text, where a decimal number past the limit is off the form (rule T2); a byte counts as 0
 unfoldable pub readPiece : (limit : ℕ) → Piece → List ℕ → Front
 readPiece limit hex t = hexFront t
 readPiece limit decimal t = decimalFront limit t
@@ -69,6 +71,7 @@ unfoldable pub onFront : Piece → Front → (List ℕ → Line) → Line
 onFront p Front.off next = off
 onFront p (number x t) next = withNumber (isField p) x (next t)
 
+-- a line at the front of a text, piece by piece (rule T3)
 unfoldable pub readForm : (limit : ℕ) → List Piece → List ℕ → Line
 readForm limit [] t = line [] t
 readForm limit (p ∷ form) t = onFront p (readPiece limit p t) (readForm limit form)

@@ -16,7 +16,7 @@ hexAfter zero v t = number v t
 hexAfter (suc k) v [] = off
 hexAfter (suc k) v (b ∷ t) = cond (ltb (digitOf b) 16) (hexAfter k (v * 16 + digitOf b) t) off
 
--- 16 hexadecimal digits
+-- 16 hexadecimal digits (rule T1)
 abbrev pub hexFront : List ℕ → Front
 hexFront t = hexAfter 16 0 t
 
@@ -28,7 +28,7 @@ decimalAfter limit v (b ∷ t) =
     (cond (leb (v * 10 + digitOf b) limit) (decimalAfter limit (v * 10 + digitOf b) t) off)
     (number v (b ∷ t))
 
--- a decimal number without leading zeros: a 0 has no digit after it
+-- a decimal number: a 0 at its front is the whole number (rule T2)
 unfoldable pub decimalFront : (limit : ℕ) → List ℕ → Front
 decimalFront limit [] = off
 decimalFront limit (b ∷ t) =

@@ -252,7 +252,7 @@ pub fn box_refused(b: BoundingBox) -> bool
     max.z < min.z
 }
 
-// Whether a cell's size is not finite or not above 0: cause 1.
+// Whether a cell's size is infinite, NaN, 0 or negative: cause 1.
 pub fn cell_refused(cell: f64) -> bool
     ensures { λ r. ⌜ r ≡ cellRefused cell ⌝ }
 {

@@ -40,7 +40,7 @@ regroup true false y₂ z₁ z₂ = refl
 regroup true true false z₁ z₂ = refl
 regroup true true true z₁ z₂ = refl
 
--- "It is active if the bounds intersect it.": a test for each axis
+-- whether a child is active (rule G7): a test for each axis
 pub by-axes : (g : Grid) (v c : ℕ) → let b = g .bounds in
     let s = sizeOf g in
     let n = g .inner in

@@ -1,4 +1,4 @@
--- The pruning rule at the band's edge. Document 01: "hi + h equal to min_val, min_val not above max_val: leaf." "Eight NaN corners: leaf."
+-- The pruning rule at the band's edge (rule G13): a child whose upper sum just meets the band is a leaf, and so is one with a NaN at every corner.
 -- Both hold for any floats, whether a format holds them or not, and for octets of any length above none, the first also for none. Assumes nothing.
 use mathlib.Core.Path.{_≡_, refl}
 use mathlib.Core.List.{List, [], _∷_}
@@ -206,7 +206,7 @@ edge-apart lo hi h least most s u e l =
     (λ x. lt-excludes upper least x (equal .1))
     (λ x. lt-excludes most lower x (le-trans lower upper most (under (number-right most lower (le-of-lt most lower x)) n) reach))
 
--- "hi + h equal to min_val, min_val not above max_val: leaf."
+-- where the upper sum is the lower limit, and the limits are in order, the child is a leaf
 pub edge-is-leaf : (octet : List Float) (b : BoundingBox) (least most : Float)
     → eq (add binary64 (highest octet) (halfDiagonal b)) least ≡ true
     → le least most ≡ true
@@ -235,6 +235,6 @@ pub nans-are-leaf : (n : ℕ) (least most h : Float) → pruned least most (lowe
 unfolding pruned lowest highest
 nans-are-leaf n least most h = rw (nan-low n, nan-high n) (nan-apart least most h)
 
--- "Eight NaN corners: leaf."
+-- NaN at every corner: a leaf
 pub nan-is-leaf : (least most h : Float) → pruned least most (lowest (replicate 8 nan)) (highest (replicate 8 nan)) h ≡ false
 nan-is-leaf least most h = nans-are-leaf 7 least most h

@@ -1,4 +1,4 @@
--- Document 01, "Causes and their numbers": "Open has 1 to 6".
+-- The causes of open, 1 to 6 (rules C1 to C6).
 use mathlib.Core.Bool.{Bool, not, _||_}
 use mathlib.Core.List.{List, [], _∷_}
 use Prim.Native.Nat.{ℕ, _+_, _*_}
@@ -18,39 +18,39 @@ use Rattle.grid.specs.Blocks.{isBlock, cube}
 use Rattle.grid.specs.Nodes.{sizeOf, nodeCounts, nodesOf}
 use Rattle.grid.specs.Counting.{activeOf}
 
--- 1: "a bound or origin not finite, max below min on an axis, cell size not finite or not above 0"
+-- 1: the bounds or the cell's size (rule C1)
 unfoldable pub refusedByOne : Grid → Bool
 refusedByOne g = boxRefused (g .bounds) || cellRefused (g .cell)
 
--- 2: "block size not 2, 4, 8, 16, 32 or 64"
+-- 2: a size that no block has (rule C2)
 unfoldable pub refusedByTwo : Grid → Bool
 refusedByTwo g = not (isBlock (g .inner)) || not (isBlock (g .leaf))
 
--- 3: "band limit NaN"
+-- 3: a NaN for a limit of the band (rule C3)
 unfoldable pub refusedByThree : Band → Bool
 refusedByThree band = isNan (band .min) || isNan (band .max)
 
--- the children of all nodes, active or not: "nodes times inner³"
+-- the children of all nodes, active or not
 unfoldable pub childrenOf : Grid → ℕ
 childrenOf g = nodesOf g * cube (g .inner)
 
--- 5: "node size not finite, over 1,024 nodes on an axis, or nodes times inner³ above 16,777,216"
+-- 5: an infinite node size, too many nodes along an axis, or too many children in all (rule C5)
 unfoldable pub refusedByFive : Grid → Bool
 refusedByFive g =
     let n = nodeCounts g in
     not (finite (sizeOf g)) || ltb 1024 (n .i) || ltb 1024 (n .j) || ltb 1024 (n .k) || ltb 16777216 (childrenOf g)
 
--- what the store needs: "store active × L³"
+-- what the store needs: the points of all active children (rule S3)
 unfoldable pub storeNeeded : Grid → ℕ
 storeNeeded g = activeOf g * cube (g .leaf)
 
--- 6: "a lent slice too short". "The first three need nodes × n³, corners (n+1)³, store active × L³. Longer is allowed."
+-- 6: one of the five slices is shorter than it has to be (rules C6 and S3)
 unfoldable pub refusedBySix : Grid → Lengths → Bool
 refusedBySix g l =
     ltb (l .kinds) (childrenOf g) || ltb (l .numbers) (childrenOf g) || ltb (l .places) (childrenOf g)
     || ltb (l .corners) (cube (g .inner + 1)) || ltb (l .store) (storeNeeded g)
 
--- the causes of open, in their order
+-- the causes of open, in their order (rules C51 and C53)
 unfoldable pub openCauses : Grid → Band → ImplicitModel → Lengths → List Cause
 openCauses g band model l =
     cause (refusedByOne g) 1
@@ -60,6 +60,6 @@ openCauses g band model l =
     ∷ cause (refusedByFive g) 5 ∷ cause (refusedBySix g l) 6
     ∷ []
 
--- "The lowest number that applies is returned .. and no other cause refuses."
+-- the first of them that applies, and none where none does (rules C51 and C53)
 unfoldable pub refusalOf : Grid → Band → ImplicitModel → Lengths → Refusal
 refusalOf g band model l = firstOf (openCauses g band model l) By None

@@ -1,4 +1,4 @@
--- Document 01, the corner list of one node: "(from n and n³ kinds, nonzero active) writes each needed corner once, in free order, into a lent u32 slice, zeroes its rest and returns the count".
+-- What the corner list of a node answers and leaves in the list that it is lent (rules G16 and G17).
 use mathlib.Core.Path.{_≡_}
 use mathlib.Core.Bool.{Bool, not, _||_}
 use mathlib.Core.List.{List, [], _∷_}
@@ -12,30 +12,31 @@ use Rattle.grid.specs.Corners.{among, needed}
 use Rattle.grid.specs.declared.CornerList.{CornerList}
 use Rattle.grid.specs.declared.CornerList.the-variants.{Count, Refused}
 
--- "nonzero active": the test for active children from one node's kinds
+-- the test for active children from one node's kinds: every kind but 0 is (rule G16)
 unfoldable pub nonzero : List ℕ → ℕ → Bool
 nonzero kinds c = not (eqb (getD kinds c 0) 0)
 
--- "refusals 2, then 6 if kinds are not n³ or the list is below (n+1)³"
+-- 2 for the block size, then 6 for the lengths of the kinds and of the list (rule G17)
 unfoldable pub cornerListCauses : (n kinds list : ℕ) → List Cause
 cornerListCauses n kinds list =
     cause (not (isBlock n)) 2 ∷ cause (not (eqb kinds (cube n)) || ltb list (cube (n + 1))) 6 ∷ []
 
--- the answer, from n, the kinds and the list's length: "returns the count"
+-- the answer, from n, the kinds and the list's length: how many corners are needed (rules G16 and G17)
 unfoldable pub cornerListOf : ℕ → List ℕ → ℕ → CornerList
 cornerListOf n kinds list =
     firstOf (cornerListCauses n (length kinds) list)
     Refused
     (Count (countBelow (cube (n + 1)) (needed n (nonzero kinds))))
 
--- a list whose first `count` elements are the corners that pass a test, "each .. once, in free order", and which is zero from there on
+-- a list whose first `count` elements are the corners that pass a test, no one twice, in whatever order, and which is zero from there on
+-- (rule G16)
 pub record CornersOnce (test : ℕ → Bool) (count : ℕ) (list : List ℕ) : Type 0 where
   pub within : count ≤ length list
   pub exactly : (corner : ℕ) → among corner (take count list) ≡ test corner
   pub once : (p q : ℕ) → p < count → q < count → getD list p 0 ≡ getD list q 0 → p ≡ q
   pub rest : (p : ℕ) → count ≤ p → getD list p 0 ≡ 0
 
--- what the lent list holds after the answer: a refusal leaves it as it was
+-- what the lent list holds after the answer: a refusal leaves it as it was (rules G16 and C54)
 abbrev pub HoldsCorners : CornerList → ℕ → (kinds before after : List ℕ) → Type 0
 HoldsCorners (Count count) n kinds before after = (length after ≡ length before) × CornersOnce (needed n (nonzero kinds)) count after
 HoldsCorners (Refused number) n kinds before after = after ≡ before

@@ -1,4 +1,4 @@
--- Document 01, "Sparse field": the corners of a node, and those that its active children need.
+-- The corners of a node, and those that its active children need (rules G8 to G10).
 use Prim.Native.Nat.{ℕ, _+_}
 use mathlib.Core.Bool.{Bool, false, _&&_, _||_}
 use mathlib.Core.List.{List, [], _∷_}
@@ -14,7 +14,7 @@ use Rattle.grid.specs.Ranges.{anyBelow, listBelow}
 use Rattle.grid.specs.Blocks.{cube}
 use Rattle.grid.specs.Boxes.{childIndices}
 
--- "Corners of a node: (n+1)³ points, origin + c × i, where c is the x dimension / n for all three axes."
+-- where a corner of a node stands: steps of the x axis along all three (rule G8)
 unfoldable pub cornerPoint : BoundingBox → (n corner : ℕ) → Vec3
 cornerPoint b n corner =
     let c = stepAlong (b .min .x) (b .max .x) n in
@@ -24,7 +24,7 @@ cornerPoint b n corner =
     (add binary64 (b .min .y) (mul binary64 c (asFloat (at .j))))
     (add binary64 (b .min .z) (mul binary64 c (asFloat (at .k))))
 
--- the eight corners of child c, in octet order
+-- the eight corners of child c, in octet order (rule G10)
 unfoldable pub octet : (n c : ℕ) → List ℕ
 octet n c = octetPlaces (n + 1) (n + 1) (childIndices n c)
 
@@ -33,10 +33,10 @@ unfoldable pub among : ℕ → List ℕ → Bool
 among x [] = false
 among x (y ∷ l) = eqb x y || among x l
 
--- "A corner is needed if an active child has it.", from the test for active children of one node
+-- whether one of a node's active children has the corner, from the test for active children (rule G9)
 unfoldable pub needed : (n : ℕ) → (ℕ → Bool) → ℕ → Bool
 needed n act corner = anyBelow (cube n) (λ c. act c && among corner (octet n c))
 
--- a node's needed corners, in ascending order
+-- a node's needed corners, in ascending order (rule G9)
 unfoldable pub neededCorners : (n : ℕ) → (ℕ → Bool) → List ℕ
 neededCorners n act = listBelow (cube (n + 1)) (needed n act)

@@ -1,4 +1,4 @@
--- Document 01: the "active children" of a node, and of the whole grid.
+-- How many children of a node are active, and of the whole grid (rule G18).
 use Prim.Native.Nat.{ℕ, zero, suc, _+_}
 use Rattle.grid.specs.declared.Grid.{Grid}
 use Rattle.grid.specs.Ranges.{countBelow}
@@ -11,10 +11,10 @@ unfoldable pub sumBelow : ℕ → (ℕ → ℕ) → ℕ
 sumBelow zero f = 0
 sumBelow (suc n) f = sumBelow n f + f n
 
--- the active children of node v
+-- the active children of node v (rule G18)
 unfoldable pub activeIn : Grid → ℕ → ℕ
 activeIn g v = countBelow (cube (g .inner)) (active g v)
 
--- the active children of all nodes
+-- the active children of all nodes (rule G18)
 unfoldable pub activeOf : Grid → ℕ
 activeOf g = sumBelow (nodesOf g) (activeIn g)

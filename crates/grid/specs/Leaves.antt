@@ -1,4 +1,4 @@
--- Document 01, "Sparse field": the points of a leaf.
+-- The points of a leaf (rule G15).
 use Prim.Native.Nat.{ℕ, _-_}
 use Rattle.geometry.specs.declared.Vec3.{Vec3}
 use Rattle.geometry.specs.declared.BoundingBox.{BoundingBox}
@@ -6,7 +6,7 @@ use Rattle.geometry.specs.Values.{vec3}
 use Rattle.geometry.specs.Index.{indicesOf}
 use Rattle.geometry.specs.Axis.{along}
 
--- "A leaf has L³ points, min + i × (dimension / (L - 1)), i fastest.": point p of a leaf of any box
+-- where point p of a leaf stands in its box, l points along each axis (rules G4 and G15)
 unfoldable pub leafPoint : BoundingBox → (l p : ℕ) → Vec3
 leafPoint b l p =
     let at = indicesOf p l l in

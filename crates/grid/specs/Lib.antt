@@ -1,4 +1,4 @@
--- The rules of the sparse field's grid, from document 01, "Sparse field".
+-- The grid of a sparse field (rules G1 to G18), and the causes of open.
 pub mod Ranges
 pub mod Blocks
 pub mod Nodes

@@ -1,4 +1,4 @@
--- Document 01, "Sparse field": which active children become constants, and which number a constant is.
+-- Which active children become constants, and which number a constant is (rules G11 to G14).
 use mathlib.Core.Bool.{Bool, _||_}
 use mathlib.Core.List.{List, [], _∷_}
 use lib.Ieee.{Float, binary64, add, sub, div, lt}
@@ -8,7 +8,7 @@ use Rattle.geometry.specs.declared.BoundingBox.{BoundingBox}
 use Rattle.geometry.specs.Distance.{distanceOf}
 use Rattle.geometry.specs.Axis.{asFloat}
 
--- "h = distance(child min, child max) / 2."
+-- half the way from a child's min to its max (rule G11)
 unfoldable pub halfDiagonal : BoundingBox → Float
 halfDiagonal b = div binary64 (distanceOf (b .min) (b .max .x) (b .max .y) (b .max .z)) (asFloat 2)
 
@@ -17,19 +17,20 @@ unfoldable pub folded : (Float → Float → Float) → Float → List Float →
 folded f a [] = a
 folded f a (x ∷ l) = folded f (f a x) l
 
--- "lo and hi the min and max over the octet from its first value"
+-- lo, begun with the octet's first value (rule G12)
 unfoldable pub lowest : List Float → Float
 lowest [] = plusZero
 lowest (c0 ∷ rest) = folded minOf c0 rest
 
+-- hi (rule G12)
 unfoldable pub highest : List Float → Float
 highest [] = plusZero
 highest (c0 ∷ rest) = folded maxOf c0 rest
 
--- "constant exactly when hi + h < min_val or lo - h > max_val, else a leaf": one band, lo, hi and h
+-- whether a child becomes a constant, by one band, lo, hi and h; otherwise it is a leaf (rule G13)
 unfoldable pub pruned : (least most lo hi h : Float) → Bool
 pruned least most lo hi h = lt (add binary64 hi h) least || lt most (sub binary64 lo h)
 
--- "A constant is (0 + c0 + .. + c7) / 8, added in that order."
+-- the mean of an octet, its values added to +0 one after the other (rule G14)
 unfoldable pub average : List Float → Float
 average octet = div binary64 (folded (add binary64) plusZero octet) (asFloat 8)

@@ -1,4 +1,4 @@
--- The case of document 01, and texts off their form.
+-- The plane case of docs/RULES.md, and texts off their form.
 use mathlib.Core.Path.{_≡_, refl}
 use mathlib.Core.List.{List, [], _∷_, _++_}
 use Prim.Native.Nat.{ℕ}

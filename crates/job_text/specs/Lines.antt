@@ -1,34 +1,37 @@
--- Document 01, "Job text and `fieldlist`": the lines of a job's text, and those of a listing. H stands for a float's bits, D for a decimal number.
+-- The lines of a job's text (rules T4 and T5), and those of a listing (rules T10 to T13). H stands for a float's bits, D for a decimal number.
 use Prim.Native.Nat.{ℕ}
 use Prim.Native.String.{String}
 use mathlib.Core.List.{List, [], _∷_, map}
 use Rattle.forms.specs.Bytes.{bytes}
 use Rattle.forms.specs.Forms.{Piece, pieceOf}
 
+-- a form as a quoted text, with its single spaces and the byte 10 at its end (rule T3)
 abbrev pub form : String → List Piece
 form s = map pieceOf (bytes s)
 
--- "a decimal number above 4,294,967,295" is off the form
+-- the largest decimal number of a job's text (rule T2)
 abbrev pub limit : ℕ
 limit = 4294967295
 
--- ---- a job's text: four lines, then its parts
+-- ---- a job's text: four lines, then its parts (rules T4 and T5)
 
+-- the least point of the bounds, then the most (rule T4)
 abbrev pub boundsForm : List Piece
 boundsForm = form "(bounds (min H H H) (max H H H))\n"
 
+-- the cell's size (rule T4)
 abbrev pub cellForm : List Piece
 cellForm = form "(cell H)\n"
 
--- "blocks inner then leaf"
+-- inner, then leaf (rule T4)
 abbrev pub blocksForm : List Piece
 blocksForm = form "(blocks D D)\n"
 
--- "band gives min_val then max_val"
+-- the lower limit, then the upper (rule T4)
 abbrev pub bandForm : List Piece
 bandForm = form "(band H H)\n"
 
--- the kinds of part lines
+-- the kinds of part lines (rule T5)
 pub data PartKind : Type 0 where
   const : PartKind
   sphere : PartKind
@@ -39,6 +42,7 @@ pub data PartKind : Type 0 where
   sub : PartKind
   neg : PartKind
 
+-- the line of each kind: numbers of a shape, or its inputs (rule T5)
 abbrev pub partForm : PartKind → List Piece
 partForm const = form "(const H)\n"
 partForm sphere = form "(sphere H H H H)\n"
@@ -55,24 +59,25 @@ partKinds = const ∷ sphere ∷ plane ∷ min ∷ max ∷ add ∷ sub ∷ neg �
 
 -- ---- a listing
 
--- nodes, active, leaves, sampled, evaluations
+-- the five counts (rule T10)
 abbrev pub doneForm : List Piece
 doneForm = form "(done D D D D D)\n"
 
--- node, child, then the values, each after a space, and the end of the line
+-- node, child, then the values, each after a space, and the end of the line (rule T11)
 abbrev pub leafForm : List Piece
 leafForm = form "(leaf D D"
 
 abbrev pub leafEnd : List ℕ
 leafEnd = bytes ")\n"
 
--- node, child, number
+-- node, child, number (rule T12)
 abbrev pub constantForm : List Piece
 constantForm = form "(constant D D H)\n"
 
--- the number of the cause; for 12 the line
+-- the number of a cause (rule T13)
 abbrev pub refusedForm : List Piece
 refusedForm = form "(refused D)\n"
 
+-- the line of a text that is off its form (rule T13)
 abbrev pub offForm : List Piece
 offForm = form "(refused 12 D)\n"

@@ -1,5 +1,4 @@
--- Document 01: "Output: (done ..) = nodes, active, leaves, sampled, evaluations; then per active child in order (leaf ..) (node,
--- child, values) and (constant ..)". A listing is a list of lines.
+-- The listing of a finished job: a line of counts, then a line for each active child (rules T10 to T12).
 use Prim.Native.Nat.{ℕ, zero, suc, _+_, _*_, _/_, _%_}
 use mathlib.Core.Bool.{Bool, true, false, cond}
 use mathlib.Core.List.{List, [], _∷_, _++_}
@@ -19,7 +18,7 @@ use Rattle.job_text.specs.Lines.{doneForm, leafForm, leafEnd, constantFo
 
 -- ---- lines
 
--- a leaf value's bits, where a NaN has those of the model
+-- a leaf value's bits, where a NaN has those of the model (rule T14)
 unfoldable pub bitsIn : ℕ → Float → ℕ
 bitsIn nan x = cond (isNan x) nan (toBits binary64 x)
 
@@ -28,12 +27,15 @@ unfoldable pub valuesText : ℕ → List Float → List ℕ
 valuesText nan [] = []
 valuesText nan (x ∷ xs) = (32 ∷ hexOf (bitsIn nan x)) ++ valuesText nan xs
 
+-- the line of a leaf (rule T11)
 unfoldable pub leafLine : ℕ → (v c : ℕ) → List Float → List ℕ
 leafLine nan v c values = spell leafForm (v ∷ c ∷ []) ++ (valuesText nan values ++ leafEnd)
 
+-- the line of a constant (rule T12)
 unfoldable pub constantLine : (v c : ℕ) → Float → List ℕ
 constantLine v c x = spell constantForm (v ∷ c ∷ toBits binary64 x ∷ [])
 
+-- the first line (rule T10)
 unfoldable pub doneLine : Counts → List ℕ
 doneLine k = spell doneForm (k .nodes ∷ k .active ∷ k .leaves ∷ k .sampled ∷ k .evaluations ∷ [])
 
@@ -44,7 +46,7 @@ linesFrom f (suc r) j = f j ++ linesFrom f r (suc j)
 
 -- ---- the listing of an input's job, from its plan
 
--- child c of node v, if it is active
+-- child c of node v, if it is active (rules T11 and T12)
 unfoldable pub planLine : Plan → ℕ → (v c : ℕ) → Bool → Decision → List ℕ
 planLine P nan v c false d = []
 planLine P nan v c true (constant k x) = constantLine v c x
@@ -57,6 +59,7 @@ planLineAt P nan j =
     let c = j % P .children in
     planLine P nan v c (P .active v c) (decision P v c)
 
+-- all lines: the counts of the finished job, then node after node (rules T10 and T11)
 unfoldable pub planListing : Plan → ℕ → List ℕ
 planListing P nan =
     doneLine (countsWith P (leavesAll P) (total P)) ++ linesFrom (planLineAt P nan) (P .nodes * P .children) 0
@@ -67,7 +70,7 @@ planListing P nan =
 unfoldable pub leafValues : (points : ℕ) → List Float → ℕ → List Float
 leafValues points store place = tabulate points (λ p. getD store (place * points + p) plusZero)
 
--- the child of this kind: 0 is empty, 2 a leaf, any other a constant
+-- the child of this kind: 0 is empty, 2 a leaf, any other a constant (rule T12)
 unfoldable pub kindLine : (points nan v c kind : ℕ) → Float → ℕ → List Float → List ℕ
 kindLine points nan v c kind x place store =
     cond (eqb kind 0) [] (cond (eqb kind 2) (leafLine nan v c (leafValues points store place)) (constantLine v c x))

@@ -41,7 +41,7 @@ pub record HasPart (t rest : List ℕ) : Type 0 where
   pub spelt : Spelt
   pub spells : Spells limit (partForm (spelt .kind)) (spelt .numbers) t rest
 
--- a text begins with what stands in line n of a job's text; line 69 and those after it have nothing
+-- a text begins with what stands in line n of a job's text; line 69 and those after it have nothing (rules T4 to T6)
 unfoldable pub HasLine : (n : ℕ) → (t rest : List ℕ) → Type 0
 HasLine zero t rest = ⊥
 HasLine (suc zero) t rest = HasForm boundsForm t rest
@@ -55,8 +55,8 @@ pub data Begins : ℕ → List ℕ → List ℕ → Type 0 where
   start : {t : List ℕ} → Begins zero t t
   more : {k : ℕ} {t s rest : List ℕ} → Begins k t s → HasLine (suc k) s rest → Begins (suc k) t rest
 
--- line n of a text is the first off its form: the lines before it are on theirs, and it is not. A text may end after its fourth
--- line and after any line from there on.
+-- line n is the one that 12 names: the lines before it are on their forms, and it is not. A text may end after its fourth
+-- line and after any line from there on (rule T7).
 pub record OffFirst (t : List ℕ) (n : ℕ) : Type 0 where
   pub lines : ℕ
   pub number : n ≡ suc lines

@@ -16,7 +16,7 @@ word xs i = getD xs i 0
 abbrev pub real : List ℕ → ℕ → Float
 real xs i = ofBits binary64 (word xs i)
 
--- the part of a kind with a line's numbers; "A, B count part lines from 0"
+-- the part of a kind with a line's numbers; inputs are the numbers of part lines (rule T5)
 unfoldable pub partFrom : PartKind → List ℕ → Part
 partFrom const xs = Constant (real xs 0)
 partFrom sphere xs = Sphere (vec3 (real xs 0) (real xs 1) (real xs 2)) (real xs 3)
@@ -27,7 +27,7 @@ partFrom add xs = Add (word xs 0) (word xs 1)
 partFrom sub xs = Sub (word xs 0) (word xs 1)
 partFrom neg xs = Neg (word xs 0)
 
--- the bits of a constant as they are written, 0 for other parts
+-- the bits of a constant as they are written, 0 for other parts (rules F14 and T8)
 unfoldable pub patternFrom : PartKind → List ℕ → ℕ
 patternFrom const xs = word xs 0
 patternFrom sphere xs = 0
@@ -53,10 +53,11 @@ unfoldable pub orPart : PartKind → Line → PartLine → PartLine
 orPart k off other = other
 orPart k (line xs t) other = part (record { kind = k; numbers = xs }) t
 
--- the first of some kinds whose form the text begins with
+-- the first of some kinds whose form the text begins with (rule T5)
 unfoldable pub partAmong : List PartKind → List ℕ → PartLine
 partAmong [] t = none
 partAmong (k ∷ ks) t = orPart k (readForm limit (partForm k) t) (partAmong ks t)
 
+-- a part line of any kind (rule T5)
 abbrev pub readPart : List ℕ → PartLine
 readPart t = partAmong partKinds t

@@ -1,5 +1,4 @@
--- What a text is read as: the input that it spells with the bits of its constants, or 12 with a line. Document 01: "The line
--- named is the first off its form, or the one after the last if the text ends early."
+-- What a text is read as: the input that it spells with the bits of its constants (rule T8), or 12 with a line (rules T7 and C12).
 use Prim.Native.Nat.{ℕ, zero, suc, _+_, _-_}
 use mathlib.Core.List.{List, [], _∷_, _++_, map}
 use lib.ListN.{length, replicate}
@@ -26,7 +25,7 @@ pub record Written : Type 0 where
   pub band : List ℕ
   pub parts : List Spelt
 
--- what a text is read as: off its form at a line, or a job
+-- what a text is read as: off its form at a line, or a job (rule T8)
 pub data Read : Type 0 where
   offAt : ℕ → Read
   written : Written → Read
@@ -40,19 +39,19 @@ unfoldable pub withPart : Spelt → Parts → Parts
 withPart s (Parts.offAt n) = Parts.offAt n
 withPart s (parts ss) = parts (s ∷ ss)
 
--- a part line with the parts after it, and line n off its form
+-- a part line with the parts after it; without one, line n is named (rule T7)
 unfoldable pub onPart : ℕ → PartLine → (List ℕ → Parts) → Parts
 onPart n none next = Parts.offAt n
 onPart n (part s t) next = withPart s (next t)
 
--- the part lines of a whole text, r at most, the first of them line n; "a 65th part is 12"
+-- the part lines of a whole text, r at most, the first of them line n; whatever follows them is off its form (rule T6)
 unfoldable pub readParts : (r n : ℕ) → List ℕ → Parts
 readParts zero n [] = parts []
 readParts zero n (b ∷ t) = Parts.offAt n
 readParts (suc r) n [] = parts []
 readParts (suc r) n (b ∷ t) = onPart n (readPart (b ∷ t)) (readParts r (suc n))
 
--- a line with what follows from it, and line n off its form
+-- a line with what follows from it; off its form, line n is named (rule T7)
 unfoldable pub onLine : ℕ → Line → (List ℕ → List ℕ → Read) → Read
 onLine n off next = Read.offAt n
 onLine n (line xs t) next = next xs t
@@ -61,7 +60,7 @@ unfoldable pub onParts : Parts → (List Spelt → Written) → Read
 onParts (Parts.offAt n) make = Read.offAt n
 onParts (parts ss) make = written (make ss)
 
--- "Lines stand in the case's order, parts last."
+-- the four lines in their order, then up to 64 parts (rules T4, T6 and T7)
 unfoldable pub readText : List ℕ → Read
 readText text =
     onLine 1 (readForm limit boundsForm text) (λ bounds t1.
@@ -75,7 +74,7 @@ readText text =
 abbrev pub componentOf : Spelt → ModelComponent
 componentOf s = record { part = partFrom (s .kind) (s .numbers) }
 
--- the parts in their array: those beyond the count are constants +0
+-- the parts in their array: those beyond the count, which mean nothing (rule M1), are constants +0
 abbrev pub componentsOf : List Spelt → List ModelComponent
 componentsOf ss = map componentOf ss ++ replicate (64 - length ss) (record { part = Constant plusZero })
 
@@ -119,7 +118,7 @@ readJob j = record { judgement = judgement.OnForm; job = j }
 abbrev pub offReading : ℕ → Reading
 offReading n = record { judgement = judgement.OffAt n; job = noJob }
 
--- the code's answer
+-- the code's answer: 12 comes before every cause of an input, as there is none yet (rules T8 and C52)
 unfoldable pub readingOf : Read → Reading
 readingOf (Read.offAt n) = offReading n
 readingOf (written w) = readJob (jobOf w)

@@ -1,4 +1,4 @@
--- The text of a job.
+-- The text of a job (rules T4 to T6).
 use Prim.Native.Nat.{ℕ, _-_, _≤_}
 use mathlib.Core.Path.{_≡_}
 use mathlib.Core.List.{List, [], _∷_, _++_, map}
@@ -28,11 +28,12 @@ textOf w =
     spell boundsForm (w .bounds)
     ++ (spell cellForm (w .cell) ++ (spell blocksForm (w .blocks) ++ (spell bandForm (w .band) ++ partsText (w .parts))))
 
--- ---- the text of an input: floats by their bits
+-- ---- the text of an input: floats by their bits (rules T1 and F14)
 
 spelt : PartKind → List ℕ → Spelt
 spelt k xs = record { kind = k; numbers = xs }
 
+-- a part as its line has it (rule T5)
 unfoldable pub speltPart : Part → Spelt
 unfolding spelt
 speltPart (Constant w) = spelt const (toBits binary64 w ∷ [])
@@ -44,6 +45,7 @@ speltPart (Add a b) = spelt add (a ∷ b ∷ [])
 speltPart (Sub a b) = spelt sub (a ∷ b ∷ [])
 speltPart (Neg a) = spelt neg (a ∷ [])
 
+-- an input as its lines have it (rules T4 and T5)
 unfoldable pub writtenInput : Input → Written
 writtenInput i =
     let g = i .grid in

@@ -1,5 +1,6 @@
--- What writing a job's listing answers and leaves in the lent bytes: 7 without a job, 8 for an impossible record, "not printable" for an unfinished job or a
--- leaf's place outside the store, then 6 where the bytes are too few. A refusal writes nothing; what lies past a listing is 0.
+-- What writing a job's listing answers and leaves in the lent bytes (rules T15 and T16): 7 without a job, 8 for an impossible record, "not
+-- printable" for an unfinished job or a leaf's place outside the store, then 6 where the bytes are too few. A refusal writes nothing; what
+-- lies past a listing is 0.
 use Prim.Native.Nat.{ℕ, zero, suc, _+_, _-_, _*_}
 use mathlib.Core.Bool.{Bool, true, cond, _&&_, _||_, not}
 use mathlib.Core.List.{List, _++_}
@@ -17,11 +18,11 @@ use Rattle.job_text.specs.Listing.{listing}
 
 -- ---- lent bytes
 
--- bytes at the front and 0 after them, where they fit; otherwise the lent bytes as they were
+-- bytes at the front and 0 after them, where they fit; otherwise the lent bytes as they were (rule T15)
 unfoldable pub putBytes : List ℕ → List ℕ → List ℕ
 putBytes bs out = cond (leb (length bs) (length out)) (bs ++ replicate (length out - length bs) 0) out
 
--- the answer: how many bytes, or 6
+-- the answer: how many bytes, or 6 (rule T15)
 unfoldable pub putAnswer : List ℕ → List ℕ → answers.Listing
 putAnswer bs out = cond (leb (length bs) (length out)) (answer.Bytes (length bs)) (answer.Refused 6)
 
@@ -37,6 +38,7 @@ allPlaced points size kinds places zero j = true
 allPlaced points size kinds places (suc r) j =
     placed points size (getD kinds j 0) (getD places j 0) && allPlaced points size kinds places r (suc j)
 
+-- whether a job is finished and all its leaves lie in the store (rule T16)
 unfoldable pub printable : Record → Memory → Bool
 printable r m =
     let P = planOf (r .input) in
@@ -62,6 +64,7 @@ unfoldable pub possibleWritten : Record → ℕ → Memory → List ℕ → Put
 possibleWritten r nan m out =
     cond (not (printable r m)) (refusedPut answer.NotPrintable out) (putListing (recordListing r nan m) out)
 
+-- of any record (rule T16)
 unfoldable pub written : Record → ℕ → Memory → List ℕ → Put
 written r nan m out =
     cond (not (r .job)) (refusedPut (answer.Refused 7) out)

@@ -15,7 +15,7 @@ use sparse_field::Answer;
 // More evaluations than any job has.
 const ALL: u64 = 18446744073709551615;
 
-// The listing of a job, on memory of its own: 512 children, 4,096 store values and 125 corners.
+// The listing of a job, on memory of its own (rule T9).
 fn list_read(job: Job, out: &mut [u8]) -> Listing
     ensures answer { λ r. ⌜ r ≡ putAnswer (jobListed job) (now (out .entry)) ⌝ }
     ensures out { λ _. ⌜ now (out .exit) ≡ putBytes (jobListed job) (now (out .entry)) ⌝ }

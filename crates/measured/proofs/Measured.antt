@@ -1,4 +1,4 @@
--- THE MEASURED FACTS: what document 01 marks with * under "Measured on the bench", as one theorem.
+-- THE MEASURED FACTS: all of specs/Measured, as one theorem.
 use mathlib.Core.Path.{refl}
 use Rattle.grid.proofs.Edge.{edge-is-leaf, nan-is-leaf}
 use Rattle.measured.specs.Measured.{Measured}

@@ -1,5 +1,4 @@
--- Document 01, "Measured on the bench": the facts marked with * there, in the paragraph's order, as one statement about the rules.
--- Each sentence of the paragraph stands above its field.
+-- Facts about the rules that were measured before anything was proved, as one statement.
 use mathlib.Core.Path.{_≡_}
 use mathlib.Core.Bool.{true, false}
 use mathlib.Core.List.{List}
@@ -66,29 +65,30 @@ pub record CentreOfSixes (vs : List Float) : Type 0 where
   pub above : getD vs 22 plusZero ≡ asFloat 6
   pub below : getD vs 4 plusZero ≡ asFloat 6
 
+-- all facts together
 pub record Measured : Type 0 where
-  -- "Bounds 0..1, cell 1, blocks 2 2: 8 active."
+  -- with blocks of 2 and 2, bounds that end at the middle of the node meet all 8 children (rule G7)
   pub blocks-2-2 : activeIn (cubic (asFloat 1) 2 2) ≡ 8
-  -- "Blocks 4 2: 8 active of 64, 27 corners needed of 125."
+  -- with 4 and 2 they meet 8 out of 64, and these need 27 out of 125 corners (rules G7 and G9)
   pub blocks-4-2 : (activeIn (cubic (asFloat 1) 4 2) ≡ 8) × (cube 4 ≡ 64) × (cornersIn (cubic (asFloat 1) 4 2) ≡ 27) × (cube 5 ≡ 125)
-  -- "Bounds 0..0, blocks 2 2: 1 active, 8 corners."
+  -- bounds that are one point meet one child, with its 8 corners (rules G7 and G9)
   pub bounds-0-0 : (activeIn (cubic (asFloat 0) 2 2) ≡ 1) × (cornersIn (cubic (asFloat 0) 2 2) ≡ 8)
-  -- "Extent 2, s = 2: 1 node; next float above 2: 2."
+  -- an extent of one node size is one node, and with one float more it is two (rule G3)
   pub extent-2 : (nodesAlong (asFloat 0) (asFloat 2) (asFloat 2) ≡ 1) × (nodesAlong (asFloat 0) aboveTwo (asFloat 2) ≡ 2)
-  -- "hi + h equal to min_val, min_val not above max_val: leaf." For every octet and every child's box
+  -- a child whose upper sum just meets the band is a leaf, for every octet and every child's box (rule G13)
   pub at-the-edge : (octet : List Float) (b : BoundingBox) (least most : Float) → eq (add binary64 (highest octet) (halfDiagonal b)) least ≡ true
       → le least most ≡ true → pruned least most (lowest octet) (highest octet) (halfDiagonal b) ≡ false
-  -- "Eight NaN corners: leaf."
+  -- a child with a NaN at every corner is a leaf (rule G13)
   pub nan-corners : (least most h : Float) → pruned least most (lowest (replicate 8 nan)) (highest (replicate 8 nan)) h ≡ false
-  -- "Eight -0 corners, pruned: constant +0."
+  -- the mean of eight times -0 is +0 (rule G14)
   pub minus-zeros : average (replicate 8 minusZero) ≡ plusZero
-  -- "3×3×3, centre 0, its six neighbours 6, f = 0.5, one round: 3."
+  -- a 0 among sixes becomes 3 in one round with factor 0.5 (rules D7 and D8)
   pub sixes : (vs : List Float) → CentreOfSixes vs → getD (smoothed (vec3i 3 3 3) half 1 vs) 13 plusZero ≡ asFloat 3
-  -- "Dimension 2: smoothing changes nothing."
+  -- with 2 points along an axis there is no interior, and smoothing leaves all values (rule D7)
   pub dimension-2 : (n : Vec3i) (f : Float) (rounds : ℕ) (vs : List Float) → OfTwo n → length vs ≡ pointsOf n → smoothed n f rounds vs ≡ vs
-  -- "Padding 4×4×4 writes 56."
+  -- of 4 × 4 × 4 points 56 are outside (rule D6)
   pub padding-56 : countBelow 64 (λ p. outside (vec3i 4 4 4) (indicesOf p 4 4)) ≡ 56
-  -- "Threshold 1: -1 stays, -0 becomes +0."
+  -- with the limit 1, -1 is left and -0 is made +0 (rule D11)
   pub threshold-1 : (cut (asFloat 1) minusOne ≡ minusOne) × (cut (asFloat 1) minusZero ≡ plusZero)
-  -- "sqrt 4 = 2."
+  -- the root of 4 is 2 (rule F2)
   pub root-4 : squareRoot (asFloat 4) ≡ asFloat 2

@@ -1,4 +1,4 @@
--- A model's parts laid out in two lists, in rows of 64: a row of codes and two of inputs, and four rows of numbers.
+-- A model's parts laid out in two lists, in rows of 64: a row of codes and two of inputs, and four rows of numbers (rule M9).
 use Prim.Native.Nat.{ℕ, _+_}
 use mathlib.Core.Bool.{cond}
 use mathlib.Core.List.{List, [], _∷_, _++_}
@@ -15,8 +15,9 @@ use Rattle.model.specs.Model.{partOf}
 use Rattle.model.specs.declared.Part.{Part}
 use Rattle.model.specs.declared.Part.the-variants.{Constant, Sphere, Plane, Min, Max, Add, Sub, Neg}
 
--- ---- a part's entries, 0 where it has none
+-- ---- a part's entries, 0 where it has none (rule M9)
 
+-- the code of each sort of part (rule M9)
 unfoldable pub codeOf : Part → ℕ
 codeOf (Constant w) = 0
 codeOf (Sphere centre r) = 1
@@ -69,6 +70,7 @@ numberOf (Neg a) = plusZero
 
 -- ---- what lists of any contents stand for
 
+-- the two lists of a flat form (rule M9)
 pub record Flat : Type 0 where
   pub words : List ℕ
   pub numbers : List Float
@@ -91,20 +93,20 @@ wordEntries = codeOf ∷ firstInput ∷ secondInput ∷ []
 abbrev pub numberEntries : List (Part → Float)
 numberEntries = (λ q. vectorOf q .x) ∷ (λ q. vectorOf q .y) ∷ (λ q. vectorOf q .z) ∷ numberOf ∷ []
 
--- the lists of a list of parts
+-- the lists of a list of parts (rule M9)
 abbrev pub layoutOf : List Part → Flat
 layoutOf parts = flatOf (entryRows wordEntries parts) (entryRows numberEntries parts)
 
--- the parts in the order of their codes: the part of a code with its vector, number and inputs; a code that no part has stands for the constant +0
+-- the parts in the order of their codes: the part of a code with its vector, number and inputs; a code that no part has stands for the constant +0 (rule M10)
 unfoldable pub partFrom : ℕ → Vec3 → Float → (a b : ℕ) → Part
 partFrom code v w a b =
     getD (Constant w ∷ Sphere v w ∷ Plane v w ∷ Min a b ∷ Max a b ∷ Add a b ∷ Sub a b ∷ Neg a ∷ []) code (Constant plusZero)
 
--- a part whose inputs do not all stand below its place stands for the constant +0
+-- a part whose inputs do not all stand below its place stands for the constant +0 (rule M10)
 unfoldable pub placed : ℕ → Part → Part
 placed p part = cond (inputsBelow p part) part (Constant plusZero)
 
--- the part at a place
+-- the part at a place (rule M10)
 unfoldable pub partAt : Flat → ℕ → Part
 partAt l p =
     placed p

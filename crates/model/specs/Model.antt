@@ -1,4 +1,4 @@
--- Document 01, "Parts of a model": the values of a list of parts, and the models that cause 4 refuses.
+-- The values of a list of parts (rules M1 and M8), and the models that cause 4 refuses (rule C4).
 use Prim.Native.Nat.{ℕ, zero, suc, _-_}
 use mathlib.Core.Bool.{Bool, true, not, _&&_, _||_}
 use mathlib.Core.List.{List, [], _∷_, _++_, map}
@@ -18,26 +18,26 @@ use Rattle.model.specs.declared.Evaluation.the-variants.{Value, Refused}
 abbrev pub partOf : List Part → ℕ → Part
 partOf parts p = getD parts p (Constant plusZero)
 
--- the values of the first p parts at a point, "computed in list order": each from the values before it
+-- the values of the first p parts at a point, in the list's order: each from the values before it (rule M8)
 unfoldable pub valuesTo : List Part → (x y z : Float) → ℕ → List Float
 valuesTo parts x y z zero = []
 valuesTo parts x y z (suc p) =
     let earlier = valuesTo parts x y z p in earlier ++ (partValue (partOf parts p) x y z earlier ∷ [])
 
--- "The model's value is its last part's", here that of the first `count` parts, and +0 where there are none
+-- a model has the value of its last part, here of the first `count`, and +0 where there are none (rule M8)
 unfoldable pub modelValue : List Part → ℕ → (x y z : Float) → Float
 modelValue parts count x y z = getD (valuesTo parts x y z count) (count - 1) plusZero
 
--- whether each of the first p parts has its inputs before it
+-- whether each of the first p parts has its inputs before it (rule M7)
 unfoldable pub orderedTo : List Part → ℕ → Bool
 orderedTo parts zero = true
 orderedTo parts (suc p) = orderedTo parts p && inputsBelow p (partOf parts p)
 
--- cause 4: "part count 0 or above 64, or a part's input not below its own place"
+-- cause 4: no part, more than 64, or one with an input that does not stand before it (rule C4)
 unfoldable pub refusedByFour : ImplicitModel → Bool
 refusedByFour m = eqb (m .count) 0 || ltb 64 (m .count) || not (orderedTo (map partIn (m .parts)) (m .count))
 
--- what evaluating a model at a point answers: refused by 4, or its value
+-- what evaluating a model at a point answers: refused by 4, or its value (rules M8 and C4)
 unfoldable pub evaluationOf : ImplicitModel → (x y z : Float) → Evaluation
 evaluationOf m x y z =
     firstOf (cause (refusedByFour m) 4 ∷ []) Refused (Value (modelValue (map partIn (m .parts)) (m .count) x y z))

@@ -1,4 +1,4 @@
--- Document 01, "Parts of a model": what a part's value is, and which inputs it has.
+-- What a part's value is, and which inputs it has (rules M2 to M7).
 use Prim.Native.Nat.{ℕ}
 use mathlib.Core.Bool.{Bool, true, _&&_}
 use mathlib.Core.List.{List}
@@ -20,19 +20,19 @@ past = nan
 abbrev pub partIn : ModelComponent → Part
 partIn c = c .part
 
--- "Sphere: distance - r."
+-- how far the point is from the centre, less the radius (rule M4)
 unfoldable pub sphereValue : Vec3 → Float → (x y z : Float) → Float
 sphereValue centre r x y z = sub binary64 (distanceOf centre x y z) r
 
--- "Plane: ((x × nx + y × ny) + z × nz) - d."
+-- ((x × nx + y × ny) + z × nz) - d (rule M5)
 unfoldable pub planeValue : Vec3 → Float → (x y z : Float) → Float
 planeValue n d x y z =
     sub binary64
     (add binary64 (add binary64 (mul binary64 x (n .x)) (mul binary64 y (n .y))) (mul binary64 z (n .z)))
     d
 
--- "A part is a constant, a sphere (centre and radius), a plane (normal and offset) or an operation on earlier parts":
--- its value at a point, from the values of the parts before it. "Operations: min, max, add, sub, neg."
+-- The value at a point of a part of each sort (rule M2), from the values of the parts before it: a constant's own number (rule M3), a shape's
+-- value, or what an operation of binary64 makes of its inputs' values (rules M6 and F1).
 unfoldable pub partValue : Part → (x y z : Float) → List Float → Float
 partValue (Constant w) x y z values = w
 partValue (Sphere centre r) x y z values = sphereValue centre r x y z
@@ -43,7 +43,7 @@ partValue (Add a b) x y z values = add binary64 (getD values a past) (getD value
 partValue (Sub a b) x y z values = sub binary64 (getD values a past) (getD values b past)
 partValue (Neg a) x y z values = neg (getD values a past)
 
--- whether a part's inputs all stand below the place p
+-- whether a part's inputs all stand below the place p (rule M7)
 unfoldable pub inputsBelow : ℕ → Part → Bool
 inputsBelow p (Constant w) = true
 inputsBelow p (Sphere centre r) = true

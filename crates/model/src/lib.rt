@@ -1,4 +1,4 @@
-// A model: parts in a list, each a shape or an operation on earlier parts, after computation_graph.rs and
+// A model: parts in a list, each a shape or an operation on parts before it, after computation_graph.rs and
 // model_component.rs.
 ghost use mathlib.Core.Path.{_≡_};
 ghost use mathlib.Core.Bool.{_&&_};

@@ -17,8 +17,8 @@ mod bits;
 // A row of at most 64 roots.
 mod row;
 
-// The correctly rounded square root: NaN for NaN or a negative number, -0 for -0, +infinity for
-// itself.
+// The correctly rounded square root (rule F2). What is below 0 has none: NaN. A zero and +infinity are
+// their own (rule F3).
 pub fn sqrt(x: f64) -> f64
     ensures { λ r. ⌜ r ≡ squareRoot x ⌝ }
 {

@@ -7,7 +7,7 @@ use lib.Ieee.{Float}
 use Rattle.lists.specs.Slices.{Slice, LentSlice}
 use Rattle.schedule.specs.Memory.{Memory}
 
--- the memory that five slices hold
+-- the memory that five slices hold (rule S1)
 abbrev pub memoryOf : (kinds : List ℕ) (numbers : List Float) (places : List ℕ) (store corners : List Float) → Memory
 memoryOf kinds numbers places store corners =
     record { kinds = kinds; numbers = numbers; places = places; store = store; corners = corners }

@@ -7,7 +7,7 @@ use Rattle.float.specs.Zero.{plusZero}
 use Rattle.schedule.specs.Schedule.{Event, clearCorners, corner, evaluate, makeConstant, makeLeaf, point, work}
 use Rattle.schedule.specs.Plan.{Plan}
 
--- the five lent lists
+-- the five lent lists (rule S1)
 pub record Memory : Type 0 where
   pub kinds : List ℕ
   pub numbers : List Float
@@ -15,7 +15,7 @@ pub record Memory : Type 0 where
   pub store : List Float
   pub corners : List Float
 
--- the memory, and how many leaves there are so far
+-- the memory, and how many leaves there are so far: the next leaf's ordinal (rule S8)
 pub record State : Type 0 where
   pub memory : Memory
   pub leaves : ℕ
@@ -24,7 +24,8 @@ pub record State : Type 0 where
 abbrev pub state : List ℕ → List Float → List ℕ → List Float → List Float → ℕ → State
 state ks ns ps st cs n = record { memory = record { kinds = ks; numbers = ns; places = ps; store = st; corners = cs }; leaves = n }
 
--- what one event does; a point goes to its place in the last leaf's stretch of the store
+-- What one event does: a corner's value goes to its place (rule S5), a point's to its place in the last leaf's stretch of the store (rule S8),
+-- a constant and a leaf to their child's places (rules S7 and S8), and the corners are cleared (rule S9).
 unfoldable pub apply : Plan → Event → State → State
 apply P (evaluate (corner v i) x) s =
     let m = s .memory in state (m .kinds) (m .numbers) (m .places) (m .store) (set (m .corners) i x) (s .leaves)

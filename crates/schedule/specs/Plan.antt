@@ -3,7 +3,7 @@ use Prim.Native.Nat.{ℕ}
 use mathlib.Core.Bool.{Bool}
 use lib.Ieee.{Float}
 
--- what an active child becomes: a constant with its kind and its number, or a leaf
+-- what an active child becomes: a constant with its kind and its number, or a leaf (rules S6 to S8)
 pub data Decision : Type 0 where
   constant : ℕ → Float → Decision
   leaf : Decision

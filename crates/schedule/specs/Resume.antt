@@ -1,4 +1,4 @@
--- A cursor names the next evaluation of a job, or its end; what is left of the schedule follows from it and from what the corners hold.
+-- What is left of a schedule, from a cursor and from what the corners hold (rule S12).
 use Prim.Native.Nat.{ℕ, suc, _-_}
 use mathlib.Core.List.{List, [], _∷_, _++_}
 use lib.ListN.{getD}
@@ -8,12 +8,12 @@ use Rattle.schedule.specs.Memory.{State}
 use Rattle.schedule.specs.Schedule.{Event, Site, childrenFrom, clearCorners, corner, cornersFrom, evaluate, filled, nodesFrom, point, pointsFrom, work}
 use Rattle.schedule.specs.Plan.{Plan}
 
--- the end, or the site of the next evaluation
+-- the end, or the site of the next evaluation (rule S12)
 pub data Cursor : Type 0 where
   end : Cursor
   at : Site → Cursor
 
--- the cursor where a list of events is left
+-- the cursor where a list of events is left (rule S12)
 unfoldable pub cursorOf : List Event → Cursor
 cursorOf [] = end
 cursorOf (evaluate s x ∷ es) = at s

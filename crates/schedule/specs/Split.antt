@@ -1,4 +1,4 @@
--- How far k evaluations go in a list of events: up to the next evaluation, with the work before it.
+-- How far k evaluations go in a list of events: through all work that follows them (rule S11).
 use Prim.Native.Nat.{ℕ, zero, suc}
 use mathlib.Core.List.{List, [], _∷_}
 use Rattle.schedule.specs.Schedule.{Event, evaluate, work}
@@ -12,7 +12,7 @@ pub record Split : Type 0 where
 abbrev pub prepend : Event → Split → Split
 prepend e c = record { made = e ∷ c .made; rest = c .rest }
 
--- the parts after k evaluations
+-- the parts after k evaluations (rule S11)
 unfoldable pub split : ℕ → List Event → Split
 split k [] = record { made = []; rest = [] }
 split zero (evaluate s x ∷ es) = record { made = []; rest = evaluate s x ∷ es }

@@ -1,4 +1,4 @@
--- Kinds of a node and of all nodes: by the tables of three axes, and in the parts of a slice whose kinds are nonzero at just the active children.
+-- Kinds of a node and of all nodes: by the tables of three axes, and in the parts of a slice whose kinds are as rule R8 wants them.
 use mathlib.Core.Path.{_≡_, refl, sym, ap, _∙_}
 use mathlib.Core.Bool.{Bool, true, false, not, _&&_, _||_}
 use mathlib.Core.List.{List, [], _∷_, _++_, append-nil}
@@ -167,7 +167,7 @@ needed-cong n act other same corner =
     any-cong (cube n) (λ c. act c && corners.among corner (corners.octet n c)) (λ c. other c && corners.among corner (corners.octet n c))
     (λ c h. ap (λ (b : Bool). b && corners.among corner (corners.octet n c)) (same c h))
 
--- ---- one node's part of the kinds
+-- ---- the kinds of one node
 
 module _ (g : Grid) (band : Band) (value : Float → Float → Float → Float) (l : List ℕ) (right : ActiveKinds (planWith g band value) l)
     (long : nodesOf g * cube (g .inner) ≤ length l) (v : ℕ) (below : v < nodesOf g) {first d : ℕ} (from : first ≡ v * cube (g .inner)) (size : d ≡ cube (g .inner)) where

@@ -68,7 +68,7 @@ plan-laws g band value above = record {
   constantKind = λ v c read k x decided. decide-kind band (boxOf g v c) (map read (corners.octet (g .inner) c)) k x decided;
 }
 
--- ---- one node's part of the kinds
+-- ---- the kinds of one node
 
 module _ (g : Grid) (band : Band) (value : Float → Float → Float → Float) (l : List ℕ) (right : ActiveKinds (planWith g band value) l)
     (long : nodesOf g * cube (g .inner) ≤ length l) (v : ℕ) (below : v < nodesOf g) {first d : ℕ} (from : first ≡ v * cube (g .inner)) (size : d ≡ cube (g .inner)) where

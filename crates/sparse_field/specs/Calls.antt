@@ -1,4 +1,4 @@
--- What open, step and drop hand back and leave in the lent slices, for every record and memory.
+-- What open, step and drop hand back and leave in the lent slices, for every record and memory (rule C55).
 use Rattle.schedule.specs.Memory.{Memory}
 use Rattle.schedule.specs.Calls as calls
 use Rattle.schedule.specs.Engine.{Engine, engineCall}
@@ -13,14 +13,14 @@ pub record Handed : Type 0 where
   pub outcome : Outcome
   pub memory : Memory
 
--- what the engine's outcome is in the code: a refused call hands back the record that it was given
+-- what the engine's outcome is in the code: a refused call hands back the record that it was given (rules R5 and C54)
 abbrev pub handed : Record → calls.Answer → Engine sparse → Handed
 handed r calls.accepted e =
     record { outcome = record { answer = Accepted; next = recordOut (e .jobRecord) }; memory = e .memory }
 handed r (calls.refused n) e =
     record { outcome = record { answer = Refused n; next = r }; memory = e .memory }
 
--- a call on a record and a memory
+-- a call on a record and a memory (rules S13 to S15)
 unfoldable pub called : calls.Call sparse → Record → Memory → Handed
 called c r m =
     let o = engineCall sparse c (record { jobRecord = recordIn r; memory = m }) in

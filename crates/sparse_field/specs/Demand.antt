@@ -18,7 +18,7 @@ use Rattle.sparse_field.specs.Records.{sparse}
 use Rattle.sparse_field.specs.Lists.{Call, Held, onHeld, engineIn}
 
 -- Any list of opens, steps and drops, refused ones among them, from any record without a job and any contents of the memory: the answers,
--- every element, and the job with its counts are the ledger's.
+-- every element, and the job with its counts are the ledger's (rule L10).
 abbrev pub DemandThree : Type 0
 DemandThree =
     (cs : List Call) (s : Held) → s .held .job ≡ false
@@ -30,7 +30,7 @@ DropLeavesZeros =
     (cs : List Call) (s : Held) → s .held .job ≡ false
     → run onHeld (cs ++ (drops ∷ [])) s .last .memory ≡ zeroMemory (lengthsOf (s .memory))
 
--- Two jobs of one input and equal slice lengths, in one list or in two, given budgets of equal sum since their opens, hold equal elements.
+-- Two jobs of one input and equal slice lengths, in one list or in two, given budgets of equal sum since their opens, hold equal elements (rule L11).
 abbrev pub EqualBudgets : Type 0
 EqualBudgets =
     (cs₁ cs₂ : List Call) (s₁ s₂ : Held) → s₁ .held .job ≡ false → s₂ .held .job ≡ false → lengthsOf (s₁ .memory) ≡ lengthsOf (s₂ .memory)

@@ -1,4 +1,4 @@
--- Whole lists of calls, as the code makes them: each call with its input or budget, on a record and a memory.
+-- Whole lists of calls, as the code makes them: each call with its input or budget, on a record and a memory (rules L1 and L3).
 use Prim.Native.Nat.{ℕ}
 use mathlib.Core.List.{List}
 use Rattle.schedule.specs.Memory.{Memory}

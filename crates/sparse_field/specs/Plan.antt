@@ -1,4 +1,4 @@
--- Document 01, "Sparse field": the plan of an input, all that its schedule uses of it.
+-- The plan of an input: all that its schedule uses of it (rules S5 to S8).
 use Prim.Native.Nat.{ℕ, _+_}
 use mathlib.Core.Bool.{cond}
 use mathlib.Core.List.{List, map}
@@ -19,7 +19,8 @@ use Rattle.grid.specs.Pruning as pruning
 use Rattle.schedule.specs.Plan.{Plan, Decision, constant, leaf}
 use Rattle.sparse_field.specs.declared.Input.{Input}
 
--- "an active child becomes constant exactly when hi + h < min_val or lo - h > max_val, else a leaf. A constant is (0 + c0 + .. + c7) / 8": by its box and its octet's values
+-- what a child becomes, by its box and its octet's values: a constant of kind 1 with their mean where it is pruned, else a leaf (rules G13,
+-- G14 and S7)
 unfoldable pub decideOf : Band → BoundingBox → List Float → Decision
 decideOf band b octet =
     cond (pruning.pruned (band .min) (band .max) (pruning.lowest octet) (pruning.highest octet) (pruning.halfDiagonal b))
@@ -30,11 +31,11 @@ decideOf band b octet =
 abbrev pub at : (Float → Float → Float → Float) → Vec3 → Float
 at value p = value (p .x) (p .y) (p .z)
 
--- the box of child c of node v
+-- the box of child c of node v (rules G5 and G6)
 unfoldable pub boxOf : Grid → (v c : ℕ) → BoundingBox
 boxOf g v c = boxes.childBox (boxes.nodeBox g v) (g .inner) c
 
--- the plan of a grid, a band and a function of points
+-- the plan of a grid, a band and a function of points: the grid's rules, in the terms of the schedule (rules G7 to G15)
 unfoldable pub planWith : Grid → Band → (Float → Float → Float → Float) → Plan
 planWith g band value = record {
   nodes = nodesOf g;
@@ -48,7 +49,7 @@ planWith g band value = record {
   pointValue = λ v c p. at value (leafPoint (boxOf g v c) (g .leaf) p);
 }
 
--- a model's value at a point
+-- a model's value at a point (rule M8)
 abbrev pub valueOf : ImplicitModel → (x y z : Float) → Float
 valueOf m x y z = modelValue (map partIn (m .parts)) (m .count) x y z
 

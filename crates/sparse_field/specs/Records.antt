@@ -1,4 +1,4 @@
--- The record that the code hands on, and the schedule's record that it stands for.
+-- The record that the code hands on, and the schedule's record that it stands for (rule R1).
 use Prim.Native.Nat.{ℕ}
 use mathlib.Core.Bool.{Bool, true, false}
 use lib.ListN.{replicate}
@@ -34,7 +34,7 @@ abbrev pub numberOf : Refusal → ℕ
 numberOf None = 0
 numberOf (By n) = n
 
--- the inputs of sparse fields: the causes of open, and the plan of each
+-- the inputs of sparse fields: the causes of open, and the plan of each (rule C53)
 abbrev pub sparse : Inputs
 sparse = record { Input = Input; cause = λ l i. numberOf (refusalOf (i .grid) (i .band) (i .model) (lent l)); plan = planOf }
 
@@ -55,7 +55,7 @@ cursorIn (Point v c p) = resume.at (schedule.point v c p)
 abbrev pub jobIn : Record → Job sparse
 jobIn r = record { input = r .input; lengths = lengthsIn (r .lengths); counts = countsIn (r .counts); cursor = cursorIn (r .cursor) }
 
--- where the flag is false there is no job, whatever the other fields hold
+-- where the flag is false there is no job, whatever the other fields hold (rule R4)
 abbrev pub byFlag : Bool → Record → JobRecord sparse
 byFlag false r = noJob
 byFlag true r = job (jobIn r)
@@ -85,7 +85,7 @@ noInput = record {
   model = noModel;
 }
 
--- the record without a job that the engine makes: every other field is zero
+-- the record without a job that the engine makes: every other field is zero (rule R4)
 abbrev pub noRecord : Record
 noRecord = record {
   job = false;

@@ -128,8 +128,8 @@ fn stepped(
     )
 }
 
-// Makes as many evaluations as the budget allows and the job has left. Work without an evaluation runs
-// on. Refused by 7 without a job, and by 8 with an impossible record.
+// Makes as many evaluations as the budget allows and the job has left, and the work that goes with
+// them (rules S11 and S14). Refused by 7 without a job, and by 8 with an impossible record.
 pub fn step(
     found: Record,
     budget: u64,

@@ -1,5 +1,5 @@
 // A node's children, in order: each active one is decided, and a leaf's points are evaluated into
-// its own stretch of the store.
+// the stretch of the store that is its own (rule S8).
 ghost use mathlib.Core.Path.{_≡_};
 ghost use Prim.Native.Nat.{_+_, _-_, _*_, suc, _≤_, _<_, min};
 ghost use lib.ListN.{length};

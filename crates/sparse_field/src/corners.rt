@@ -75,7 +75,7 @@ fn has_child(n: usize, kinds: &[u8], i: usize, j: usize, k: usize) -> bool
     false
 }
 
-// Whether an active child has the corner, in one node's part of the kinds.
+// Whether an active child has the corner, by the kinds of one node.
 pub fn is_needed(n: u32, kinds: &[u8], corner: usize) -> bool
     requires { ⌜ (0 < n) × (n ≤ 64) × (length (now kinds) ≡ cube n) × (corner < cube (n + 1)) ⌝ }
     ensures { λ r. ⌜ r ≡ needed n (nonzero (now (kinds .entry))) corner ⌝ }

@@ -133,7 +133,7 @@ fn point_right(input: Input, v: usize, c: usize, p: usize) -> bool
     p < cube_of(g.leaf)
 }
 
-// Whether a cursor is at the end, at a needed corner, or at a point of an active child.
+// Whether a cursor is one that its plan has (rule R11).
 fn cursor_right(input: Input, kinds: &[u8], cursor: Cursor) -> bool
     requires { ⌜ RightKinds input (now kinds) ⌝ }
     ensures { λ r. ⌜ r ≡ validCursor (planOf input) (cursorIn cursor) ⌝ }
@@ -160,7 +160,7 @@ fn count_nonzero(kinds: &[u8]) -> u64
     count
 }
 
-// The active children up to a cursor, its own child included.
+// The active children that can be decided at a cursor (rule R12).
 fn active_up_to(input: Input, kinds: &[u8], cursor: Cursor) -> u64
     requires { ⌜ RightKinds input (now kinds) × (validCursor (planOf input) (cursorIn cursor) ≡ true) ⌝ }
     ensures { λ r. ⌜ r ≡ activeUpTo (planOf input) (cursorIn cursor) ⌝ }
@@ -191,7 +191,7 @@ fn inside_child(cursor: Cursor) -> bool
     }
 }
 
-// Whether the leaves exceed the active children up to the cursor, or are 0 inside a child.
+// Whether there are too many leaves for the cursor (rule R12), or none inside a child (rule R13).
 fn wrong_leaves(input: Input, kinds: &[u8], cursor: Cursor, leaves: u64) -> bool
     requires { ⌜ RightKinds input (now kinds) × (validCursor (planOf input) (cursorIn cursor) ≡ true) ⌝ }
     ensures { λ r. ⌜ r ≡ wrongLeaves (planOf input) (cursorIn cursor) leaves ⌝ }

@@ -1,6 +1,6 @@
-// The kinds of all children: as open sets them, and whether lent kinds are nonzero at just the
-// active ones. A child is active exactly where it is on each axis, so that three tables for a node
-// are enough: an axis is tested once for a slab and once for a row.
+// The kinds of all children: as open sets them, and whether lent kinds are as rule R8 wants them. A
+// child is active exactly where it is on each axis, so that three tables for a node are enough: an
+// axis is tested once for a slab and once for a row.
 ghost use mathlib.Core.Path.{_≡_};
 ghost use mathlib.Core.Bool.{false, _&&_};
 ghost use Prim.Native.Nat.{ℕ, _*_, _≤_, _<_};
@@ -252,7 +252,7 @@ fn nodes_right(g: Grid, nodes: usize, kinds: &[u8]) -> bool
     true
 }
 
-// Whether kinds are nonzero at just the active children, also past the last node's.
+// Whether kinds are as rule R8 wants them, also past the last node's.
 pub fn kinds_right(input: Input, kinds: &[u8]) -> bool
     requires { ⌜ (refusedByTwo (input .grid) ≡ false) × (refusedByFive (input .grid) ≡ false)
         × (nodesOf (input .grid) * cube (input .grid .inner) ≤ length (now kinds)) ⌝ }

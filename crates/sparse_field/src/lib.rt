@@ -36,7 +36,7 @@ pub struct Counts {
     pub evaluations: u64,
 }
 
-// The next evaluation, or the end: a corner of a node, or a point of a node's child.
+// Where a job stands (rule S12): at the end, or before a corner of a node or a point of a node's child.
 pub enum Cursor {
     End,
     Corner(usize, usize),

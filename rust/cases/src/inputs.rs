@@ -14,7 +14,7 @@ const SOME: [f64; 2] = [-0.25, 0.0];
 /// The plane x = 0.
 const X_PLANE: Part = Part::Plane([1.0, 0.0, 0.0], 0.0);
 
-/// A grid, with the scope's band and model.
+/// A grid, with the band and the model of the plane case.
 pub fn of_grid(min: [f64; 3], max: [f64; 3], cell: f64, inner: u32, leaf: u32) -> Input {
     Input {
         min,
@@ -45,8 +45,8 @@ pub fn with_band(input: Input, band: [f64; 2]) -> Input {
     }
 }
 
-/// The scope's case: 4 leaves and 4 constants, 59 evaluations.
-pub fn scope_case() -> Input {
+/// The plane case: 4 leaves and 4 constants, 59 evaluations.
+pub fn plane_case() -> Input {
     of_grid([0.0; 3], [2.0; 3], 1.0, 2, 2)
 }
 
@@ -110,7 +110,7 @@ pub fn both(a: Lengths, b: Lengths) -> Lengths {
 
 /// An input for each of the causes 1 to 5, with no cause below it.
 pub fn refused() -> Vec<Input> {
-    let good = scope_case;
+    let good = plane_case;
     vec![
         Input {
             max: [2.0, f64::NAN, 2.0],

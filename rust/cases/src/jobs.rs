@@ -77,7 +77,7 @@ pub const LARGE: Size = Size {
 
 /// Of ordinary size with all digits.
 pub fn full(random: &mut Random) -> f64 {
-    let bits = random.next();
+    let bits = random.draw();
     let exponent = 1018 + bits % 8;
     f64::from_bits((bits & 0x800f_ffff_ffff_ffff) | exponent << 52)
 }

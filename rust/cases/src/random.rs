@@ -11,7 +11,8 @@ impl Random {
         Random { state: seed }
     }
 
-    pub fn next(&mut self) -> u64 {
+    /// Any 64 bits.
+    pub fn draw(&mut self) -> u64 {
         self.state = self.state.wrapping_add(0x9e37_79b9_7f4a_7c15);
         let mut z = self.state;
         z = (z ^ (z >> 30)).wrapping_mul(0xbf58_476d_1ce4_e5b9);
@@ -21,7 +22,7 @@ impl Random {
 
     /// A number below n.
     pub fn below(&mut self, n: u64) -> u64 {
-        self.next() % n
+        self.draw() % n
     }
 
     /// A number from low to high, both included.
@@ -32,7 +33,7 @@ impl Random {
     /// A whole number with exactly this many binary digits.
     pub fn with_digits(&mut self, count: u32) -> u64 {
         let top = 1u64 << (count - 1);
-        top | (self.next() & (top - 1))
+        top | (self.draw() & (top - 1))
     }
 
     pub fn pick<T: Copy>(&mut self, from: &[T]) -> T {

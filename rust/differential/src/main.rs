@@ -1,5 +1,5 @@
 //! Random jobs and dense cases: the C interface against the original, bit for
-//! bit, any NaN as any other. Where a cause of the scope refuses a call the
+//! bit, any NaN as any other. Where a cause refuses a call the
 //! original is not asked: the answer is the cause's number.
 //!
 //! usage: differential [JOBS [DENSE [SEED [FIRST]]]]
@@ -20,7 +20,7 @@ struct Tally {
     cases: u64,
     /// Those that a cause refuses.
     refused: u64,
-    /// Those that the scope answers and the original has no answer to.
+    /// Those that the rules answer and the original has no answer to.
     by_rule: u64,
     numbers: u64,
     /// Those of them that are NaN.

@@ -1,4 +1,4 @@
-//! Calls on dense fields against the scope's rules, bit for bit: a computed NaN
+//! Calls on dense fields against the rules, bit for bit: a computed NaN
 //! has one pattern, and a copied one keeps its own. The points and boxes of grid
 //! walks follow the original and are not worked out here; of their NaNs the
 //! pattern is compared.
@@ -132,7 +132,7 @@ fn whole(values: Vec<f64>) -> Vec<u64> {
 
 /// An input whose model has these parts. The rest of it is not looked at.
 fn of_parts(parts: &[Part]) -> Input {
-    cases::inputs::with_parts(cases::inputs::scope_case(), parts)
+    cases::inputs::with_parts(cases::inputs::plane_case(), parts)
 }
 
 fn smoothed(n: Triple, factor: f64, old: &[f64]) -> Vec<f64> {

@@ -52,7 +52,7 @@ fn float(random: &mut Random, floats: &mut [u64]) {
     floats[at] = match random.below(3) {
         0 => random.pick(&SPECIAL),
         1 => floats[at].wrapping_add(random.pick(&[1, u64::MAX])),
-        _ => random.next(),
+        _ => random.draw(),
     };
 }
 
@@ -134,7 +134,7 @@ pub fn forge(random: &mut Random, host: &mut Host) {
             let places = host.places.elements_mut();
             if !places.is_empty() {
                 let at = random.below(places.len() as u64) as usize;
-                places[at] = random.next() as u32;
+                places[at] = random.draw() as u32;
             }
         }
         _ => likely(random, host),

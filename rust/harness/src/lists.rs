@@ -94,7 +94,7 @@ impl List<'_> {
             .collect();
         if random.below(4) == 0 {
             inputs.push(match random.below(6) {
-                0 => inputs::scope_case(),
+                0 => inputs::plane_case(),
                 1 => inputs::one_child(),
                 2 => inputs::no_child(),
                 3 => inputs::empty_node(),
@@ -140,7 +140,7 @@ impl List<'_> {
             2 => 1,
             3 => {
                 let digits = random.below(64);
-                random.next() >> digits
+                random.draw() >> digits
             }
             _ => {
                 let most = random.pick(&[3, 10, 30, 100]);

@@ -22,9 +22,9 @@ impl Bits {
         match self.style {
             0 => 0,
             1 => u64::MAX,
-            2 => 0x7ff0_0000_0000_0001 | random.next(),
+            2 => 0x7ff0_0000_0000_0001 | random.draw(),
             3 => random.pick(&SPECIAL),
-            _ => random.next(),
+            _ => random.draw(),
         }
     }
 }

@@ -112,7 +112,7 @@ impl<'a> DenseField<'a> {
         )
     }
 
-    /// Sets every point with an index 0 or last to a value.
+    /// Sets every point on the outside of the field to a value.
     pub fn pad(&mut self, value: f64) {
         certain(engine::padding(self.dimensions, value, self.values));
     }

@@ -143,7 +143,7 @@ impl<'m> Job<'m> {
         certain(self.record.counts())
     }
 
-    /// The next evaluation, or the end.
+    /// Where the job stands.
     pub fn cursor(&self) -> Cursor {
         certain(self.record.cursor())
     }

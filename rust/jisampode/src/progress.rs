@@ -37,7 +37,7 @@ impl Progress {
 }
 
 /// The most evaluations that a job can make: the needed corners of all nodes, and
-/// L³ points for each active child. The kinds stay nonzero at just the active
+/// L³ points for each active child. What has a kind above 0 stays the active
 /// children while a job lives, so it comes out the same at any time.
 pub(crate) fn most(record: &Record, counts: Counts, memory: &Memory<'_>) -> u64 {
     let inner = record.inner();

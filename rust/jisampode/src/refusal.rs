@@ -17,14 +17,14 @@ use std::fmt;
 #[derive(Debug, Clone, Copy, PartialEq, Eq, Hash)]
 pub enum Refusal {
     /// A bound or an origin is not finite, a highest bound is below the lowest, or
-    /// the cell size is not finite or not above 0.
+    /// the cell size is infinite, NaN, 0 or negative (rule C1).
     Bounds = 1,
-    /// A block size is not 2, 4, 8, 16, 32 or 64.
+    /// No block has the inner or the leaf size (rule C2).
     Blocks = 2,
     /// A limit of the band is NaN.
     Band = 3,
-    /// A model has no part or more than 64, or a part's input is not below its own
-    /// place.
+    /// A model has no part or more than 64, or a part with an input that does not
+    /// stand before it (rule C4).
     Model = 4,
     /// The node size is not finite, there are over 1,024 nodes along an axis, or
     /// over 16,777,216 children.
@@ -40,8 +40,8 @@ pub enum Refusal {
     Dimensions = 9,
     /// A cell is outside the field.
     Outside = 10,
-    /// A walk has a count below 2 points or 1 cell or above 16,777,216 along an
-    /// axis, or starts at an i or j not below its count.
+    /// A walk has too few or too many points or cells along an axis, or starts
+    /// outside them (rule C11).
     Walk = 11,
     /// A job's text is off its form. No call returns it: a listing has it, with the
     /// line ([`listed_refusal`](crate::listed_refusal)).

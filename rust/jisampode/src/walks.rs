@@ -136,7 +136,7 @@ impl FusedIterator for Cells {}
 
 /// The values at the corners of a dense field's cells, x fastest:
 /// [`DenseField::octets`](crate::DenseField::octets) makes it. A cell's corners are
-/// (0,0,0) (1,0,0) (1,1,0) (0,1,0), then the same with k + 1.
+/// (0,0,0) (1,0,0) (1,1,0) (0,1,0), and these four with 1 for k.
 ///
 /// ```
 /// use jisampode::{DenseField, Dimensions, Refusal};

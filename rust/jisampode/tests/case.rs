@@ -1,4 +1,4 @@
-//! The scope's case, `(done 1 8 4 32 59)`, with all its values.
+//! The plane case, `(done 1 8 4 32 59)`, with all its values.
 
 use jisampode::{Child, Counts, Cursor, OwnedMemory};
 

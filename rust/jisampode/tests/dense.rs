@@ -1,4 +1,4 @@
-//! Dense fields: the scope's examples, and cause 9.
+//! Dense fields: measured facts, and cause 9.
 
 use jisampode::{point_count, Bounds, DenseField, Dimensions, Model, Part, Points, Refusal};
 
@@ -70,7 +70,7 @@ fn every_part() {
 
 #[test]
 fn smoothing_three_by_three_by_three() {
-    // The centre 0, its six neighbours 6.
+    // A 0 in the middle, and sixes around it.
     let mut values = [0.0; 27];
     for place in [4, 10, 12, 14, 16, 22] {
         values[place] = 6.0;

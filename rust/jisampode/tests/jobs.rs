@@ -2,7 +2,7 @@
 
 use jisampode::{Bounds, JobBuilder, Lengths, Memory, Model, OwnedMemory};
 
-/// The scope's case: a plane in a box of 2×2×2.
+/// The plane case: a plane in a box of 2×2×2.
 pub fn case() -> JobBuilder {
     let mut model = Model::new();
     model.plane([1.0, 0.0, 0.0], 0.0).unwrap();

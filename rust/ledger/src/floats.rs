@@ -14,7 +14,7 @@ pub fn computed(x: f64) -> f64 {
     }
 }
 
-/// a if b is NaN, else b if a is NaN or b < a, else a.
+/// The smaller, a number before a NaN (rule F9).
 pub fn min(a: f64, b: f64) -> f64 {
     if b.is_nan() {
         a
@@ -25,7 +25,7 @@ pub fn min(a: f64, b: f64) -> f64 {
     }
 }
 
-/// a if b is NaN, else b if a is NaN or b > a, else a.
+/// The larger, a number before a NaN (rule F10).
 pub fn max(a: f64, b: f64) -> f64 {
     if b.is_nan() {
         a

@@ -79,7 +79,7 @@ impl Input {
         some && (0..self.count).all(|p| self.part(p).inputs_below(p))
     }
 
-    /// The model's value at a point: its last part's, computed in list order.
+    /// The model's value at a point: that of its last part (rule M8).
     pub fn value(&self, p: [f64; 3]) -> f64 {
         let mut values = Vec::new();
         for place in 0..self.count {

@@ -10,7 +10,7 @@ struct Job {
     k: u64,
 }
 
-/// The elements, and either no job or a job's input with a count k.
+/// The lent elements, and the job where there is one (rule L2).
 pub struct Ledger {
     lengths: Lengths,
     /// The elements as they are while there is no job.

@@ -13,7 +13,7 @@ pub struct Lengths {
 
 #[derive(Debug, Clone)]
 pub struct Memory {
-    /// 0 empty, 1 active or constant, 2 leaf.
+    /// A kind for each child (rule S2).
     pub kinds: Vec<u8>,
     pub numbers: Vec<f64>,
     /// A leaf's ordinal.

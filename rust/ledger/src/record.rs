@@ -6,7 +6,7 @@ use crate::input::Input;
 use crate::memory::{Answer, Call, Counts, Lengths, Memory};
 use crate::schedule::{self, Event, Site, State};
 
-/// The next evaluation, or the end.
+/// Where a job stands (rule S12).
 #[derive(Debug, Clone, Copy, PartialEq, Eq)]
 pub enum Cursor {
     End,
@@ -128,13 +128,13 @@ impl Record {
         *memory = state.memory;
     }
 
-    /// Whether a record with a job is impossible with these slices.
+    /// Whether rules R6 to R13 call the record's job impossible with these slices.
     pub fn impossible(&self, memory: &Memory) -> bool {
-        // its input meets a cause of open,
+        // An open of its input would be refused (rule R6).
         if grid::cause(&self.input, memory.lengths()).is_some() {
             return true;
         }
-        // its slice lengths are not those now lent,
+        // It was opened on slices of other lengths (rule R7).
         if self.lengths != memory.lengths() {
             return true;
         }
@@ -169,8 +169,8 @@ fn events_at(grid: &Grid, cursor: Cursor, corners: &[f64]) -> Vec<Event> {
     events
 }
 
-/// Lent kinds are not nonzero at just the active children, or are nonzero past
-/// the last child.
+/// A kind is 0 at an active child, or not 0 elsewhere, past the last child too
+/// (rule R8).
 fn kinds_wrong(grid: &Grid, kinds: &[u8]) -> bool {
     let children = grid.children();
     let active = |place: u64| {
@@ -181,8 +181,8 @@ fn kinds_wrong(grid: &Grid, kinds: &[u8]) -> bool {
         .any(|(place, &kind)| (kind != 0) != active(place))
 }
 
-/// Nodes or active are not the grid's, sampled is not leaves × L³, or
-/// evaluations exceed the bound.
+/// Counts that do not fit the grid or each other (rule R9), or too many
+/// evaluations (rule R10).
 fn counts_wrong(grid: &Grid, counts: &Counts) -> bool {
     let wide = u128::from;
     let points = grid.leaf_points();
@@ -193,8 +193,7 @@ fn counts_wrong(grid: &Grid, counts: &Counts) -> bool {
         || counts.evaluations > bound
 }
 
-/// The cursor is neither at the end nor at a needed corner nor at a point of
-/// an active child.
+/// A cursor that no job of the grid has (rule R11).
 fn cursor_wrong(grid: &Grid, cursor: Cursor) -> bool {
     let right = match cursor {
         Cursor::End => true,
@@ -211,8 +210,7 @@ fn cursor_wrong(grid: &Grid, cursor: Cursor) -> bool {
     !right
 }
 
-/// Leaves exceed the active children up to the cursor (its own child included)
-/// or are 0 inside a child.
+/// Too many leaves for the cursor (rule R12), or none inside a child (rule R13).
 fn leaves_wrong(grid: &Grid, cursor: Cursor, leaves: u64) -> bool {
     let whole = |v: u64| {
         (0..v)

@@ -1,4 +1,4 @@
-//! Cases whose results are known: the scope's own, and those that its
+//! Cases whose results are known: the plane case, and those that its
 //! measurements and the differences name.
 
 use crate::floats::NAN;
@@ -9,7 +9,7 @@ use crate::{Answer, Call, Counts, Input, Ledger, Lengths, Memory, Part};
 
 const X_PLANE: Part = Part::Plane([1.0, 0.0, 0.0], 0.0);
 
-/// The scope's case with other bounds, cell and blocks.
+/// The plane case with other bounds, cell and blocks.
 fn input(min: [f64; 3], max: [f64; 3], cell: f64, inner: u32, leaf: u32) -> Input {
     Input {
         min,
@@ -24,7 +24,7 @@ fn input(min: [f64; 3], max: [f64; 3], cell: f64, inner: u32, leaf: u32) -> Inpu
     }
 }
 
-fn scope_case() -> Input {
+fn plane_case() -> Input {
     input([0.0; 3], [2.0; 3], 1.0, 2, 2)
 }
 
@@ -69,8 +69,8 @@ fn finished(input: &Input, lengths: Lengths) -> Ledger {
 }
 
 #[test]
-fn the_scope_case() {
-    let ledger = finished(&scope_case(), lengths(8, 64, 27));
+fn the_plane_case() {
+    let ledger = finished(&plane_case(), lengths(8, 64, 27));
     assert_eq!(ledger.counts(), Some(counts([1, 8, 4, 32, 59])));
     let memory = ledger.elements();
     assert_eq!(memory.kinds, [2, 1, 2, 1, 2, 1, 2, 1]);
@@ -86,7 +86,7 @@ fn the_scope_case() {
 fn budgets_add_up() {
     let mut one = Ledger::new(poisoned(lengths(9, 70, 30)));
     let mut other = Ledger::new(Memory::zero(lengths(9, 70, 30)));
-    let open = Call::Open(scope_case());
+    let open = Call::Open(plane_case());
     one.call(&open);
     other.call(&open);
     for k in 0..59 {
@@ -108,11 +108,11 @@ fn drops_and_refusals() {
     let mut ledger = Ledger::new(poisoned(lengths(8, 64, 27)));
     let before = ledger.elements();
     assert_eq!(ledger.call(&Call::Step(5)), Answer::Refused(7));
-    let mut bad = scope_case();
+    let mut bad = plane_case();
     bad.cell = 0.0;
     assert_eq!(ledger.call(&Call::Open(bad)), Answer::Refused(1));
     assert!(ledger.elements().same_bits(&before));
-    ledger.call(&Call::Open(scope_case()));
+    ledger.call(&Call::Open(plane_case()));
     ledger.call(&Call::Step(30));
     ledger.call(&Call::Drop);
     assert_eq!(ledger.counts(), None);
@@ -216,7 +216,7 @@ fn a_node_below_the_spacing_of_its_place() {
 #[test]
 fn causes_in_order() {
     let long = lengths(8, 64, 27);
-    let mut all = scope_case();
+    let mut all = plane_case();
     all.band_max = f64::NAN;
     all.count = 0;
     all.inner = 3;
@@ -239,17 +239,17 @@ fn causes_in_order() {
     assert_eq!(cause(&all, long), Some(5));
     all.cell = 1.0;
     assert_eq!(cause(&all, long), Some(6));
-    assert_eq!(cause(&scope_case(), long), None);
+    assert_eq!(cause(&plane_case(), long), None);
     for short in [lengths(7, 64, 27), lengths(8, 63, 27), lengths(8, 64, 26)] {
-        assert_eq!(cause(&scope_case(), short), Some(6));
+        assert_eq!(cause(&plane_case(), short), Some(6));
     }
 }
 
-/// The scope's case after so many evaluations, as a record.
+/// The plane case after so many evaluations, as a record.
 fn record_at(k: u64) -> (Record, Memory) {
     let mut memory = poisoned(lengths(9, 70, 30));
     let mut record = Record::none();
-    record.call(&Call::Open(scope_case()), &mut memory);
+    record.call(&Call::Open(plane_case()), &mut memory);
     record.call(&Call::Step(k), &mut memory);
     (record, memory)
 }
@@ -259,7 +259,7 @@ fn a_record_goes_the_way_of_the_ledger() {
     for k in 0..60 {
         let (record, memory) = record_at(k);
         let mut ledger = Ledger::new(poisoned(lengths(9, 70, 30)));
-        ledger.call(&Call::Open(scope_case()));
+        ledger.call(&Call::Open(plane_case()));
         ledger.call(&Call::Step(k));
         assert_eq!(ledger.counts(), Some(record.counts));
         assert_eq!(ledger.finished(), Some(record.finished()));

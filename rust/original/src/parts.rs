@@ -1,7 +1,7 @@
 //! The parts of a model, as components of the original.
 //!
-//! The shapes and operations stand in for trait bodies of the original; they
-//! are written from the rules of the engine. The order of the work, the
+//! The original has traits for the shapes and operations and no bodies of them
+//! at hand; these are written from rules M3 to M6. The order of the work, the
 //! values of the inputs and the distance are the original's.
 
 use crate::types::computation::model::{
@@ -39,7 +39,7 @@ impl Part {
     }
 }
 
-/// min(a, b): a if b is NaN, else b if a is NaN or b < a, else a.
+/// The smaller, a number before a NaN (rule F9).
 pub fn min(a: f64, b: f64) -> f64 {
     if b.is_nan() {
         a
@@ -50,7 +50,7 @@ pub fn min(a: f64, b: f64) -> f64 {
     }
 }
 
-/// max(a, b): a if b is NaN, else b if a is NaN or b > a, else a.
+/// The larger, a number before a NaN (rule F10).
 pub fn max(a: f64, b: f64) -> f64 {
     if b.is_nan() {
         a
@@ -185,8 +185,7 @@ pub struct Model {
 }
 
 impl Model {
-    /// None where the rules refuse the model: no part, too many parts, or a
-    /// part's input not below its own place.
+    /// None where cause 4 refuses the model (rule C4).
     pub fn new(parts: &[Part]) -> Option<Model> {
         if parts.is_empty() || parts.len() > MOST_PARTS {
             return None;

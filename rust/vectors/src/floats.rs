@@ -91,7 +91,7 @@ fn special_roots(lines: &mut Lines) {
 /// Every exponent of a normal number.
 fn every_exponent(lines: &mut Lines, random: &mut Random) {
     for exponent in 1..=2046 {
-        lines.root(normal(exponent, random.next()));
+        lines.root(normal(exponent, random.draw()));
     }
 }
 
@@ -233,13 +233,13 @@ fn selections(lines: &mut Lines, random: &mut Random) {
         }
     }
     for _ in 0..60 {
-        let a = normal(random.between(1, 2046) as u64, random.next()) | sign(random);
-        let b = normal(random.between(1, 2046) as u64, random.next()) | sign(random);
+        let a = normal(random.between(1, 2046) as u64, random.draw()) | sign(random);
+        let b = normal(random.between(1, 2046) as u64, random.draw()) | sign(random);
         lines.selections(a, b);
     }
     // Neighbours, and a number against itself with the other sign.
     for _ in 0..30 {
-        let a = normal(random.between(1, 2045) as u64, random.next()) | sign(random);
+        let a = normal(random.between(1, 2045) as u64, random.draw()) | sign(random);
         lines.selections(a, a + 1);
         lines.selections(a + 1, a);
         lines.selections(a, a ^ SIGN);

@@ -17,13 +17,13 @@ pub type Bounds = ([f64; 3], [f64; 3]);
 pub const MOST_NODES: u64 = 1024;
 pub const MOST_CHILDREN: u128 = 16_777_216;
 
-/// Node size: cell × (n × (L - 1)).
+/// How long a node is along an axis (rule G2).
 pub fn node_size(cell: f64, inner: u64, leaf: u64) -> f64 {
     cell * (inner * leaf.saturating_sub(1)) as f64
 }
 
-/// Nodes along an axis: ceiling(extent / s), at least 1. A quotient past 64
-/// bits counts as the largest number of 64 bits, a NaN as 0.
+/// Nodes along an axis, one at least (rule G3). A quotient past 64 bits counts
+/// as the largest number of 64 bits, a NaN as 0.
 pub fn nodes_along(least: f64, most: f64, s: f64) -> u64 {
     (((most - least) / s).ceil() as u64).max(1)
 }
@@ -84,7 +84,7 @@ impl Grid {
         (ends.map(|e| e.0), ends.map(|e| e.1))
     }
 
-    /// A child is active if the bounds intersect it; touching counts.
+    /// Whether the bounds meet a child, were it only by touching it (rule G7).
     pub fn is_active(&self, v: u64, c: u64) -> bool {
         let (min, max) = self.child_box(v, c);
         (0..3).all(|axis| self.min[axis] <= max[axis] && self.max[axis] >= min[axis])
@@ -107,20 +107,20 @@ impl Grid {
     }
 }
 
-/// A corner of a node: origin + c × i, c the x dimension / n on all axes.
+/// A corner of a node, by the steps of the x axis (rule G8).
 pub fn corner_point(b: Bounds, inner: u64, corner: u64) -> [f64; 3] {
     let c = (b.1[0] - b.0[0]) / inner as f64;
     let at = indices(corner, inner + 1, inner + 1);
     [0, 1, 2].map(|axis| b.0[axis] + c * at[axis] as f64)
 }
 
-/// A point of a leaf: min + i × (dimension / (L - 1)).
+/// A point of a leaf (rule G15).
 pub fn leaf_point(b: Bounds, leaf: u64, p: u64) -> [f64; 3] {
     let at = indices(p, leaf, leaf);
     [0, 1, 2].map(|axis| along(b.0[axis], b.1[axis], leaf - 1, at[axis]).0)
 }
 
-/// Constant where hi + h < min_val or lo - h > max_val.
+/// Whether a child becomes a constant (rule G13).
 pub fn is_pruned(min_val: f64, max_val: f64, lo: f64, hi: f64, h: f64) -> bool {
     hi + h < min_val || lo - h > max_val
 }

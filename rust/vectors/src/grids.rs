@@ -16,7 +16,8 @@ type Point = [f64; 3];
 
 const ORIGIN: Point = [0.0; 3];
 const BLOCKS: [u64; 6] = [2, 4, 8, 16, 32, 64];
-const TINY: f64 = f64::from_bits(SMALLEST);
+/// The float with the bits SMALLEST.
+const TINY: f64 = 5e-324;
 
 /// Coordinates and sizes for which an operation may have a rule of its own.
 const SPECIAL: [f64; 12] = [

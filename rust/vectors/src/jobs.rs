@@ -58,7 +58,7 @@ impl List {
     }
 }
 
-/// The scope's case as the scope writes it.
+/// The plane case, with letters for its numbers.
 const CASE: [&str; 5] = [
     "(bounds (min Z Z Z) (max T T T))",
     "(cell P)",
@@ -67,7 +67,7 @@ const CASE: [&str; 5] = [
     "(plane P Z Z Z)",
 ];
 
-/// Writes the scope's letters out.
+/// Writes the numbers for their letters.
 fn spelled(text: &str) -> String {
     text.replace('Z', "0000000000000000")
         .replace('P', "3ff0000000000000")
@@ -75,7 +75,7 @@ fn spelled(text: &str) -> String {
         .replace('Q', "bfd0000000000000")
 }
 
-/// A text of lines in which the scope's letters stand for numbers.
+/// A text of lines in which letters stand for numbers.
 fn of_lines(lines: &[&str]) -> String {
     let ended = |line: &&str| format!("{}\n", spelled(line));
     lines.iter().map(ended).collect()

@@ -14,7 +14,7 @@ use Rattle.model.specs.Flat.{Flat, partsOf}
 use Rattle.dense_field.specs.Points.{fieldPoint}
 use Rattle.dense_field.specs.Sampling.{valueAt}
 
--- one coordinate of a field's point: "origin + cell × i"
+-- one coordinate of a field's point (rule D4)
 abbrev pub axisPoint : (origin cell : Float) → ℕ → Float
 axisPoint origin cell i = add binary64 origin (mul binary64 cell (asFloat i))
 

@@ -1,4 +1,4 @@
--- Document 01: "It is active if the bounds intersect it.", on one axis.
+-- Whether a child is active (rule G7), asked of one axis.
 -- proofs/Active shows that a child is active exactly where the three axes are.
 use Prim.Native.Nat.{ℕ}
 use mathlib.Core.Bool.{Bool, _&&_}

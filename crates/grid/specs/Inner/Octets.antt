@@ -6,6 +6,6 @@ use lib.Ieee.{Float}
 use Rattle.float.specs.Zero.{plusZero}
 use Rattle.grid.specs.Corners.{octet}
 
--- the values at them, out of the values at all corners of the node
+-- the values at them, out of the values at all corners of the node (rule G10)
 unfoldable pub octetValues : List Float → (n c : ℕ) → List Float
 octetValues corners n c = map (λ p. getD corners p plusZero) (octet n c)

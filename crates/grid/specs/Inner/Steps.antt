@@ -8,7 +8,7 @@ use Rattle.geometry.specs.declared.BoundingBox.{BoundingBox}
 use Rattle.geometry.specs.Values.{vec3}
 use Rattle.geometry.specs.Axis.{asFloat, stepAlong}
 
--- the steps between a leaf's points on each axis: "dimension / (L - 1)"
+-- the steps between a leaf's points on each axis (rule G15)
 unfoldable pub leafSteps : BoundingBox → ℕ → Vec3
 leafSteps b l =
     vec3
@@ -16,7 +16,7 @@ leafSteps b l =
     (stepAlong (b .min .y) (b .max .y) (l - 1))
     (stepAlong (b .min .z) (b .max .z) (l - 1))
 
--- "min + i × .." on each axis
+-- so many steps from a box's min, on each axis (rule G15)
 unfoldable pub steppedPoint : (min steps : Vec3) → Vec3i → Vec3
 steppedPoint min steps at =
     vec3
@@ -24,7 +24,7 @@ steppedPoint min steps at =
     (add binary64 (min .y) (mul binary64 (asFloat (at .j)) (steps .y)))
     (add binary64 (min .z) (mul binary64 (asFloat (at .k)) (steps .z)))
 
--- "origin + c × i" on each axis
+-- so many steps of one size from an origin, on each axis (rule G8)
 unfoldable pub cornerAt : (origin : Vec3) → (c : Float) → Vec3i → Vec3
 cornerAt origin c at =
     vec3

@@ -1,4 +1,4 @@
--- A node's needed corners, evaluated in ascending order while the budget lasts.
+-- A node's needed corners, evaluated in ascending order while the budget lasts (rules S5 and S14).
 use Prim.Native.Nat.{ℕ, zero, suc, _+_, _-_, _≤_}
 use mathlib.Core.Path.{_≡_}
 use mathlib.Core.Logic.{_⊎_}

@@ -7,6 +7,7 @@ use Rattle.model.specs.Flat.{flatOf, partsOf}
 use Rattle.model.specs.Model.{modelValue}
 use Rattle.lists.specs.Slices.{LentSlice}
 
+-- its last part's (rules M8 and M10)
 unfoldable pub flatValue : (words : List ℕ) (reals : List Float) (parts : ℕ) → (x y z : Float) → Float
 flatValue words reals parts x y z = modelValue (partsOf (flatOf words reals) parts) parts x y z
 

@@ -1,4 +1,4 @@
--- The judgement of a record, in the two parts that the code tests: the input with its kinds, and how far the job is.
+-- The judgement of a record (rules R6 to R13), in the two parts that the code tests: the input with its kinds, and how far the job is.
 use Prim.Native.Nat.{ℕ, _*_, _≤_}
 use mathlib.Core.Path.{_≡_}
 use mathlib.Core.Bool.{Bool, false, not, _&&_, _||_}
@@ -17,18 +17,18 @@ use Rattle.schedule.specs.Possible.{validCursor, insideChild}
 use Rattle.sparse_field.specs.declared.Input.{Input}
 use Rattle.sparse_field.specs.Plan.{planOf}
 
--- an input that causes 2 and 5 do not refuse, with kinds that are long enough and nonzero at just the active children
+-- an input that causes 2 and 5 do not refuse, with kinds that are long enough and as rule R8 wants them
 pub record RightKinds (i : Input) (kinds : List ℕ) : Type 0 where
   pub two : refusedByTwo (i .grid) ≡ false
   pub five : refusedByFive (i .grid) ≡ false
   pub long : nodesOf (i .grid) * cube (i .grid .inner) ≤ length kinds
   pub right : ActiveKinds (planOf i) kinds
 
--- leaves that exceed the active children up to the cursor, or are 0 inside a child
+-- too many leaves for the cursor, or none inside a child (rules R12 and R13)
 abbrev pub wrongLeaves : Plan → Cursor → ℕ → Bool
 wrongLeaves P a n = ltb (activeUpTo P a) n || insideChild a && eqb n 0
 
--- counts and a cursor that no job of a plan has
+-- counts and a cursor that no job of a plan has (rules R9 to R13)
 abbrev pub wrongProgress : Plan → Counts → Cursor → Bool
 wrongProgress P counts a =
     not (sameCounts counts (countsWith P (counts .leaves) (counts .evaluations))) || ltb (evaluationsBound P) (counts .evaluations)

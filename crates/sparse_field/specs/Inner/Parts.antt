@@ -35,7 +35,7 @@ abbrev pub cursorAt : Stop → Cursor
 cursorAt Through = End
 cursorAt (At a) = a
 
--- the record of an input's job: its lengths, its counts, and where it has come to
+-- the record of an input's job: its lengths, its counts, and where it has come to (rules R1 to R3)
 abbrev pub recordAt : Input → grids.Lengths → (nodes active leaves points evaluations : ℕ) → Stop → Record
 recordAt i l nodes active leaves points evaluations stop = record {
   job = true;

@@ -47,7 +47,7 @@ pub record Sized (g : Grid) : Type 0 where
   pub leafMost : g .leaf ≤ 64
   pub children : nodesOf g * cube (g .inner) ≤ 16777216
 
--- slices that cause 6 does not refuse, with kinds that are nonzero at just the active children
+-- slices that cause 6 does not refuse, with kinds as rule R8 wants them
 pub record Lent (P : Plan) (m : Memory) : Type 0 where
   pub kinds : P .nodes * P .children ≤ length (m .kinds)
   pub numbers : P .nodes * P .children ≤ length (m .numbers)

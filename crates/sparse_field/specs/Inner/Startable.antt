@@ -5,6 +5,7 @@ use Rattle.schedule.specs.Totals.{activeBefore}
 use Rattle.sparse_field.specs.declared.Cursor.{Cursor}
 use Rattle.sparse_field.specs.declared.Cursor.the-variants.{End, Corner, Point}
 
+-- at most as many leaves as rule R12 allows, and at least one inside a child (rule R13)
 abbrev pub Startable : Plan → Cursor → ℕ → Type 0
 Startable P End leaves = Unit {0}
 Startable P (Corner v i) leaves = (v < P .nodes) × (i ≤ P .corners) × (leaves ≤ activeBefore P v 0)

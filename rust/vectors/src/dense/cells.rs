@@ -117,7 +117,7 @@ fn outside(list: &mut List) {
             corners(list, ORIGIN, 1.0, n, with_count([0, 0, 0], axis, far));
         }
     }
-    // A dimension of 1 has no cells.
+    // With one point along an axis there is no cell.
     for n in [[1, 3, 3], [3, 1, 3], [3, 3, 1], [1, 1, 1], [MOST, 1, 1]] {
         corners(list, ORIGIN, 1.0, n, [0, 0, 0]);
     }

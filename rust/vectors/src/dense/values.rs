@@ -111,7 +111,7 @@ fn full_values(random: &mut Random, n: Triple) -> Vec<f64> {
     (0..n[0] * n[1] * n[2]).map(|_| full(random)).collect()
 }
 
-/// The scope's measured facts.
+/// Measured facts about the rules.
 fn measured(list: &mut List) {
     pad(list, [4, 4, 4], -1.0, &numbered([4, 4, 4]));
     let n = [3, 3, 3];

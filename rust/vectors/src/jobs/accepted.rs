@@ -3,12 +3,12 @@
 use super::faults;
 use super::text::written;
 use super::{of_lines, List, CASE};
-use crate::sparse::inputs::{self, of_grid, one_child, scope_case, with_band, with_parts};
+use crate::sparse::inputs::{self, of_grid, one_child, plane_case, with_band, with_parts};
 use crate::sparse::inputs::{ALL, NONE};
 use ledger::floats::NAN;
 use ledger::{Input, Part};
 
-/// The scope's answer to its case, as the scope writes it.
+/// The listing of the plane case, with letters for its numbers.
 const CASE_LISTING: [&str; 9] = [
     "(done 1 8 4 32 59)",
     "(leaf 0 0 Z P Z P Z P Z P)",
@@ -146,7 +146,7 @@ fn full_slices(list: &mut List) {
     }
     for count in [40, 63, 64] {
         list.add(written(&with_parts(
-            scope_case(),
+            plane_case(),
             &inputs::long_model()[..count],
         )));
     }
@@ -155,15 +155,15 @@ fn full_slices(list: &mut List) {
 /// Bands that give leaves, constants, and both; hi + h at the lower end.
 fn bands(list: &mut List) {
     let infinity = f64::INFINITY;
-    list.done(&with_band(scope_case(), ALL), "1 8 8 64 91");
-    list.done(&with_band(scope_case(), NONE), "1 8 0 0 27");
+    list.done(&with_band(plane_case(), ALL), "1 8 8 64 91");
+    list.done(&with_band(plane_case(), NONE), "1 8 0 0 27");
     for band in [
         [1.0, -1.0],
         [-infinity, -infinity],
         [infinity, -infinity],
         [0.5, 0.75],
     ] {
-        list.add(written(&with_band(scope_case(), band)));
+        list.add(written(&with_band(plane_case(), band)));
         list.add(written(&with_band(inputs::two_nodes(), band)));
     }
     let h = 3.0f64.sqrt() / 2.0;
@@ -187,7 +187,7 @@ fn bands(list: &mut List) {
 fn models(list: &mut List) {
     for parts in inputs::models() {
         for band in [[-0.25, 0.0], [0.5, 0.75]] {
-            let input = with_parts(scope_case(), &parts);
+            let input = with_parts(plane_case(), &parts);
             list.add(written(&with_band(input, band)));
         }
     }
@@ -258,11 +258,8 @@ fn nan_chains(list: &mut List) {
         &with(&[Part::Min(1, 2), Part::Add(0, 1), Part::Max(4, 5)]),
         b,
     );
-    let mut long = vec![constant(b); 63];
-    long[0] = constant(a);
-    for place in 1..63 {
-        long[place] = Part::Min(place as u32 - 1, 0);
-    }
+    let mut long = vec![constant(a)];
+    long.extend((1..63).map(|place| Part::Min(place - 1, 0)));
     list.value(&long, a);
     long.push(Part::Neg(62));
     list.value(&long, NAN);

@@ -5,7 +5,7 @@ use super::{of_lines, spelled, CASE};
 /// A text and the line that is named.
 type Fault = (Vec<u8>, usize);
 
-/// The scope's case and one more part.
+/// The plane case and one more part.
 const LINES: [&str; 6] = [CASE[0], CASE[1], CASE[2], CASE[3], CASE[4], "(neg 0)"];
 
 /// How many of them stand before the parts.
@@ -189,7 +189,7 @@ fn order() -> Vec<Fault> {
     let mut add = |lines: Vec<&str>, number: usize| {
         faults.push((of_lines(&lines).into_bytes(), number));
     };
-    for at in 0..HEADER {
+    for (at, line) in LINES.iter().enumerate().take(HEADER) {
         let lines = || LINES.to_vec();
         let mut swapped = lines();
         swapped.swap(at, at + 1);
@@ -198,7 +198,7 @@ fn order() -> Vec<Fault> {
         missing.remove(at);
         add(missing, at + 1);
         let mut twice = lines();
-        twice.insert(at, LINES[at]);
+        twice.insert(at, line);
         add(twice, at + 2);
         let mut part_before = lines();
         part_before.insert(at, "(const P)");

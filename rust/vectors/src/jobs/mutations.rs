@@ -72,7 +72,7 @@ fn mutated(random: &mut Random, mut text: Vec<u8>) -> Vec<u8> {
     let at = random.below(text.len() as u64) as usize;
     match random.below(8) {
         0 | 1 => text[at] = random.pick(BYTES),
-        2 => text[at] = random.next() as u8,
+        2 => text[at] = random.draw() as u8,
         3 => {
             text.remove(at);
         }

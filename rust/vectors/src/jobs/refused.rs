@@ -3,7 +3,7 @@
 use super::faults;
 use super::text::written;
 use super::{of_lines, List, CASE};
-use crate::sparse::inputs::{of_grid, scope_case, with_band, with_parts, NONE};
+use crate::sparse::inputs::{of_grid, plane_case, with_band, with_parts, NONE};
 use ledger::{Input, Part};
 
 pub fn texts(list: &mut List) {
@@ -22,9 +22,9 @@ impl List {
         self.due(written(input), &format!("(refused {cause})"));
     }
 
-    /// The scope's case with a change, which a cause refuses.
+    /// The plane case with a change, which a cause refuses.
     fn changed(&mut self, cause: u32, change: impl Fn(&mut Input)) {
-        let mut input = scope_case();
+        let mut input = plane_case();
         change(&mut input);
         self.refused(&input, cause);
     }
@@ -80,20 +80,20 @@ fn by_four(list: &mut List) {
         of_lines(&[&CASE[..4], &["(neg 0)", CASE[4]]].concat()),
         "(refused 4)",
     );
-    let x = scope_case().parts[0];
+    let x = plane_case().parts[0];
     let operations = [Part::Min, Part::Max, Part::Add, Part::Sub];
     for place in [2, 3, 64, u32::MAX] {
         for operation in operations {
             for bad in [operation(place, 0), operation(1, place)] {
-                list.refused(&with_parts(scope_case(), &[x, x, bad]), 4);
+                list.refused(&with_parts(plane_case(), &[x, x, bad]), 4);
             }
         }
-        list.refused(&with_parts(scope_case(), &[x, x, Part::Neg(place)]), 4);
+        list.refused(&with_parts(plane_case(), &[x, x, Part::Neg(place)]), 4);
     }
-    list.refused(&with_parts(scope_case(), &[x, Part::Neg(1), x]), 4);
+    list.refused(&with_parts(plane_case(), &[x, Part::Neg(1), x]), 4);
     let mut long = vec![x; 64];
     long[63] = Part::Neg(63);
-    list.refused(&with_parts(scope_case(), &long), 4);
+    list.refused(&with_parts(plane_case(), &long), 4);
 }
 
 /// A grid of this extent with nodes of 2 × 2 × 2 cells.
@@ -148,7 +148,7 @@ fn by_six(list: &mut List) {
 
 /// Two causes at once: the lower number. A text off its form: 12.
 fn several(list: &mut List) {
-    let mut input = scope_case();
+    let mut input = plane_case();
     input.count = 0;
     input.cell = f64::MAX;
     list.refused(&input, 4);
@@ -162,6 +162,6 @@ fn several(list: &mut List) {
     let model = [Part::Neg(0)];
     let many = with_parts(of_grid([0.0; 3], [5000.0; 3], 1.0, 8, 2), &model);
     list.refused(&many, 4);
-    let parts = scope_case().parts;
+    let parts = plane_case().parts;
     list.refused(&with_parts(many, &parts), 5);
 }

@@ -1,8 +1,7 @@
 //! Job texts, read and written.
 //!
-//! A line has a form: H stands for a float's bits as 16 lowercase hexadecimal
-//! digits, D for a decimal number, every other byte for itself. Byte 10 ends
-//! the line.
+//! A line has a form: H stands for the 16 digits of a float (rule T1), D for a
+//! decimal number (rule T2), every other byte for itself. Byte 10 ends the line.
 
 use ledger::input::MOST_PARTS;
 use ledger::{Input, Part};

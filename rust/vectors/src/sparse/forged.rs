@@ -79,7 +79,7 @@ fn flags(script: &mut Script) {
     script.step(0);
     script.step(MOST);
     script.dump();
-    let input = inputs::scope_case();
+    let input = inputs::plane_case();
     script.lend(exact(&input), MOST);
     script.forge(JOB, 1);
     script.step(1);
@@ -288,7 +288,7 @@ fn elements(script: &mut Script) {
     ];
     // The corners of an input whose children are decided one after the other.
     let sphere = Part::Sphere([1.0, 1.0, 0.0], 0.5);
-    let input = with_parts(inputs::scope_case(), &[sphere]);
+    let input = with_parts(inputs::plane_case(), &[sphere]);
     for (turn, corner) in (0..27).enumerate() {
         for k in [13, 27, 30] {
             script.lend(exact(&input), k);

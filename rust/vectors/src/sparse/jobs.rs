@@ -7,7 +7,7 @@ use ledger::{Answer, Input, Lengths, Part};
 const MOST: u64 = u64::MAX;
 
 pub fn lists(script: &mut Script) {
-    scope_case(script);
+    plane_case(script);
     budgets(script);
     large_then_small(script);
     drops(script);
@@ -23,9 +23,9 @@ fn opened(script: &mut Script, lengths: Lengths, seed: u64, input: &Input) {
     assert_eq!(script.open(input), Answer::Accepted);
 }
 
-/// The scope's case, paused at every evaluation.
-fn scope_case(script: &mut Script) {
-    let input = inputs::scope_case();
+/// The plane case, paused at every evaluation.
+fn plane_case(script: &mut Script) {
+    let input = inputs::plane_case();
     opened(script, exact(&input), 1, &input);
     script.dump();
     for _ in 0..60 {
@@ -36,7 +36,7 @@ fn scope_case(script: &mut Script) {
 
 /// Other budgets for the same: 0, and steps of a finished job.
 fn budgets(script: &mut Script) {
-    let input = inputs::scope_case();
+    let input = inputs::plane_case();
     for budget in [2, 3, 5, 7, 8, 13, 26, 27, 28, 35, 58, 59, 60, MOST] {
         opened(script, exact(&input), budget, &input);
         script.step(0);
@@ -57,7 +57,7 @@ fn budgets(script: &mut Script) {
 
 /// A large part, then a small one in the same memory, and the other way.
 fn large_then_small(script: &mut Script) {
-    let (large, small) = (inputs::large(), inputs::scope_case());
+    let (large, small) = (inputs::large(), inputs::plane_case());
     let room = both(exact(&large), exact(&small));
     for (seed, (first, with_drop)) in [(MOST, false), (MOST, true), (30, false), (100, true)]
         .into_iter()
@@ -91,7 +91,7 @@ fn large_then_small(script: &mut Script) {
 /// Drops without a job, among the corners, inside a leaf, at its end, and of a
 /// finished job.
 fn drops(script: &mut Script) {
-    let input = inputs::scope_case();
+    let input = inputs::plane_case();
     script.lend(exact(&input), 3);
     script.drop();
     script.dump();
@@ -107,7 +107,7 @@ fn drops(script: &mut Script) {
 
 /// Opens that a cause refuses, with and without a job.
 fn refused_opens(script: &mut Script) {
-    let input = inputs::scope_case();
+    let input = inputs::plane_case();
     script.lend(exact(&input), 4);
     script.step(1);
     for bad in inputs::refused() {
@@ -142,7 +142,7 @@ fn lengths(script: &mut Script) {
             3 => &mut lengths.store,
             _ => &mut lengths.corners,
         };
-        *length = length.checked_add_signed(by).unwrap();
+        *length = (*length as i64 + by) as u64;
         lengths
     };
     for at in 0..5 {
@@ -204,13 +204,13 @@ fn models(script: &mut Script) {
         for band in [[-0.25, 0.0], [0.5, 0.75], inputs::NONE] {
             run(
                 script,
-                &with_band(with_parts(inputs::scope_case(), &parts), band),
+                &with_band(with_parts(inputs::plane_case(), &parts), band),
                 11,
             );
         }
     }
     let long = inputs::long_model();
-    run(script, &with_parts(inputs::scope_case(), &long), 30);
+    run(script, &with_parts(inputs::plane_case(), &long), 30);
     run(script, &with_parts(inputs::two_nodes(), &long), 30);
     run(script, &with_parts(inputs::two_nodes(), &long[..63]), 30);
     let shifted: Vec<Part> = long[..40].to_vec();
