@@ -58,7 +58,7 @@ back r c = record-back r (c .inner) (c .leaf) (c .count) (c .long)
 no-cause-codable : (i : Input) (l : Lengths) → sparse .cause l i ≡ 0 → length (i .model .parts) ≡ 64 → Codable i
 no-cause-codable i l none long =
     let free = nothing i l none in
-    let size = sized (i .grid) (i .model) (lent l) free in
+    let size = sized (i .grid) free in
     record {
       inner = omega (arith, size .innerMost);
       leaf = omega (arith, size .leafMost);

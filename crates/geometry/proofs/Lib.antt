@@ -1,3 +1,4 @@
 pub mod Grid
 pub mod Inverse
 pub mod Next
+pub mod CauseLists

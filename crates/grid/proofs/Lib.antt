@@ -21,3 +21,4 @@ pub mod ListedCorners
 pub mod Sums
 pub mod ActiveCounts
 pub mod CauseLaws
+pub mod Clear

@@ -137,7 +137,7 @@ module _ (i : Input) (m : Memory) (none : sparse .cause (lengthsOf m) i ≡ 0) w
 
   some-points : 0 < planOf i .leafPoints
   unfolding planWith
-  some-points = cube-le (i .grid .leaf) 1 (sized (i .grid) (i .model) (lent l) (nothing i l none) .leafLeast)
+  some-points = cube-le (i .grid .leaf) 1 (sized (i .grid) (nothing i l none) .leafLeast)
 
   -- every leaf is made
   leaves-all : stateAt (planOf i) (lengthsOf m) (total (planOf i)) .leaves ≡ leavesAll (planOf i)

@@ -127,7 +127,7 @@ pub listing-fits : (i : Input) (nan : ℕ) → sparse .cause programLengths i �
 unfolding planWith
 listing-fits i nan none =
     let n = no-cause (i .grid) (i .band) (i .model) (lent programLengths) none in
-    listing-small (planOf i) nan (n .long) (omega (arith, n .store, ap (λ k. k * cube (i .grid .leaf)) (active-all i)))
+    listing-small (planOf i) nan (n .lent .kinds) (omega (arith, n .lent .store, ap (λ k. k * cube (i .grid .leaf)) (active-all i)))
 
 -- so do the lines of refusals
 pub refused-fits : (number : ℕ) → length (spell refusedForm (number ∷ [])) ≤ 31

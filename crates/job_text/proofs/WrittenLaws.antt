@@ -53,9 +53,9 @@ ready r m judged =
       leaf = omega (arith, leaf-block g (none .two) .most);
       nodes = fits .nodes;
       sizes = record { some = omega arith; size = fits .points; few = few-children g (none .five) };
-      enoughKinds = none .long;
-      enoughNumbers = none .numbers;
-      enoughPlaces = none .places;
+      enoughKinds = none .lent .kinds;
+      enoughNumbers = none .lent .numbers;
+      enoughPlaces = none .lent .places;
     }
 
 -- ---- a possible record

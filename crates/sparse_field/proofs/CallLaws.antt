@@ -1,18 +1,11 @@
 -- What `called` comes to, by the branches of open, step and drop.
-use Prim.Native.Nat.{ℕ, zero, suc, _-_, _<_}
+use Prim.Native.Nat.{ℕ, suc, _-_}
 use mathlib.Core.Path.{_≡_, refl, sym, ap, _∙_}
 use mathlib.Core.Bool.{Bool, true, false}
-use mathlib.Core.List.{[], _∷_}
 use native.Mathlib.Omega.{arith}
-use Rattle.geometry.specs.Causes.{cause, firstOf}
-use Rattle.model.specs.declared.ImplicitModel.{ImplicitModel}
-use Rattle.model.specs.Model.{refusedByFour}
-use Rattle.grid.specs.declared.Grid.{Grid}
-use Rattle.grid.specs.declared.Band.{Band}
-use Rattle.grid.specs.declared.Lengths.{Lengths}
-use Rattle.grid.specs.declared.Refusal.{Refusal}
-use Rattle.grid.specs.declared.Refusal.the-variants.{None, By}
-use Rattle.grid.specs.Causes.{refusedByOne, refusedByTwo, refusedByThree, refusedByFive, refusedBySix, openCauses, refusalOf}
+use Rattle.grid.specs.declared.Refusal.the-variants.{By}
+use Rattle.grid.specs.Causes.{refusalOf}
+use Rattle.grid.proofs.Clear.{number-above}
 use Rattle.schedule.specs.Memory.{Memory}
 use Rattle.schedule.specs.Opened.{lengthsOf, zeroMemory}
 use Rattle.schedule.specs.Possible.{impossible}
@@ -37,26 +30,11 @@ module _ (i : Input) (r : Record) (m : Memory) where
   abbrev byNumber : ℕ → Handed
   byNumber n = let o = engineOpen sparse i (record { jobRecord = recordIn r; memory = m }) n in handed r (o .answer) (o .next)
 
-  -- a refusal's number is above 0
-  refusal-above : (n : ℕ) (l : Lengths) → refusalOf (i .grid) (i .band) (i .model) l ≡ By n → 0 < n
-  unfolding refusalOf openCauses firstOf
-  refusal-above n l e =
-      all (refusedByOne (i .grid)) (refusedByTwo (i .grid)) (refusedByThree (i .band)) (refusedByFour (i .model)) (refusedByFive (i .grid)) (refusedBySix (i .grid) l) e
-    where
-      all : (b1 b2 b3 b4 b5 b6 : Bool) → firstOf (cause b1 1 ∷ cause b2 2 ∷ cause b3 3 ∷ cause b4 4 ∷ cause b5 5 ∷ cause b6 6 ∷ []) By None ≡ By n → 0 < n
-      all true b2 b3 b4 b5 b6 e = let x : n ≡ 1 = cc in omega arith
-      all false true b3 b4 b5 b6 e = let x : n ≡ 2 = cc in omega arith
-      all false false true b4 b5 b6 e = let x : n ≡ 3 = cc in omega arith
-      all false false false true b5 b6 e = let x : n ≡ 4 = cc in omega arith
-      all false false false false true b6 e = let x : n ≡ 5 = cc in omega arith
-      all false false false false false true e = let x : n ≡ 6 = cc in omega arith
-      all false false false false false false e = let z : _≡_ {A = ℕ} 0 1 = cc in absurd (omega arith)
-
   -- a refused open
   pub open-refused : (n : ℕ) → refusalOf (i .grid) (i .band) (i .model) (lent (lengthsOf m)) ≡ By n → called (opens i) r m ≡ refusedBy n r m
   unfolding called engineCall engineOpen
   open-refused n e =
-      let above : n ≡ suc (n - 1) = omega (arith, refusal-above n (lent (lengthsOf m)) e) in
+      let above : n ≡ suc (n - 1) = omega (arith, number-above (i .grid) (i .band) (i .model) (lent (lengthsOf m)) n e) in
       ap (λ x. byNumber (numberOf x)) e ∙ ap byNumber above ∙ ap (λ k. refusedBy k r m) (sym above)
 
   -- an accepted open

@@ -12,20 +12,20 @@ use lib.Seq.{getD-take, length-take-le}
 use lib.Ieee.{Float}
 use borrow.Author.Tests.{eq-eqb, ne-eqb, eqb-true, eqb-false, lt-ltb, le-ltb, ltb-true, ltb-false, not-false}
 use Rattle.lists.proofs.Tests.{or-left, or-right, and-left, and-right}
-use Rattle.geometry.specs.Causes.{cause, firstOf}
 use Rattle.model.specs.declared.ImplicitModel.{ImplicitModel}
-use Rattle.model.specs.Model.{refusedByFour}
 use Rattle.grid.specs.declared.Grid.{Grid}
 use Rattle.grid.specs.declared.Band.{Band}
 use Rattle.grid.specs.declared.Lengths.{Lengths}
+use Rattle.grid.specs.declared.Refusal.{Refusal}
 use Rattle.grid.specs.declared.Refusal.the-variants.{None, By}
 use Rattle.grid.specs.Ranges.{countBelow}
 use Rattle.grid.specs.Blocks.{cube}
 use Rattle.grid.specs.Nodes.{nodesOf}
 use Rattle.grid.specs.Boxes.{active}
 use Rattle.grid.specs.Counting as counting
-use Rattle.grid.specs.Causes.{refusedByOne, refusedByTwo, refusedByThree, refusedByFive, refusedBySix, childrenOf, openCauses, refusalOf, storeNeeded}
+use Rattle.grid.specs.Causes.{refusedByTwo, refusedByFive, childrenOf, refusalOf}
 use Rattle.grid.proofs.BlockLaws.{cube-le}
+use Rattle.grid.proofs.Clear.{Clear, clear, number-above}
 use Rattle.grid.proofs.CauseLaws.{inner-block, leaf-block, few-children}
 use Rattle.schedule.specs.Schedule.{corner, point}
 use Rattle.schedule.specs.Plan.{Plan}
@@ -48,50 +48,12 @@ use Rattle.sparse_field.proofs.FlagLaws.{nonzero-true}
 
 -- ---- an input without a cause
 
-pub record NoCause (g : Grid) (m : ImplicitModel) (l : Lengths) : Type 0 where
-  pub two : refusedByTwo g ≡ false
-  pub four : refusedByFour m ≡ false
-  pub five : refusedByFive g ≡ false
-  pub long : nodesOf g * cube (g .inner) ≤ l .kinds
-  pub numbers : nodesOf g * cube (g .inner) ≤ l .numbers
-  pub places : nodesOf g * cube (g .inner) ≤ l .places
-  pub corners : cube (g .inner + 1) ≤ l .corners
-  pub store : counting.activeOf g * cube (g .leaf) ≤ l .store
-
-pub no-cause : (g : Grid) (band : Band) (m : ImplicitModel) (l : Lengths) → numberOf (refusalOf g band m l) ≡ 0 → NoCause g m l
-unfolding refusalOf openCauses firstOf refusedBySix childrenOf storeNeeded
-no-cause g band m l e =
-    let b = all (refusedByOne g) (refusedByTwo g) (refusedByThree band) (refusedByFour m) (refusedByFive g) (refusedBySix g l) e in
-    let n = nodesOf g * cube (g .inner) in
-    let kinds = ltb (l .kinds) n in
-    let numbers = ltb (l .numbers) n in
-    let places = ltb (l .places) n in
-    let corners = ltb (l .corners) (cube (g .inner + 1)) in
-    let store = ltb (l .store) (counting.activeOf g * cube (g .leaf)) in
-    let four = or-left (kinds || numbers || places || corners) store (b .3) in
-    let three = or-left (kinds || numbers || places) corners four in
-    let two = or-left (kinds || numbers) places three in
-    record {
-      two = b .0;
-      four = b .1;
-      five = b .2;
-      long = ltb-false (l .kinds) n (or-left kinds numbers two);
-      numbers = ltb-false (l .numbers) n (or-right kinds numbers two);
-      places = ltb-false (l .places) n (or-right (kinds || numbers) places three);
-      corners = ltb-false (l .corners) (cube (g .inner + 1)) (or-right (kinds || numbers || places) corners four);
-      store = ltb-false (l .store) (counting.activeOf g * cube (g .leaf)) (or-right (kinds || numbers || places || corners) store (b .3));
-    }
+pub no-cause : (g : Grid) (band : Band) (m : ImplicitModel) (l : Lengths) → numberOf (refusalOf g band m l) ≡ 0 → Clear g band m l
+no-cause g band m l e = clear g band m l (by (refusalOf g band m l) refl e)
   where
-    all : (b1 b2 b3 b4 b5 b6 : Bool)
-        → numberOf (firstOf (cause b1 1 ∷ cause b2 2 ∷ cause b3 3 ∷ cause b4 4 ∷ cause b5 5 ∷ cause b6 6 ∷ []) By None) ≡ 0
-        → (b2 ≡ false) × (b4 ≡ false) × (b5 ≡ false) × (b6 ≡ false)
-    all true b2 b3 b4 b5 b6 e = absurd (omega arith)
-    all false true b3 b4 b5 b6 e = absurd (omega arith)
-    all false false true b4 b5 b6 e = absurd (omega arith)
-    all false false false true b5 b6 e = absurd (omega arith)
-    all false false false false true b6 e = absurd (omega arith)
-    all false false false false false true e = absurd (omega arith)
-    all false false false false false false e = (refl, refl, refl, refl)
+    by : (r : Refusal) → refusalOf g band m l ≡ r → numberOf r ≡ 0 → r ≡ None
+    by None same z = refl
+    by (By n) same z = absurd (let above = number-above g band m l n same in let f : ⊥ = omega arith in f)
 
 -- ---- kinds that are found right
 
@@ -414,7 +376,7 @@ module _ (r : Record) (ks : List ℕ) (ns : List Float) (ps : List ℕ) (st cs :
   impossible-cause a = judged-first meetsCause otherLengths otherKinds otherCounts manyEvaluations otherCursor manyLeaves noLeaf a
 
   module _ (a : meetsCause ≡ false) where
-    pub possible-input : NoCause (r .input .grid) (r .input .model) lentNow
+    pub possible-input : Clear (r .input .grid) (r .input .band) (r .input .model) lentNow
     possible-input = no-cause (r .input .grid) (r .input .band) (r .input .model) lentNow (eqb-true _ 0 (not-false _ a))
 
     pub impossible-lengths : otherLengths ≡ true → true ≡ isImpossible
@@ -430,7 +392,7 @@ module _ (r : Record) (ks : List ℕ) (ns : List Float) (ps : List ℕ) (st cs :
         pub possible-kinds : RightKinds (r .input) ks
         possible-kinds =
             let n = possible-input in
-            record { two = n .two; five = n .five; long = n .long; right = active-kinds (planOf (r .input)) ks (not-false _ c) }
+            record { two = n .two; five = n .five; long = n .lent .kinds; right = active-kinds (planOf (r .input)) ks (not-false _ c) }
 
         pub impossible-progress : {x : Bool} → x ≡ wrongProgress (planOf (r .input)) (countsIn (r .counts)) (cursorIn (r .cursor)) → x ≡ isImpossible
         unfolding impossible

@@ -7,11 +7,13 @@ use native.Mathlib.Nat.{mul-pos, mul-le-mul-right}
 use native.Mathlib.Omega.{arith}
 use Rattle.float.specs.Zero.{plusZero}
 use Rattle.grid.specs.declared.Grid.{Grid}
+use Rattle.grid.specs.declared.Band.{Band}
 use Rattle.grid.specs.declared.Lengths.{Lengths}
 use Rattle.grid.specs.Blocks.{cube}
 use Rattle.grid.specs.Nodes.{nodesOf}
 use Rattle.grid.specs.Causes.{childrenOf}
 use Rattle.grid.proofs.Counts.{i-above, j-above, k-above}
+use Rattle.grid.proofs.Clear.{Clear}
 use Rattle.grid.proofs.CauseLaws.{inner-block, leaf-block, few-children}
 use Rattle.model.specs.declared.ImplicitModel.{ImplicitModel}
 use Rattle.schedule.specs.Schedule.{schedule, nodesFrom}
@@ -42,16 +44,16 @@ use Rattle.sparse_field.specs.Inner.Parts.{startMemory, cursorAt}
 use Rattle.sparse_field.specs.Inner.Progress.{Sized, Lent, Advanced, readingIn, ZeroCorners}
 use Rattle.sparse_field.specs.Records.{sparse, lent, cursorIn}
 use Rattle.sparse_field.specs.Inner.Startable.{Startable}
-use Rattle.sparse_field.proofs.Judgement.{NoCause, no-cause, active-all}
+use Rattle.sparse_field.proofs.Judgement.{no-cause, active-all}
 use Rattle.sparse_field.proofs.NodeLaws.{plan-laws, node-begins}
 use Rattle.sparse_field.specs.Inner.Runs.{runOf}
 use Rattle.sparse_field.proofs.ChildLaws.{active-few}
 use Rattle.sparse_field.proofs.Results.{final, engine-after}
 
 -- sizes that no cause refuses
-pub sized : (g : Grid) (m : ImplicitModel) (l : Lengths) → NoCause g m l → Sized g
+pub sized : (g : Grid) {band : Band} {m : ImplicitModel} {l : Lengths} → Clear g band m l → Sized g
 unfolding childrenOf
-sized g m l none = record {
+sized g none = record {
   innerLeast = omega (arith, inner-block g (none .two) .least);
   innerMost = inner-block g (none .two) .most;
   leafLeast = omega (arith, leaf-block g (none .two) .least);
@@ -60,14 +62,14 @@ sized g m l none = record {
 }
 
 -- memory whose lengths no cause refuses
-pub lent-memory : (i : Input) (m : Memory) → NoCause (i .grid) (i .model) (lent (lengthsOf m)) → ActiveKinds (planOf i) (m .kinds) → Lent (planOf i) m
+pub lent-memory : (i : Input) (m : Memory) → Clear (i .grid) (i .band) (i .model) (lent (lengthsOf m)) → ActiveKinds (planOf i) (m .kinds) → Lent (planOf i) m
 unfolding planWith
 lent-memory i m none right = record {
-  kinds = none .long;
-  numbers = none .numbers;
-  places = none .places;
-  store = subst (λ n. n * cube (i .grid .leaf) ≤ lent (lengthsOf m) .store) (sym (active-all i)) (none .store);
-  corners = none .corners;
+  kinds = none .lent .kinds;
+  numbers = none .lent .numbers;
+  places = none .lent .places;
+  store = subst (λ n. n * cube (i .grid .leaf) ≤ lent (lengthsOf m) .store) (sym (active-all i)) (none .lent .store);
+  corners = none .lent .corners;
   activeKinds = right;
 }
 
@@ -84,8 +86,8 @@ unfolding planWith
 sparse-laws = record {
   planLaws = λ l i none.
       let n = no-cause (i .grid) (i .band) (i .model) (lent l) none in
-      plan-laws (i .grid) (i .band) (valueOf (i .model)) (sized (i .grid) (i .model) (lent l) n .innerLeast);
-  enoughCorners = λ l i none. no-cause (i .grid) (i .band) (i .model) (lent l) none .corners;
+      plan-laws (i .grid) (i .band) (valueOf (i .model)) (sized (i .grid) n .innerLeast);
+  enoughCorners = λ l i none. no-cause (i .grid) (i .band) (i .model) (lent l) none .lent .corners;
 }
 
 -- its lent slices hold all its children and all its leaves' points
@@ -95,10 +97,10 @@ long-enough l i none =
     let n = no-cause (i .grid) (i .band) (i .model) (lent l) none in
     let few = mul-le-mul-right (cube (i .grid .leaf)) (leavesAll-most (planOf i)) in
     record {
-      kinds = n .long;
-      numbers = n .numbers;
-      places = n .places;
-      store = omega (arith, n .store, few, ap (λ k. k * cube (i .grid .leaf)) (active-all i));
+      kinds = n .lent .kinds;
+      numbers = n .lent .numbers;
+      places = n .lent .places;
+      store = omega (arith, n .lent .store, few, ap (λ k. k * cube (i .grid .leaf)) (active-all i));
     }
 
 -- there are few active children
@@ -111,13 +113,13 @@ module _ (i : Input) (l : opens.Lengths) (none : sparse .cause l i ≡ 0) where
   abbrev P : Plan
   P = planOf i
 
-  pub nothing : NoCause (i .grid) (i .model) (lent l)
+  pub nothing : Clear (i .grid) (i .band) (i .model) (lent l)
   nothing = no-cause (i .grid) (i .band) (i .model) (lent l) none
 
   -- the memory that open prepares is lent
   pub start-lent : Lent P (startMemory i l)
   start-lent =
-      lent-memory i (startMemory i l) (subst (λ k. NoCause (i .grid) (i .model) (lent k)) (sym (opened-lengths P l)) nothing) (opened-active P l)
+      lent-memory i (startMemory i l) (subst (λ k. Clear (i .grid) (i .band) (i .model) (lent k)) (sym (opened-lengths P l)) nothing) (opened-active P l)
 
   -- its corners are all +0
   start-cleared : ZeroCorners (startMemory i l)

@@ -29,7 +29,7 @@ run-job-requires c κs =
     let i = s .args .input in
     let l = lengthsOf (memory s) in
     let none = nothing i l (s .pre .1) in (
-      (sized (i .grid) (i .model) (lent l) none, none .four),
+      (sized (i .grid) none, none .four),
       (subst (λ m. Lent (planOf i) m) (sym (c .before .before .before .before .before .before .before .before .before .before .before .before .before .before .before .prepare .ensures)) (start-lent i l (s .pre .1)), start-startable i l (s .pre .1), omega arith),
     )
 
@@ -38,7 +38,7 @@ node-total-requires c κs =
     let s = c .before .before .before .before .before .before .before .before .before .before .before .before .before .before .before .before .before .before .before .before .before .before .before .before .before .before .before .before .before .before .before .before .before .before .before .before .before in
     let i = s .args .input in
     let l = lengthsOf (memory s) in
-    omega (arith, nodes-few (i .grid) (sized (i .grid) (i .model) (lent l) (nothing i l (s .pre .1))))
+    omega (arith, nodes-few (i .grid) (sized (i .grid) (nothing i l (s .pre .1))))
 
 active-children-requires : tie.Need-active-children-requires
 active-children-requires c κs =
@@ -51,7 +51,7 @@ record-of-requires c κs =
     let s = c .before .before .before .before .before .before .before .before .before .before .before .before .before .before .before .before .before .before .before .before .before .before .before .before .before .before .before .before .before .before .before .before .before .before .before .before .before .before .before in
     let i = s .args .input in
     let l = lengthsOf (memory s) in
-    let size = sized (i .grid) (i .model) (lent l) (nothing i l (s .pre .1)) in
+    let size = sized (i .grid) (nothing i l (s .pre .1)) in
     (omega (arith, opened-leaves i l (s .pre .1) (c .before .before .before .before .before .before .before .before .before .before .before .before .before .before .before .before .before .before .before .before .before .before .before .before .before .before .before .before .prepare .ensures) (c .before .before .before .before .before .before .before .before .before .before .before .before .run-job .ensures), active-within i size), size .leafMost)
 
 same-length : tie.Need-same-length

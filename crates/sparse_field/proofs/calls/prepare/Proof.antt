@@ -24,7 +24,7 @@ set-kinds-requires c κs =
     let s = c .before .before .before .before .before .before .before .before .before .before .before .before .before .before .before .before .before .before .before .before .before .before in
     let none = nothing (s .args .input) (lengthsOf (memory s)) (s .pre) in
     let long = ap (λ m. length (m .kinds)) (c .before .before .before .before .before .before .before .before .before .before .before .zero-all .ensures) ∙ length-replicate (length (s .args .kinds .now)) 0 in
-    (none .two, none .five, omega (arith, none .long, long))
+    (none .two, none .five, omega (arith, none .lent .kinds, long))
 
 same-length : tie.Need-same-length
 same-length c = search needs

@@ -29,7 +29,7 @@ kinds-right-requires : tie.Need-kinds-right-requires
 kinds-right-requires c κs =
     let a = c .before .before .before .before .before .before .before .before .before .before .before .args in
     let n = possible-input (a .«record») (a .kinds .now) (a .numbers .now) (a .places .now) (a .store .now) (a .corners .now) (sym (c .before .before .before .before .meets-cause .ensures) ∙ c .before .before .before .if1 .left) in
-    (n .two, n .five, n .long)
+    (n .two, n .five, n .lent .kinds)
 
 returns-3 : tie.Need-returns-3
 returns-3 c =
