@@ -12,6 +12,7 @@ pub mod Active
 pub mod Stepped
 pub mod Folds
 pub mod Pruned
+pub mod Verdicts
 pub mod Needing
 pub mod RangeLists
 pub mod MarkLaws

@@ -38,6 +38,7 @@ pub use points::leaf_points;
 pub use points::octet;
 pub use points::octet_values;
 pub use pruning::average;
+pub use pruning::decide_child;
 pub use pruning::half_diagonal;
 pub use pruning::highest;
 pub use pruning::is_pruned;
@@ -62,6 +63,12 @@ pub enum CornerList {
 pub struct Band {
     pub min: f64,
     pub max: f64,
+}
+
+// What an active child becomes: a constant, with its kind and its number, or a leaf.
+pub enum Verdict {
+    Constant(u8, f64),
+    Leaf,
 }
 
 // How long the five slices are that a job is lent.

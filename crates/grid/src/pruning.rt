@@ -1,6 +1,7 @@
-// Which active children become constants, and which number a constant is.
+// Which active children become constants, and which kind and number a constant has.
 ghost use mathlib.Core.Path.{_≡_};
 ghost use Rattle.grid.specs.Pruning as pruning;
+use crate::Verdict;
 use geometry::BoundingBox;
 
 // Half the distance between a child's ends.
@@ -56,4 +57,14 @@ pub fn average(octet: [f64; 8]) -> f64
     let front = (((0.0 + octet[0]) + octet[1]) + octet[2]) + octet[3];
     let sum = (((front + octet[4]) + octet[5]) + octet[6]) + octet[7];
     float::computed(sum / 8.0)
+}
+
+// What an active child becomes that has the box b, by the band from min to max and its octet.
+pub fn decide_child(min: f64, max: f64, b: BoundingBox, octet: [f64; 8]) -> Verdict
+    ensures { λ r. ⌜ r ≡ pruning.verdictOf min max b octet ⌝ }
+{
+    if is_pruned(min, max, octet, half_diagonal(b)) {
+        return Verdict::Constant(1, average(octet));
+    }
+    Verdict::Leaf
 }

@@ -1,7 +1,7 @@
 -- The memory of a finished job has the listing that its plan has.
 use Prim.Native.Nat.{ℕ, _+_, _*_, _/_, _%_, _≤_, _<_}
 use mathlib.Core.Path.{_≡_, refl, sym, ap, _∙_}
-use mathlib.Core.Bool.{Bool, true, false, cond}
+use mathlib.Core.Bool.{Bool, true, false}
 use mathlib.Core.List.{List, _++_, map}
 use native.Mathlib.Nat.{mul-le-mul-right, div-add-mod', div-lt-iff-lt-mul, mod-lt}
 use native.Mathlib.Omega.{arith}
@@ -20,16 +20,14 @@ use Rattle.schedule.specs.Totals.{becomesLeaf, leavesBefore, leavesAll, total}
 use Rattle.schedule.specs.Counts.{countsWith}
 use Rattle.schedule.specs.Finished.{Finished, Child, childAt, finishedChild}
 use Rattle.schedule.proofs.Sums.{before-below}
-use Rattle.geometry.specs.declared.BoundingBox.{BoundingBox}
-use Rattle.grid.specs.declared.Band.{Band}
 use Rattle.grid.specs.Corners.{octet}
-use Rattle.grid.specs.Pruning as pruning
 use Rattle.schedule.specs.JobRecord.{atEnd}
 use Rattle.schedule.specs.Possible.{impossible}
 use Rattle.sparse_field.specs.declared.Input.{Input}
 use Rattle.sparse_field.specs.declared.Record.{Record}
 use Rattle.sparse_field.specs.Records.{sparse, jobIn, countsIn, cursorIn}
-use Rattle.sparse_field.specs.Plan.{planWith, planOf, boxOf, decideOf}
+use Rattle.sparse_field.specs.Plan.{planWith, planOf, boxOf}
+use Rattle.sparse_field.proofs.Decisions.{decide-kind}
 use Rattle.job_text.specs.Listing.{doneLine, leafLine, leafValues, kindLine, lineAt, planLine, planLineAt, listing, planListing}
 use Rattle.job_text.specs.Written.{placed, allPlaced, printable, recordListing, putListing, written}
 use Rattle.job_text.proofs.LineLaws.{constant-line}
@@ -40,21 +38,12 @@ use Rattle.job_text.proofs.WrittenLaws.{listed-whole, judged-possible}
 abbrev pub Constants : Plan → Type 0
 Constants P = (v c k : ℕ) (x : Float) → decision P v c ≡ constant k x → (k ≡ 0 → ⊥) × (k ≡ 2 → ⊥)
 
-decided-one : (band : Band) (b : BoundingBox) (values : List Float) (k : ℕ) (x : Float) → decideOf band b values ≡ constant k x → (k ≡ 0 → ⊥) × (k ≡ 2 → ⊥)
-unfolding decideOf
-decided-one band b values k x is =
-    by (pruning.pruned (band .min) (band .max) (pruning.lowest values) (pruning.highest values) (pruning.halfDiagonal b)) is
-  where
-    by : (t : Bool) → cond t (constant 1 (pruning.average values)) leaf ≡ constant k x → (k ≡ 0 → ⊥) × (k ≡ 2 → ⊥)
-    by true same = let one : 1 ≡ k = cc in (λ none. omega arith, λ two. omega arith)
-    by false same = let none : _≡_ {A = ℕ} 0 1 = cc in absurd (omega arith)
-
--- in an input's plan it is 1
-pub constants-one : (i : Input) → Constants (planOf i)
+-- so it is in an input's plan
+pub plan-constants : (i : Input) → Constants (planOf i)
 unfolding planWith
-constants-one i v c k x is =
+plan-constants i v c k x is =
     let P = planOf i in
-    decided-one (i .band) (boxOf (i .grid) v c) (map (filled P v 0 zeros) (octet (i .grid .inner) c)) k x is
+    decide-kind (i .band) (boxOf (i .grid) v c) (map (filled P v 0 zeros) (octet (i .grid .inner) c)) is
 
 -- ---- the place of a child among all children
 
@@ -162,7 +151,7 @@ pub written-plan : (r : Record) (nan : ℕ) (m : Memory) (out : List ℕ) → r 
 unfolding printable recordListing
 written-plan r nan m out job judged end counts done enough =
     let P = planOf (r .input) in
-    let constants = constants-one (r .input) in
+    let constants = plan-constants (r .input) in
     let placed = all-placed P m constants done enough in
     let whole : recordListing r nan m ≡ planListing P nan =
     ap (λ k. listing (P .nodes) (P .children) (P .leafPoints) nan k m) counts ∙ listing-plan P m constants done nan in

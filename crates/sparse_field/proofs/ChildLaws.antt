@@ -1,9 +1,9 @@
 -- A child's turn, from what the code reads: its kind, its octet, and the points of its leaf.
 use Prim.Native.Nat.{ℕ, zero, suc, _+_, _*_, _-_, _≤_, _<_, min}
-use mathlib.Core.Path.{_≡_, refl, sym, ap, subst, _∙_}
+use mathlib.Core.Path.{_≡_, refl, sym, ap, ap₂, subst, _∙_}
 use mathlib.Core.Bool.{Bool, true, false, cond}
 use mathlib.Core.List.{List}
-use native.Mathlib.Nat.{mul-le-mul-right}
+use native.Mathlib.Nat.{mul-le-mul-right, pos-of-ne-zero}
 use native.Mathlib.Numerals.{add-one}
 use native.Mathlib.Omega.{arith}
 use lib.ListN.{set, getD, length}
@@ -19,8 +19,11 @@ use Rattle.grid.specs.Nodes.{nodesOf}
 use Rattle.grid.specs.Boxes.{nodeBox, childBox}
 use Rattle.grid.specs.Leaves.{leafPoint}
 use Rattle.grid.specs.Inner.Octets.{octetValues}
-use Rattle.grid.specs.Pruning as pruning
-use Rattle.schedule.specs.Plan.{Plan, constant, leaf}
+use Rattle.grid.specs.declared.Verdict.{Verdict}
+use Rattle.grid.specs.declared.Verdict.the-variants.{Constant, Leaf}
+use Rattle.grid.specs.Pruning.{verdictOf}
+use Rattle.grid.proofs.Verdicts.{verdict-kind}
+use Rattle.schedule.specs.Plan.{Plan}
 use Rattle.schedule.specs.Memory.{Memory}
 use Rattle.schedule.specs.Opened.{nonzero}
 use Rattle.schedule.specs.Totals.{countOf, countAll, activeAll}
@@ -30,7 +33,7 @@ use Rattle.sparse_field.specs.declared.Cursor.the-variants.{Point}
 use Rattle.sparse_field.specs.declared.Stop.the-variants.{Through, At}
 use Rattle.schedule.specs.Lent.{memoryOf}
 use Rattle.sparse_field.specs.Inner.FlatValue.{flatValue}
-use Rattle.sparse_field.specs.Plan.{decideOf, at, boxOf, planWith}
+use Rattle.sparse_field.specs.Plan.{decisionOf, decideOf, at, boxOf, planWith}
 use Rattle.sparse_field.specs.Inner.Progress.{plan, Sized, Ready, readingIn, ChildrenAdvanced, leafProgress}
 use Rattle.sparse_field.proofs.Turns.{progress, turn-active, turn-skip, turn-constant, turn-leaf, filledStore}
 
@@ -104,39 +107,34 @@ module _ (g : Grid) (band : Band) (words : List ℕ) (reals : List Float) (parts
   skipped none =
       turn-skip P v c b leaves m ready below (sym (turn-active P v c b leaves m ready below) ∙ ap nonzero (sym kind-read ∙ none))
 
-  module _ {octet : List Float} {child : BoundingBox} {h : Float} (read : octet ≡ octetValues (m .corners) (g .inner) c)
-      (lies : child ≡ childBox box (g .inner) c) (half : h ≡ pruning.halfDiagonal child)
+  module _ {octet : List Float} {child : BoundingBox} {verdict : Verdict} (read : octet ≡ octetValues (m .corners) (g .inner) c)
+      (lies : child ≡ childBox box (g .inner) c) (judged : verdict ≡ verdictOf (band .min) (band .max) child octet)
       (above : getD (m .kinds) (v * r + c) 0 ≡ 0 → ⊥) where
     -- the child is active
     is-active : P .active v c ≡ true
     unfolding planWith
     is-active = sym (turn-active P v c b leaves m ready below) ∙ nonzero-above (getD (m .kinds) (v * cube (g .inner) + c) 0) (λ e. above (kind-read ∙ e))
 
-    -- the decision, by the pruning rule
-    decided : (x : Bool) → pruning.pruned (band .min) (band .max) (pruning.lowest octet) (pruning.highest octet) h ≡ x
-        → P .decide v c (readingIn m) ≡ cond x (constant 1 (pruning.average octet)) leaf
+    -- the child's box
+    lies-in : child ≡ childBox (nodeBox g v) (g .inner) c
+    lies-in = lies ∙ ap (λ n. childBox n (g .inner) c) boxed
+
+    -- the plan's decision is the verdict
+    decided : P .decide v c (readingIn m) ≡ decisionOf verdict
     unfolding planWith decideOf boxOf octetValues
-    decided x test =
-        let lies′ : child ≡ childBox (nodeBox g v) (g .inner) c = lies ∙ ap (λ n. childBox n (g .inner) c) boxed in
-        let same : pruning.pruned (band .min) (band .max) (pruning.lowest (octetValues (m .corners) (g .inner) c))
-        (pruning.highest (octetValues (m .corners) (g .inner) c)) (pruning.halfDiagonal (childBox (nodeBox g v) (g .inner) c)) ≡ x
-        = sym (ap (λ l. pruning.pruned (band .min) (band .max) (pruning.lowest l) (pruning.highest l) (pruning.halfDiagonal (childBox (nodeBox g v) (g .inner) c))) read)
-        ∙ sym (ap (λ y. pruning.pruned (band .min) (band .max) (pruning.lowest octet) (pruning.highest octet) y) (half ∙ ap pruning.halfDiagonal lies′))
-        ∙ test in
-        ap (λ y. cond y (constant 1 (pruning.average (octetValues (m .corners) (g .inner) c))) leaf) same
-        ∙ sym (ap (λ l. cond x (constant 1 (pruning.average l)) leaf) read)
+    decided = ap decisionOf (sym (judged ∙ ap₂ (verdictOf (band .min) (band .max)) lies-in read))
 
     -- a child that becomes a constant
-    pub constant-turn : {x : Float} → pruning.pruned (band .min) (band .max) (pruning.lowest octet) (pruning.highest octet) h ≡ true → x ≡ pruning.average octet
+    pub constant-turn : {k : ℕ} {x : Float} → verdict ≡ Constant k x
         → ChildrenAdvanced P v c (suc c) b leaves m
-        (memoryOf (set (m .kinds) (v * r + c) 1) (set (m .numbers) (v * r + c) x) (m .places) (m .store) (m .corners)) (progress leaves b Through)
+        (memoryOf (set (m .kinds) (v * r + c) k) (set (m .numbers) (v * r + c) x) (m .places) (m .store) (m .corners)) (progress leaves b Through)
     unfolding planWith
-    constant-turn {x} test mean =
-        let turn = turn-constant P v c b leaves m ready below is-active 1 (pruning.average octet) (omega arith) (decided true test) in
+    constant-turn {k} {x} is =
+        let kind : 0 < k = pos-of-ne-zero (verdict-kind (band .min) (band .max) child octet (sym judged ∙ is) .0) in
+        let turn = turn-constant P v c b leaves m ready below is-active k x kind (decided ∙ ap decisionOf is) in
         subst (λ n. ChildrenAdvanced P v c (suc c) b leaves m
-        (memoryOf (set (m .kinds) (v * n + c) 1) (set (m .numbers) (v * n + c) x) (m .places) (m .store) (m .corners)) (progress leaves b Through)) (sym cubed)
-        (subst (λ y. ChildrenAdvanced P v c (suc c) b leaves m
-        (memoryOf (set (m .kinds) (v * cube (g .inner) + c) 1) (set (m .numbers) (v * cube (g .inner) + c) y) (m .places) (m .store) (m .corners)) (progress leaves b Through)) (sym mean) turn)
+        (memoryOf (set (m .kinds) (v * n + c) k) (set (m .numbers) (v * n + c) x) (m .places) (m .store) (m .corners)) (progress leaves b Through)) (sym cubed)
+        turn
 
     -- a leaf more is one of all active children
     pub leaf-inside : (leaves + 1) * cube (g .leaf) ≤ length (m .store)
@@ -146,24 +144,22 @@ module _ (g : Grid) (band : Band) (words : List ℕ) (reals : List Float) (parts
         omega (arith, ready .lent .store, ready .atMost, mul-le-mul-right (cube (g .leaf)) more, mul-le-mul-right (cube (g .leaf)) (ready .atMost))
 
     -- a child that becomes a leaf
-    pub leaf-turn : {store : List Float} {turn : Progress} → pruning.pruned (band .min) (band .max) (pruning.lowest octet) (pruning.highest octet) h ≡ false
-        → turn ≡ leafProgress (leaves + 1) b v c 0 (cube (g .leaf))
+    pub leaf-turn : {store : List Float} {turn : Progress} → verdict ≡ Leaf → turn ≡ leafProgress (leaves + 1) b v c 0 (cube (g .leaf))
         → store ≡ filled ((leaves + 1 - 1) * cube (g .leaf) + 0) (min b (cube (g .leaf) - 0))
         (λ q. at (flatValue words reals parts) (leafPoint child (g .leaf) (q - (leaves + 1 - 1) * cube (g .leaf)))) (m .store)
         → ChildrenAdvanced P v c (suc c) b leaves m
         (memoryOf (set (m .kinds) (v * r + c) 2) (m .numbers) (set (m .places) (v * r + c) leaves) store (m .corners)) turn
     unfolding planWith boxOf
-    leaf-turn {store} {turn} test goes stored =
-        let lies′ : child ≡ childBox (nodeBox g v) (g .inner) c = lies ∙ ap (λ n. childBox n (g .inner) c) boxed in
+    leaf-turn {store} {turn} is goes stored =
         let one : leaves + 1 ≡ suc leaves = add-one leaves in
         let stored′ : store ≡ filledStore P v c 0 b (suc leaves) (m .store) =
         stored
         ∙ ap (λ n. filled ((n - 1) * cube (g .leaf) + 0) (min b (cube (g .leaf) - 0))
         (λ q. at (flatValue words reals parts) (leafPoint child (g .leaf) (q - (n - 1) * cube (g .leaf)))) (m .store)) one
         ∙ ap (λ x. filled ((suc leaves - 1) * cube (g .leaf) + 0) (min b (cube (g .leaf) - 0))
-        (λ q. at (flatValue words reals parts) (leafPoint x (g .leaf) (q - (suc leaves - 1) * cube (g .leaf)))) (m .store)) lies′ in
+        (λ q. at (flatValue words reals parts) (leafPoint x (g .leaf) (q - (suc leaves - 1) * cube (g .leaf)))) (m .store)) lies-in in
         let goes′ : turn ≡ leafProgress (suc leaves) b v c 0 (cube (g .leaf)) = goes ∙ ap (λ n. leafProgress n b v c 0 (cube (g .leaf))) one in
-        let whole = turn-leaf P v c b leaves m ready below is-active (decided false test) in
+        let whole = turn-leaf P v c b leaves m ready below is-active (decided ∙ ap decisionOf is) in
         subst (λ n. ChildrenAdvanced P v c (suc c) b leaves m
         (memoryOf (set (m .kinds) (v * n + c) 2) (m .numbers) (set (m .places) (v * n + c) leaves) store (m .corners)) turn) (sym cubed)
         (subst (λ l. ChildrenAdvanced P v c (suc c) b leaves m

@@ -1,5 +1,6 @@
 -- Laws of the engine.
 pub mod Stretch
+pub mod Decisions
 pub mod RunLaws
 pub mod Turns
 pub mod ChildLaws

@@ -4,7 +4,7 @@ use mathlib.Core.Path.{_≡_, refl, sym, ap, ap₂, subst, fun-ext, _∙_}
 use mathlib.Core.Bool.{Bool, true, false, not, cond, _&&_, _||_}
 use mathlib.Core.Logic.{_⊎_, ⊎-elim}
 use mathlib.Core.List.{List, [], map}
-use native.Mathlib.Nat.{mul-le-mul-left, mul-le-mul-right}
+use native.Mathlib.Nat.{mul-le-mul-left, mul-le-mul-right, pos-of-ne-zero}
 use native.Mathlib.Omega.{arith}
 use lib.ListN.{set, getD, length, take, drop, length-set, length-drop}
 use lib.Seq.{length-take-le}
@@ -17,14 +17,13 @@ use Rattle.grid.specs.Blocks.{cube}
 use Rattle.grid.specs.Nodes.{nodesOf}
 use Rattle.grid.specs.Boxes.{active, nodeBox, childBox}
 use Rattle.grid.specs.Leaves.{leafPoint}
-use Rattle.grid.specs.Pruning as pruning
 use Rattle.grid.specs.Corners as corners
 use Rattle.grid.specs.CornerList as kinds
 use Rattle.grid.proofs.Needing.{needed-below}
 use Rattle.grid.proofs.BlockLaws.{cube-le}
 use Rattle.lists.specs.Filled.{filled}
 use Rattle.schedule.specs.Schedule.{Event, corner, point, evaluate, zeros}
-use Rattle.schedule.specs.Plan.{Plan, Decision, constant, leaf}
+use Rattle.schedule.specs.Plan.{Plan}
 use Rattle.schedule.specs.Resume.{at, eventsFrom, childrenLeft, nodesLeft}
 use Rattle.schedule.specs.Memory.{Memory, State}
 use Rattle.schedule.specs.Totals.{activeBefore, activeAll}
@@ -40,32 +39,23 @@ use Rattle.sparse_field.specs.declared.Stop.the-variants.{Through, At}
 use Rattle.schedule.specs.Lent.{memoryOf}
 use Rattle.sparse_field.specs.Inner.CornerRun.{CornerRun, neededFrom, evaluatedFrom}
 use Rattle.sparse_field.specs.Plan as plans
-use Rattle.sparse_field.specs.Plan.{planWith, decideOf, boxOf}
+use Rattle.sparse_field.specs.Plan.{planWith, boxOf}
 use Rattle.sparse_field.specs.Inner.Runs.{runOf}
 use Rattle.sparse_field.specs.Inner.FlatValue.{flatValue}
 use Rattle.sparse_field.specs.Inner.Progress.{plan, Sized, Lent, afterStop, IfThrough, stateIn, Advanced, Ready, readingIn, ZeroCorners, NodeAdvanced, Turned, Onward, leafProgress}
+use Rattle.sparse_field.proofs.Decisions.{decide-kind}
 use Rattle.sparse_field.proofs.NodeKinds.{part-needed}
 use Rattle.sparse_field.proofs.RunLaws.{run-corners}
 use Rattle.sparse_field.proofs.Turns.{progress, stopped, advanced-start, advanced-then, filledStore, turn-points}
 
 -- ---- the plan's laws
 
--- a constant's kind is 1
-decide-kind : (band : Band) (b : BoundingBox) (octet : List Float) (k : ℕ) (x : Float) → decideOf band b octet ≡ constant k x → 0 < k
-unfolding decideOf
-decide-kind band b octet k x decided =
-    kind (pruning.average octet) (pruning.pruned (band .min) (band .max) (pruning.lowest octet) (pruning.highest octet) (pruning.halfDiagonal b)) decided
-  where
-    kind : (y : Float) (b : Bool) → cond b (constant 1 y) leaf ≡ constant k x → 0 < k
-    kind y true e = let one : k ≡ 1 = cc in omega arith
-    kind y false e = let z : _≡_ {A = ℕ} 0 1 = cc in absurd (omega arith)
-
--- a needed corner is one of the node's, and a constant's kind is 1
+-- a needed corner is one of the node's, and a constant's kind is not 0
 pub plan-laws : (g : Grid) (band : Band) (value : Float → Float → Float → Float) → 0 < g .inner → PlanLaws (planWith g band value)
 unfolding planWith
 plan-laws g band value above = record {
   inside = λ v i below needed. needed-below (g .inner) (active g v) i above needed;
-  constantKind = λ v c read k x decided. decide-kind band (boxOf g v c) (map read (corners.octet (g .inner) c)) k x decided;
+  constantKind = λ v c read k x decided. pos-of-ne-zero (decide-kind band (boxOf g v c) (map read (corners.octet (g .inner) c)) decided .0);
 }
 
 -- ---- the kinds of one node

@@ -1,6 +1,5 @@
 -- The plan of an input: all that its schedule uses of it (rules S5 to S8).
 use Prim.Native.Nat.{ℕ, _+_}
-use mathlib.Core.Bool.{cond}
 use mathlib.Core.List.{List, map}
 use lib.Ieee.{Float}
 use Rattle.geometry.specs.declared.Vec3.{Vec3}
@@ -10,22 +9,25 @@ use Rattle.model.specs.Part.{partIn}
 use Rattle.model.specs.Model.{modelValue}
 use Rattle.grid.specs.declared.Grid.{Grid}
 use Rattle.grid.specs.declared.Band.{Band}
+use Rattle.grid.specs.declared.Verdict.{Verdict}
+use Rattle.grid.specs.declared.Verdict.the-variants.{Constant, Leaf}
 use Rattle.grid.specs.Blocks.{cube}
 use Rattle.grid.specs.Nodes.{nodesOf}
 use Rattle.grid.specs.Boxes as boxes
 use Rattle.grid.specs.Corners as corners
 use Rattle.grid.specs.Leaves.{leafPoint}
-use Rattle.grid.specs.Pruning as pruning
+use Rattle.grid.specs.Pruning.{verdictOf}
 use Rattle.schedule.specs.Plan.{Plan, Decision, constant, leaf}
 use Rattle.sparse_field.specs.declared.Input.{Input}
 
--- what a child becomes, by its box and its octet's values: a constant of kind 1 with their mean where it is pruned, else a leaf (rules G13,
--- G14 and S7)
+-- the grid's verdict, in the schedule's terms
+abbrev pub decisionOf : Verdict → Decision
+decisionOf (Constant kind number) = constant kind number
+decisionOf Leaf = leaf
+
+-- what a child becomes, by its box and its octet's values (rules G13, G14 and S7)
 unfoldable pub decideOf : Band → BoundingBox → List Float → Decision
-decideOf band b octet =
-    cond (pruning.pruned (band .min) (band .max) (pruning.lowest octet) (pruning.highest octet) (pruning.halfDiagonal b))
-    (constant 1 (pruning.average octet))
-    leaf
+decideOf band b octet = decisionOf (verdictOf (band .min) (band .max) b octet)
 
 -- a function's value at a point
 abbrev pub at : (Float → Float → Float → Float) → Vec3 → Float

@@ -18,6 +18,7 @@ use crate::points;
 use geometry::BoundingBox;
 use grid::Band;
 use grid::Grid;
+use grid::Verdict;
 
 // Evaluates points of a leaf that has the box b, from point p on while the budget lasts, into the
 // stretch of the store that its ordinal names. Answers the next point.
@@ -135,31 +136,36 @@ fn child_turn(
     }
     let child = grid::child_box(b, n, c);
     let octet = grid::octet_values(corners, n, c);
-    if grid::is_pruned(band.min, band.max, octet, grid::half_diagonal(child)) {
-        kinds[j] = 1;
-        numbers[j] = grid::average(octet);
-        return Progress {
-            leaves,
-            left: budget,
-            stop: Stop::Through,
-        };
+    let verdict = grid::decide_child(band.min, band.max, child, octet);
+    match verdict {
+        Verdict::Constant(kind, number) => {
+            kinds[j] = kind;
+            numbers[j] = number;
+            Progress {
+                leaves,
+                left: budget,
+                stop: Stop::Through,
+            }
+        }
+        Verdict::Leaf => {
+            kinds[j] = 2;
+            places[j] = leaves as u32;
+            leaf_from(
+                words,
+                reals,
+                parts,
+                child,
+                g.leaf,
+                v,
+                c,
+                0,
+                leaves + 1,
+                budget,
+                scratch,
+                store,
+            )
+        }
     }
-    kinds[j] = 2;
-    places[j] = leaves as u32;
-    leaf_from(
-        words,
-        reals,
-        parts,
-        child,
-        g.leaf,
-        v,
-        c,
-        0,
-        leaves + 1,
-        budget,
-        scratch,
-        store,
-    )
 }
 
 // The children of node v, which has the box b, from child `first` on.
