@@ -3,8 +3,8 @@ use mathlib.Core.Path.{ap, ap₂, _∙_}
 use borrow.Author.Needs.{needs}
 use lib.Ieee.{binary64, add, mul}
 use Rattle.geometry.specs.Axis.{along}
-use Rattle.geometry.proofs.along.Statement.{statement}
-use Rattle.geometry.proofs.along.Tie as tie
+use Rattle.geometry.proofs.axes.along.Statement.{statement}
+use Rattle.geometry.proofs.axes.along.Tie as tie
 
 from-count-requires : tie.Need-from-count-requires
 from-count-requires c κs = search needs

@@ -3,8 +3,8 @@ use mathlib.Core.Path.{ap, _∙_}
 use borrow.Author.Needs.{needs}
 use lib.Ieee.{binary64, div}
 use Rattle.geometry.specs.Axis.{stepAlong}
-use Rattle.geometry.proofs.step_along.Statement.{statement}
-use Rattle.geometry.proofs.step_along.Tie as tie
+use Rattle.geometry.proofs.axes.step_along.Statement.{statement}
+use Rattle.geometry.proofs.axes.step_along.Tie as tie
 
 from-count-requires : tie.Need-from-count-requires
 from-count-requires c κs = search needs

@@ -7,8 +7,8 @@ use borrow.Author.Tests.{lt-ltb, le-ltb}
 use Rattle.geometry.specs.Causes.{firstOf}
 use Rattle.geometry.specs.Index.{index1dOf, placeOf}
 use Rattle.geometry.proofs.Grid.{Accepted, accepted, slab-fits, place-fits}
-use Rattle.geometry.proofs.index1d_from_index3d.Statement.{statement}
-use Rattle.geometry.proofs.index1d_from_index3d.Tie as tie
+use Rattle.geometry.proofs.indices.index1d_from_index3d.Statement.{statement}
+use Rattle.geometry.proofs.indices.index1d_from_index3d.Tie as tie
 
 dimensions-refused-requires : tie.Need-dimensions-refused-requires
 dimensions-refused-requires c κs = search needs

@@ -2,8 +2,8 @@
 use borrow.Author.Tests.{lt-ltb, le-ltb}
 use Rattle.geometry.specs.Index.{nextIndices}
 use borrow.Author.Needs.{needs}
-use Rattle.geometry.proofs.next_indices.Statement.{statement}
-use Rattle.geometry.proofs.next_indices.Tie as tie
+use Rattle.geometry.proofs.indices.next_indices.Statement.{statement}
+use Rattle.geometry.proofs.indices.next_indices.Tie as tie
 
 add-if1 : tie.Need-add-if1
 add-if1 c = search needs

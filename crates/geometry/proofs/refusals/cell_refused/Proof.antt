@@ -2,8 +2,8 @@
 use mathlib.Core.Path.{sym, _∙_}
 use borrow.Author.Needs.{needs}
 use Rattle.geometry.specs.Bounds.{cellRefused}
-use Rattle.geometry.proofs.cell_refused.Statement.{statement}
-use Rattle.geometry.proofs.cell_refused.Tie as tie
+use Rattle.geometry.proofs.refusals.cell_refused.Statement.{statement}
+use Rattle.geometry.proofs.refusals.cell_refused.Tie as tie
 
 is-finite-requires : tie.Need-is-finite-requires
 is-finite-requires c κs = search needs

@@ -8,8 +8,8 @@ use borrow.Author.Needs.{needs}
 use borrow.Author.Tests.{eq-eqb, ne-eqb}
 use Rattle.geometry.specs.Index.{dimensionsRefused}
 use Rattle.geometry.proofs.Grid.{too-many, x-le, y-le, z-le, small-product}
-use Rattle.geometry.proofs.dimensions_refused.Statement.{statement}
-use Rattle.geometry.proofs.dimensions_refused.Tie as tie
+use Rattle.geometry.proofs.refusals.dimensions_refused.Statement.{statement}
+use Rattle.geometry.proofs.refusals.dimensions_refused.Tie as tie
 
 returns : tie.Need-returns
 unfolding dimensionsRefused

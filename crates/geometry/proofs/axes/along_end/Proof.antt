@@ -3,8 +3,8 @@ use mathlib.Core.Path.{ap₂, _∙_}
 use borrow.Author.Needs.{needs}
 use lib.Ieee.{binary64, add}
 use Rattle.geometry.specs.Axis.{alongEnd}
-use Rattle.geometry.proofs.along_end.Statement.{statement}
-use Rattle.geometry.proofs.along_end.Tie as tie
+use Rattle.geometry.proofs.axes.along_end.Statement.{statement}
+use Rattle.geometry.proofs.axes.along_end.Tie as tie
 
 along-requires : tie.Need-along-requires
 along-requires c κs = search needs

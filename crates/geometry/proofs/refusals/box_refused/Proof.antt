@@ -3,8 +3,8 @@ use mathlib.Core.Path.{sym, _∙_}
 use borrow.Author.Needs.{needs}
 use Rattle.lists.proofs.Tests.{or-fifth}
 use Rattle.geometry.specs.Bounds.{boxRefused}
-use Rattle.geometry.proofs.box_refused.Statement.{statement}
-use Rattle.geometry.proofs.box_refused.Tie as tie
+use Rattle.geometry.proofs.refusals.box_refused.Statement.{statement}
+use Rattle.geometry.proofs.refusals.box_refused.Tie as tie
 
 point-refused-requires : tie.Need-point-refused-requires
 point-refused-requires c κs = search needs

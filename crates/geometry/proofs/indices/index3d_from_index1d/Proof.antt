@@ -8,8 +8,8 @@ use Rattle.geometry.specs.Causes.{firstOf}
 use Rattle.geometry.specs.Index.{index3dOf, indicesOf}
 use Rattle.geometry.specs.declared.Index3d.the-variants.{At}
 use Rattle.geometry.proofs.Grid.{Accepted, accepted, area-le}
-use Rattle.geometry.proofs.index3d_from_index1d.Statement.{statement}
-use Rattle.geometry.proofs.index3d_from_index1d.Tie as tie
+use Rattle.geometry.proofs.indices.index3d_from_index1d.Statement.{statement}
+use Rattle.geometry.proofs.indices.index3d_from_index1d.Tie as tie
 
 dimensions-refused-requires : tie.Need-dimensions-refused-requires
 dimensions-refused-requires c κs = search needs
