@@ -4,8 +4,8 @@ use mathlib.Core.Bool.{not, or-true}
 use borrow.Author.Needs.{needs}
 use borrow.Author.Tests.{eq-eqb, ne-eqb, lt-ltb, le-ltb}
 use Rattle.model.specs.Model.{refusedByFour}
-use Rattle.model.proofs.cause_four.Statement.{statement}
-use Rattle.model.proofs.cause_four.Tie as tie
+use Rattle.model.proofs.refusals.cause_four.Statement.{statement}
+use Rattle.model.proofs.refusals.cause_four.Tie as tie
 
 cast-count : tie.Need-cast-count
 cast-count c = search needs

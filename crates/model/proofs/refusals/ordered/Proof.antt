@@ -12,8 +12,8 @@ use Rattle.model.specs.Part.{partIn, inputsBelow}
 use Rattle.model.specs.Model.{orderedTo}
 use native.Mathlib.Omega.{arith}
 use borrow.Author.Tests.{not-true, not-false}
-use Rattle.model.proofs.ordered.Statement.{statement}
-use Rattle.model.proofs.ordered.Tie as tie
+use Rattle.model.proofs.refusals.ordered.Statement.{statement}
+use Rattle.model.proofs.refusals.ordered.Tie as tie
 
 abbrev Inv-loop : tie.InvT-loop
 Inv-loop count parts p₀ p = (p ≤ count) × (orderedTo (map partIn parts) p ≡ true)

@@ -1,8 +1,8 @@
 -- `both_below` meets its contract: the second test counts where the first holds.
 use borrow.Author.Needs.{needs}
 use mathlib.Core.Path.{sym, _∙_}
-use Rattle.model.proofs.both_below.Statement.{statement}
-use Rattle.model.proofs.both_below.Tie as tie
+use Rattle.model.proofs.refusals.both_below.Statement.{statement}
+use Rattle.model.proofs.refusals.both_below.Tie as tie
 
 below-requires : tie.Need-below-requires
 below-requires c κs = search needs

@@ -2,8 +2,8 @@
 use borrow.Author.Needs.{needs}
 use mathlib.Core.Path.{sym, ap, _∙_}
 use Rattle.model.specs.Part.{inputsBelow}
-use Rattle.model.proofs.inputs_below.Statement.{statement}
-use Rattle.model.proofs.inputs_below.Tie as tie
+use Rattle.model.proofs.refusals.inputs_below.Statement.{statement}
+use Rattle.model.proofs.refusals.inputs_below.Tie as tie
 
 enum-told : tie.Need-enum-told
 enum-told c = search needs

@@ -4,8 +4,8 @@ use mathlib.Core.Path.{_∙_}
 use denote.Ref.{now}
 use Rattle.model.specs.Flat.{Flat, flatOf}
 use Rattle.model.specs.Row.{evaluatedRows}
-use Rattle.model.proofs.evaluate_row.Statement.{statement}
-use Rattle.model.proofs.evaluate_row.Tie as tie
+use Rattle.model.proofs.evaluations.evaluate_row.Statement.{statement}
+use Rattle.model.proofs.evaluations.evaluate_row.Tie as tie
 
 at-most-64-requires : tie.Need-at-most-64-requires
 at-most-64-requires c κs = search needs

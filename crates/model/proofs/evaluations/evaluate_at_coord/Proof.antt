@@ -5,8 +5,8 @@ use Rattle.geometry.specs.Causes.{firstOf}
 use Rattle.model.specs.Model.{evaluationOf}
 use Rattle.model.specs.declared.Evaluation.the-variants.{Value}
 use Rattle.model.proofs.Accepted.{laid-value}
-use Rattle.model.proofs.evaluate_at_coord.Statement.{statement}
-use Rattle.model.proofs.evaluate_at_coord.Tie as tie
+use Rattle.model.proofs.evaluations.evaluate_at_coord.Statement.{statement}
+use Rattle.model.proofs.evaluations.evaluate_at_coord.Tie as tie
 
 cause-four-requires : tie.Need-cause-four-requires
 cause-four-requires c κs = search needs

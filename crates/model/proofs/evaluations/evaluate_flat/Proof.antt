@@ -11,8 +11,8 @@ use Rattle.model.specs.Model.{modelValue}
 use Rattle.model.specs.Flat.{Flat, flatOf, partsOf}
 use Rattle.model.proofs.FlatValues.{written, none-value, last-written}
 use native.Mathlib.Omega.{arith}
-use Rattle.model.proofs.evaluate_flat.Statement.{statement}
-use Rattle.model.proofs.evaluate_flat.Tie as tie
+use Rattle.model.proofs.evaluations.evaluate_flat.Statement.{statement}
+use Rattle.model.proofs.evaluations.evaluate_flat.Tie as tie
 
 at-most-64-requires : tie.Need-at-most-64-requires
 at-most-64-requires c κs = search needs

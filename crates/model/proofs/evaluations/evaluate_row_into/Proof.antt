@@ -6,8 +6,8 @@ use Rattle.model.specs.Flat.{Flat, flatOf}
 use Rattle.model.specs.Row.{evaluatedRows, modelRow}
 use Rattle.model.proofs.AllRows.{row-of-last, row-of-none}
 use native.Mathlib.Omega.{arith}
-use Rattle.model.proofs.evaluate_row_into.Statement.{statement}
-use Rattle.model.proofs.evaluate_row_into.Tie as tie
+use Rattle.model.proofs.evaluations.evaluate_row_into.Statement.{statement}
+use Rattle.model.proofs.evaluations.evaluate_row_into.Tie as tie
 
 at-most-64-requires : tie.Need-at-most-64-requires
 at-most-64-requires c κs = search needs
