@@ -1,8 +1,8 @@
--- `cutting::cut` meets its contract: the two comparisons are the one of |v|.
+-- `thresholds::cut` meets its contract: the two comparisons are the one of |v|.
 use Rattle.dense_field.specs.Threshold.{cut}
 use Rattle.dense_field.proofs.CutLaws.{both-below, not-below, minus-not-below}
-use Rattle.dense_field.proofs.cutting.cut.Statement.{statement}
-use Rattle.dense_field.proofs.cutting.cut.Tie as tie
+use Rattle.dense_field.proofs.thresholds.cut.Statement.{statement}
+use Rattle.dense_field.proofs.thresholds.cut.Tie as tie
 
 returns : tie.Need-returns
 unfolding cut

@@ -1,4 +1,4 @@
--- `count::point_count` meets its contract: dimensions that are cut off right above the largest product are refused where the whole ones are, and are those where they pass.
+-- `counts::point_count` meets its contract: dimensions that are cut off right above the largest product are refused where the whole ones are, and are those where they pass.
 use mathlib.Core.Path.{sym, ap, _∙_}
 use borrow.Author.Needs.{needs}
 use Rattle.geometry.specs.Causes.{firstOf}
@@ -7,8 +7,8 @@ use Rattle.geometry.specs.Index.{dimensionsRefused}
 use Rattle.dense_field.specs.Points.{pointCountOf, pointCounts}
 use Rattle.dense_field.specs.declared.PointCount.the-variants.{Points}
 use Rattle.dense_field.proofs.CountLaws.{capped-passes, capped-refused}
-use Rattle.dense_field.proofs.count.point_count.Statement.{statement}
-use Rattle.dense_field.proofs.count.point_count.Tie as tie
+use Rattle.dense_field.proofs.counts.point_count.Statement.{statement}
+use Rattle.dense_field.proofs.counts.point_count.Tie as tie
 
 box-refused-requires : tie.Need-box-refused-requires
 box-refused-requires c κs = search needs

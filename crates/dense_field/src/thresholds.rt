@@ -7,7 +7,7 @@ ghost use Rattle.dense_field.specs.Field.{valuesRefused};
 ghost use Rattle.dense_field.specs.Outcomes.{outcomeOf};
 ghost use Rattle.dense_field.specs.Threshold.{cut, thresholded};
 use crate::Outcome;
-use crate::count;
+use crate::counts;
 use geometry::Vec3i;
 
 // +0 for a value whose size is below the limit, else the value as it is. Two comparisons stand for
@@ -39,7 +39,7 @@ pub fn threshold(n: Vec3i, limit: f64, values: &mut [f64]) -> Outcome
     ensures values { λ _. ⌜ now (values .exit)
         ≡ cond (valuesRefused n (length (now (values .entry)))) (now (values .entry)) (thresholded limit (now (values .entry))) ⌝ }
 {
-    if count::values_refused(n, values.len()) {
+    if counts::values_refused(n, values.len()) {
         return Outcome::Refused(9);
     }
     cut_all(limit, values);

@@ -1,11 +1,11 @@
--- `count::values_refused` meets its contract: the product is taken once it is known to be small.
+-- `counts::values_refused` meets its contract: the product is taken once it is known to be small.
 use mathlib.Core.Path.{sym, _∙_}
 use native.Mathlib.Omega.{arith}
 use borrow.Author.Needs.{needs}
 use Rattle.geometry.proofs.Grid.{Accepted, accepted, area-le}
 use Rattle.dense_field.specs.Field.{valuesRefused}
-use Rattle.dense_field.proofs.count.values_refused.Statement.{statement}
-use Rattle.dense_field.proofs.count.values_refused.Tie as tie
+use Rattle.dense_field.proofs.counts.values_refused.Statement.{statement}
+use Rattle.dense_field.proofs.counts.values_refused.Tie as tie
 
 -- what the first test has shown
 grid : (c : tie.Else1) → let n = c .before .before .args .n in Accepted (n .i) (n .j) (n .k)

@@ -1,4 +1,4 @@
--- `pad::pad_slab` meets its contract: an outer slab is set whole, and of an inner one the rows before j are padded.
+-- `paddings::pad_slab` meets its contract: an outer slab is set whole, and of an inner one the rows before j are padded.
 use mathlib.Core.Path.{_≡_, sym, ap, _∙_}
 use native.Mathlib.Omega.{arith}
 use borrow.Author.Needs.{needs}
@@ -11,8 +11,8 @@ use Rattle.dense_field.specs.Padding.{paddedAt}
 use Rattle.dense_field.proofs.Lending.{as-long, Within, within}
 use Rattle.dense_field.proofs.Edges.{edge-first, edge-last, outer-slab}
 use Rattle.dense_field.proofs.PadLaws.{outer-stretch, pad-more}
-use Rattle.dense_field.proofs.pad.pad_slab.Statement.{statement}
-use Rattle.dense_field.proofs.pad.pad_slab.Tie as tie
+use Rattle.dense_field.proofs.paddings.pad_slab.Statement.{statement}
+use Rattle.dense_field.proofs.paddings.pad_slab.Tie as tie
 
 abbrev Inv-loop : tie.InvT-loop
 Inv-loop n value values₀ k slab j₀ values j = (j ≤ n .j) × (length values ≡ length values₀) × (values ≡ filled (k * (n .i * n .j)) (j * n .i) (paddedAt n value values₀) values₀)

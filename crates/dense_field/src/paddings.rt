@@ -10,7 +10,7 @@ ghost use Rattle.dense_field.specs.Inner.Lent.{Lent};
 ghost use Rattle.dense_field.specs.Outcomes.{outcomeOf};
 ghost use Rattle.dense_field.specs.Padding.{paddedAt, padded};
 use crate::Outcome;
-use crate::count;
+use crate::counts;
 use geometry::Vec3i;
 
 // Sets `count` values from `at` on.
@@ -86,7 +86,7 @@ pub fn padding(n: Vec3i, value: f64, values: &mut [f64]) -> Outcome
     ensures values { λ _. ⌜ now (values .exit)
         ≡ cond (valuesRefused n (length (now (values .entry)))) (now (values .entry)) (padded n value (now (values .entry))) ⌝ }
 {
-    if count::values_refused(n, values.len()) {
+    if counts::values_refused(n, values.len()) {
         return Outcome::Refused(9);
     }
     pad_slabs(n, value, values);

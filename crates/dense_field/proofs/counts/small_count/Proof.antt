@@ -1,11 +1,11 @@
--- `count::small_count` meets its contract: below 2 ^ 24 the cast gives the count, and from there on the answer is 2 ^ 24.
+-- `counts::small_count` meets its contract: below 2 ^ 24 the cast gives the count, and from there on the answer is 2 ^ 24.
 use mathlib.Core.Path.{sym, subst}
 use native.Mathlib.Omega.{arith}
 use lib.Dec.{T}
 use lib.Ieee.{neg, ofBits}
 use Rattle.dense_field.proofs.CountLaws.{below-most, count-below, count-none, count-nan, count-most}
-use Rattle.dense_field.proofs.count.small_count.Statement.{statement}
-use Rattle.dense_field.proofs.count.small_count.Tie as tie
+use Rattle.dense_field.proofs.counts.small_count.Statement.{statement}
+use Rattle.dense_field.proofs.counts.small_count.Tie as tie
 
 truncating-f64-to-u64-requires : tie.Need-truncating-f64-to-u64-requires
 unfolding ofBits neg

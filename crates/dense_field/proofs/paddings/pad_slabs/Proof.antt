@@ -1,4 +1,4 @@
--- `pad::pad_slabs` meets its contract: the slabs before k are padded.
+-- `paddings::pad_slabs` meets its contract: the slabs before k are padded.
 use mathlib.Core.Path.{_≡_, sym, ap, _∙_}
 use native.Mathlib.Omega.{arith}
 use borrow.Author.Needs.{needs}
@@ -10,8 +10,8 @@ use Rattle.lists.proofs.Filling.{filled-none, filled-length, filled-done}
 use Rattle.dense_field.specs.Padding.{paddedAt}
 use Rattle.dense_field.proofs.Lending.{as-long}
 use Rattle.dense_field.proofs.PadLaws.{pad-more, pad-all}
-use Rattle.dense_field.proofs.pad.pad_slabs.Statement.{statement}
-use Rattle.dense_field.proofs.pad.pad_slabs.Tie as tie
+use Rattle.dense_field.proofs.paddings.pad_slabs.Statement.{statement}
+use Rattle.dense_field.proofs.paddings.pad_slabs.Tie as tie
 
 abbrev Inv-loop : tie.InvT-loop
 Inv-loop n value values₀ k₀ values k = (k ≤ n .k) × (length values ≡ length values₀) × (values ≡ filled 0 (k * (n .i * n .j)) (paddedAt n value values₀) values₀)

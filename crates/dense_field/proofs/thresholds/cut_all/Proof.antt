@@ -1,4 +1,4 @@
--- `cutting::cut_all` meets its contract: at each turn the values before i are cut, and the others are as they were.
+-- `thresholds::cut_all` meets its contract: at each turn the values before i are cut, and the others are as they were.
 use mathlib.Core.Path.{_≡_, refl, sym, ap, ap₂, _∙_}
 use native.Mathlib.Omega.{arith}
 use borrow.Author.Needs.{needs}
@@ -9,8 +9,8 @@ use lib.Ieee.{Float, nan}
 use lib.ListN.{length, set, getD}
 use Rattle.dense_field.specs.Threshold.{cut}
 use Rattle.root.proofs.RowLaws.{mapFirst, mapFirst-none, mapFirst-length, mapFirst-next, mapFirst-set, mapFirst-all}
-use Rattle.dense_field.proofs.cutting.cut_all.Statement.{statement}
-use Rattle.dense_field.proofs.cutting.cut_all.Tie as tie
+use Rattle.dense_field.proofs.thresholds.cut_all.Statement.{statement}
+use Rattle.dense_field.proofs.thresholds.cut_all.Tie as tie
 
 abbrev Inv-loop : tie.InvT-loop
 Inv-loop limit values₀ i₀ values i = (i ≤ length values₀) × (length values ≡ length values₀) × (values ≡ mapFirst (cut limit) i values₀)

@@ -1,12 +1,12 @@
--- `pad::pad_row` meets its contract: an outer row is set whole, and an inner one at its two ends.
+-- `paddings::pad_row` meets its contract: an outer row is set whole, and an inner one at its two ends.
 use native.Mathlib.Omega.{arith}
 use borrow.Author.Needs.{needs}
 use lib.ListN.{length, length-set}
 use Rattle.dense_field.proofs.Lending.{Within, within}
 use Rattle.dense_field.proofs.Edges.{edge-first, edge-last, outer-row}
 use Rattle.dense_field.proofs.PadLaws.{outer-stretch, inner-row}
-use Rattle.dense_field.proofs.pad.pad_row.Statement.{statement}
-use Rattle.dense_field.proofs.pad.pad_row.Tie as tie
+use Rattle.dense_field.proofs.paddings.pad_row.Statement.{statement}
+use Rattle.dense_field.proofs.paddings.pad_row.Tie as tie
 
 -- the row and the slab stand in the field
 within-of : (s : tie.Start) → Within (s .args .n) (s .args .j) (s .args .k) (length (s .args .values .now))

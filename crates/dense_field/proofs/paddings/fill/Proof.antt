@@ -1,4 +1,4 @@
--- `pad::fill` meets its contract: at each turn the first i values of the stretch are set.
+-- `paddings::fill` meets its contract: at each turn the first i values of the stretch are set.
 use mathlib.Core.Path.{_≡_, refl, sym, ap, _∙_}
 use native.Mathlib.Omega.{arith}
 use borrow.Author.Needs.{needs}
@@ -6,8 +6,8 @@ use Prim.Native.Nat.{_≤_, _-_}
 use lib.ListN.{length}
 use Rattle.lists.specs.Filled.{filled}
 use Rattle.lists.proofs.Filling.{filled-none, filled-length, filled-store, filled-done}
-use Rattle.dense_field.proofs.pad.fill.Statement.{statement}
-use Rattle.dense_field.proofs.pad.fill.Tie as tie
+use Rattle.dense_field.proofs.paddings.fill.Statement.{statement}
+use Rattle.dense_field.proofs.paddings.fill.Tie as tie
 
 abbrev Inv-loop : tie.InvT-loop
 Inv-loop value values₀ at count i₀ values i = (i ≤ count) × (length values ≡ length values₀) × (values ≡ filled at i (λ q. value) values₀)

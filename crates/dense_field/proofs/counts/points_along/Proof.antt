@@ -1,11 +1,11 @@
--- `count::points_along` meets its contract: one point more than the steps.
+-- `counts::points_along` meets its contract: one point more than the steps.
 use mathlib.Core.Path.{ap}
 use native.Mathlib.Omega.{arith}
 use borrow.Author.Needs.{needs}
 use lib.Ieee.{toUnsigned}
 use Rattle.dense_field.specs.Points.{pointsAlong}
-use Rattle.dense_field.proofs.count.points_along.Statement.{statement}
-use Rattle.dense_field.proofs.count.points_along.Tie as tie
+use Rattle.dense_field.proofs.counts.points_along.Statement.{statement}
+use Rattle.dense_field.proofs.counts.points_along.Tie as tie
 
 floor-requires : tie.Need-floor-requires
 floor-requires c κs = search needs
