@@ -5,8 +5,8 @@ use native.Mathlib.Omega.{arith}
 use borrow.Author.Needs.{needs}
 use Rattle.vectors.specs.Text.{digitOf, hexFrom}
 use Rattle.vectors.proofs.Reading.{digit-inside, hex-step, hex-stop, hex-done, room-one, room-step}
-use Rattle.vectors.proofs.hex16.Statement.{statement}
-use Rattle.vectors.proofs.hex16.Tie as tie
+use Rattle.vectors.proofs.numbers.hex16.Statement.{statement}
+use Rattle.vectors.proofs.numbers.hex16.Tie as tie
 
 abbrev Inv-loop : tie.InvT-loop
 Inv-loop s at n₀ place₀ left₀ n place left = (hexFrom left s place n ≡ hexFrom 16 s at 0) × ((n + 1) * 16 ^ left ≤ 2 ^ 64)

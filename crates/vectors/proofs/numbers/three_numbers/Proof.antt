@@ -3,8 +3,8 @@ use mathlib.Core.Path.{sym, _∙_}
 use native.Mathlib.Omega.{arith}
 use Rattle.vectors.proofs.Reading.{row-short, row-first, row-second, row-third, row-whole}
 use borrow.Author.Needs.{needs}
-use Rattle.vectors.proofs.three_numbers.Statement.{statement}
-use Rattle.vectors.proofs.three_numbers.Tie as tie
+use Rattle.vectors.proofs.numbers.three_numbers.Statement.{statement}
+use Rattle.vectors.proofs.numbers.three_numbers.Tie as tie
 
 returns : tie.Need-returns
 returns c = sym (row-short (c .before .before .args .s .now) (c .before .before .args .at) (omega arith))

@@ -2,8 +2,8 @@
 use Prim.Native.Nat.{_-_, _≤_}
 use lib.ListN.{length}
 use borrow.Author.Needs.{needs}
-use Rattle.vectors.proofs.decimal_number.Statement.{statement}
-use Rattle.vectors.proofs.decimal_number.Tie as tie
+use Rattle.vectors.proofs.numbers.decimal_number.Statement.{statement}
+use Rattle.vectors.proofs.numbers.decimal_number.Tie as tie
 
 abbrev Inv-loop : tie.InvT-loop
 Inv-loop s n₀ k₀ n k = (k ≤ length s) × (n ≤ 4294967295)

@@ -5,10 +5,10 @@ use native.Mathlib.Omega.{arith}
 use borrow.Author.Count.{below-more}
 use lib.ListN.{length, getD}
 use borrow.Author.Needs.{needs}
-use Rattle.vectors.proofs.line_end.Statement.{statement}
-use Rattle.vectors.proofs.line_end.Tie as tie
-use Rattle.vectors.proofs.line_end.Reads as reads
-use Rattle.vectors.proofs.line_end.Lts as lts
+use Rattle.vectors.proofs.lines.line_end.Statement.{statement}
+use Rattle.vectors.proofs.lines.line_end.Tie as tie
+use Rattle.vectors.proofs.lines.line_end.Reads as reads
+use Rattle.vectors.proofs.lines.line_end.Lts as lts
 
 abbrev Inv-loop : tie.InvT-loop
 Inv-loop s at k₀ k = (at ≤ k) × (k ≤ length s) × ((j : ℕ) → j < k → at ≤ j → getD s j 0 ≡ 10 → ⊥)
@@ -16,19 +16,15 @@ Inv-loop s at k₀ k = (at ≤ k) × (k ≤ length s) × ((j : ℕ) → j < k �
 abbrev μ-loop : tie.MeasureT-loop
 μ-loop s at k₀ k = length s - k
 
--- src/lib.rt:130:5
 loop-holds : tie.Need-loop-holds Inv-loop μ-loop
 loop-holds c = (omega arith, omega arith, λ j small most. absurd (omega arith))
 
--- src/lib.rt:131:12
 shared-slice-read-if1 : tie.Need-shared-slice-read-if1 Inv-loop μ-loop
 shared-slice-read-if1 c = search needs
 
--- src/lib.rt:132:20
 add-result : tie.Need-add-result Inv-loop μ-loop
 add-result c = search needs
 
--- src/lib.rt:132:13
 returns : tie.Need-returns Inv-loop μ-loop
 returns c =
     let same : c .before .before .before .loop .k + 1 - 1 ≡ c .before .before .before .loop .k = omega arith in
@@ -39,19 +35,15 @@ returns c =
       ended = λ more. rw same (c .if1 .taken);
     }
 
--- src/lib.rt:134:9
 add-k : tie.Need-add-k Inv-loop μ-loop
 add-k c = search needs
 
--- src/lib.rt:130:5
 loop-less : tie.Need-loop-less Inv-loop μ-loop
 loop-less c = search needs
 
--- src/lib.rt:130:5
 loop-again : tie.Need-loop-again Inv-loop μ-loop
 loop-again c = (omega arith, omega arith, below-more _ _ (c .before .before .before .loop .inv .2) λ most. c .if1 .left)
 
--- src/lib.rt:125:1
 returns-2 : tie.Need-returns-2 Inv-loop μ-loop
 returns-2 c = record { after = omega arith; within = omega arith; before = λ j small. c .before .loop .inv .2 j (omega arith); ended = λ more. absurd (omega arith) }
 

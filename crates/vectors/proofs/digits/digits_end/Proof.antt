@@ -2,8 +2,8 @@
 use Prim.Native.Nat.{_-_, _≤_}
 use lib.ListN.{length}
 use borrow.Author.Needs.{needs}
-use Rattle.vectors.proofs.digits_end.Statement.{statement}
-use Rattle.vectors.proofs.digits_end.Tie as tie
+use Rattle.vectors.proofs.digits.digits_end.Statement.{statement}
+use Rattle.vectors.proofs.digits.digits_end.Tie as tie
 
 abbrev Inv-loop : tie.InvT-loop
 Inv-loop s at k₀ k = (at ≤ k) × (k ≤ length s)

@@ -6,8 +6,8 @@ use borrow.Author.Needs.{needs}
 use lib.ListN.{length, drop, getD}
 use Rattle.vectors.specs.Text.{hasWord}
 use Rattle.vectors.proofs.Reading.{same-inside, word-step, word-stop, word-done}
-use Rattle.vectors.proofs.has_word.Statement.{statement}
-use Rattle.vectors.proofs.has_word.Tie as tie
+use Rattle.vectors.proofs.words.has_word.Statement.{statement}
+use Rattle.vectors.proofs.words.has_word.Tie as tie
 
 abbrev Inv-loop : tie.InvT-loop
 Inv-loop s at word place₀ i₀ place i = (hasWord s place (drop i word) ≡ hasWord s at word) × (i ≤ length word)

@@ -2,8 +2,8 @@
 use mathlib.Core.Path.{sym}
 use native.Mathlib.Omega.{arith}
 use Rattle.vectors.proofs.Reading.{digit-below, digit-number, digit-between, digit-letter, digit-above}
-use Rattle.vectors.proofs.hex_digit.Statement.{statement}
-use Rattle.vectors.proofs.hex_digit.Tie as tie
+use Rattle.vectors.proofs.digits.hex_digit.Statement.{statement}
+use Rattle.vectors.proofs.digits.hex_digit.Tie as tie
 
 returns : tie.Need-returns
 returns c = sym (digit-below _ (c .if1 .taken))

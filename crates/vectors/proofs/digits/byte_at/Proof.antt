@@ -2,8 +2,8 @@
 use mathlib.Core.Path.{sym, _∙_}
 use borrow.Author.Needs.{needs}
 use Rattle.vectors.proofs.Reading.{byte-inside, byte-outside}
-use Rattle.vectors.proofs.byte_at.Statement.{statement}
-use Rattle.vectors.proofs.byte_at.Tie as tie
+use Rattle.vectors.proofs.digits.byte_at.Statement.{statement}
+use Rattle.vectors.proofs.digits.byte_at.Tie as tie
 
 shared-slice-read-wide : tie.Need-shared-slice-read-wide
 shared-slice-read-wide c = search needs

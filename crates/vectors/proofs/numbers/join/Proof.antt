@@ -1,8 +1,8 @@
 -- `join` meets its contract: each return is the case that its tests leave.
 use Rattle.vectors.specs.Text.{joined}
 use borrow.Author.Needs.{needs}
-use Rattle.vectors.proofs.join.Statement.{statement}
-use Rattle.vectors.proofs.join.Tie as tie
+use Rattle.vectors.proofs.numbers.join.Statement.{statement}
+use Rattle.vectors.proofs.numbers.join.Tie as tie
 
 enum-known-a : tie.Need-enum-known-a
 enum-known-a c = search needs
