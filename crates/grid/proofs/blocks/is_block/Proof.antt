@@ -3,8 +3,8 @@ use Rattle.lists.proofs.Tests.{or-sixth}
 use mathlib.Core.Path.{sym, ap}
 use borrow.Author.Tests.{ne-eqb}
 use Rattle.grid.specs.Blocks.{isBlock}
-use Rattle.grid.proofs.nodes.is_block.Statement.{statement}
-use Rattle.grid.proofs.nodes.is_block.Tie as tie
+use Rattle.grid.proofs.blocks.is_block.Statement.{statement}
+use Rattle.grid.proofs.blocks.is_block.Tie as tie
 
 returns : tie.Need-returns
 unfolding isBlock
