@@ -1,26 +1,27 @@
 // The dense field and the walks over its points, cells and octets, after dense_field.rs and
 // field_iterator.rs. A field is its origin, its cell's size, its numbers of points along the axes,
 // and a lent slice of values.
-mod count;
-mod cutting;
-mod octets;
-mod pad;
-mod sampling;
-mod smoothing;
-mod walker;
-mod walks;
-
-pub use count::point_count;
-pub use cutting::threshold;
 use geometry::BoundingBox;
 use geometry::Vec3;
 use geometry::Vec3i;
+
+mod counts; // counts.rt: how many points a field has
+mod octets; // octets.rt: a cell's corners and values, and a walk's octet
+mod paddings; // paddings.rt: the outside points set to one value
+mod sampling; // sampling.rt: a model's values at every point
+mod smoothing; // smoothing.rt: rounds of smoothing
+mod thresholds; // thresholds.rt: small values made +0
+mod walker; // walker.rt: the octet walker
+mod walks; // walks.rt: walks over points and cells
+
+pub use counts::point_count;
 pub use octets::cell_corners;
 pub use octets::cell_values;
 pub use octets::octet_step;
-pub use pad::padding;
+pub use paddings::padding;
 pub use sampling::sample;
 pub use smoothing::smooth;
+pub use thresholds::threshold;
 pub use walker::DenseCellValueIterator;
 pub use walker::walk_octet;
 pub use walks::cell_step;

@@ -11,7 +11,7 @@ use crate::CellCorners;
 use crate::CellValues;
 use crate::OctetStep;
 use crate::OctetWalk;
-use crate::count;
+use crate::counts;
 use geometry::Vec3;
 use geometry::Vec3i;
 
@@ -135,7 +135,7 @@ fn octet(n: Vec3i, values: &[f64], c: Vec3i) -> [f64; 8]
 fn octet_cause(n: Vec3i, len: usize, c: Vec3i) -> u32
     ensures { λ r. ⌜ r ≡ octetCause n len c ⌝ }
 {
-    if count::values_refused(n, len) {
+    if counts::values_refused(n, len) {
         return 9;
     }
     if cell_inside(n, c) { 0 } else { 10 }
@@ -164,7 +164,7 @@ pub fn cell_values(n: Vec3i, values: &[f64], c: Vec3i) -> CellValues
 fn walk_step(n: Vec3i, len: usize, c: Vec3i) -> OctetStep
     ensures { λ r. ⌜ r ≡ octetStep n len c ⌝ }
 {
-    if count::values_refused(n, len) {
+    if counts::values_refused(n, len) {
         return OctetStep::Refused(9);
     }
     let cells = Vec3i::new(n.i - 1, n.j - 1, n.k - 1);

@@ -18,8 +18,8 @@ ghost use Rattle.dense_field.specs.Runs.{sampleCause, sampleOutcome};
 ghost use Rattle.dense_field.specs.Inner.Runs.{axisPoint, RunPoints, flatAt};
 ghost use Rattle.dense_field.specs.Sampling.{sampled};
 use crate::Outcome;
-use crate::count;
-use crate::pad;
+use crate::counts;
+use crate::paddings;
 use geometry::Vec3;
 use geometry::Vec3i;
 use model::ImplicitModel;
@@ -63,9 +63,9 @@ fn fill_stretch(
 {
     fill_along(origin.x, cell, first.i, px, at, count);
     let y = axis_point(origin.y, cell, first.j);
-    pad::fill(y, py, at, count);
+    paddings::fill(y, py, at, count);
     let z = axis_point(origin.z, cell, first.k);
-    pad::fill(z, pz, at, count);
+    paddings::fill(z, pz, at, count);
 }
 
 // The indices of a place.
@@ -204,7 +204,7 @@ fn sample_cause(model: ImplicitModel, origin: Vec3, cell: f64, n: Vec3i, len: us
     if model::cause_four(model) {
         return 4;
     }
-    if count::values_refused(n, len) { 9 } else { 0 }
+    if counts::values_refused(n, len) { 9 } else { 0 }
 }
 
 // Sets every value to the model's at its point. A refusal changes nothing.

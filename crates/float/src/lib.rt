@@ -1,9 +1,9 @@
 // What the field engine needs of floats beyond their operators. Every public function takes any
 // value and has a result for it.
-mod class;
-mod order;
-mod pattern;
-mod rounding;
+mod class; // class.rt: which kind of value a float is
+mod order; // order.rt: the order of two floats, and one of the two as it is
+mod pattern; // pattern.rt: a float's bit pattern
+mod rounding; // rounding.rt: a count as a float, floor and ceiling
 
 pub use class::computed;
 pub use class::is_finite;

@@ -2,7 +2,7 @@
 // which are active, which corners they need, and when a child is pruned.
 use geometry::BoundingBox;
 
-mod blocks; // blocks.rt: powers of a block's size
+mod blocks; // blocks.rt: the sizes of blocks, and their cubes
 mod boxes; // boxes.rt: where nodes and children lie, and which are active
 mod causes; // causes.rt: the causes of open
 mod count; // count.rt: how many children are active
@@ -12,6 +12,7 @@ mod points; // points.rt: corner points, leaf points and octets
 mod pruning; // pruning.rt: which children become constants
 
 pub use blocks::cube_of;
+pub use blocks::is_block;
 pub use boxes::axis_active;
 pub use boxes::child_box;
 pub use boxes::child_box_at;
@@ -25,7 +26,6 @@ pub use count::active_children;
 pub use count::active_in;
 pub use needed::corner_list;
 pub use nodes::indices;
-pub use nodes::is_block;
 pub use nodes::node_counts;
 pub use nodes::node_size;
 pub use nodes::node_total;

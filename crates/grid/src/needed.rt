@@ -9,7 +9,7 @@ ghost use Rattle.grid.specs.CornerList.{nonzero, cornerListOf, CornersOn
 ghost use Rattle.grid.specs.Inner.CornerMarks.{marked, eightFrom, Marks, ZeroFrom, Gathered};
 use crate::CornerList;
 use crate::blocks::cube_of;
-use crate::nodes::is_block;
+use crate::blocks::is_block;
 
 // Zeroes a list from a place on.
 fn zero_from(at: usize, list: &mut [u32])

@@ -2,32 +2,9 @@
 ghost use mathlib.Core.Path.{_≡_};
 ghost use Prim.Native.Nat.{_-_, _^_, _<_};
 ghost use Rattle.geometry.specs.Index.{indicesOf};
-ghost use Rattle.grid.specs.Blocks.{isBlock};
 ghost use Rattle.grid.specs.Nodes.{nodeSize, nodesAlong, nodeCounts, nodesOf};
 use crate::Grid;
 use geometry::Vec3i;
-
-// Whether a block may have this size: cause 2.
-pub fn is_block(n: u32) -> bool
-    ensures { λ r. ⌜ r ≡ isBlock n ⌝ }
-{
-    if n == 2 {
-        return true;
-    }
-    if n == 4 {
-        return true;
-    }
-    if n == 8 {
-        return true;
-    }
-    if n == 16 {
-        return true;
-    }
-    if n == 32 {
-        return true;
-    }
-    n == 64
-}
 
 // The steps between l points: one less than the points, and none where there are no points.
 pub fn steps_between(l: u32) -> u64

@@ -7,6 +7,7 @@ ghost use Rattle.float.specs.Zero.{plusZero};
 ghost use Rattle.geometry.specs.Values.{vec3};
 ghost use Rattle.model.specs.Part.{partIn};
 ghost use Rattle.model.specs.Flat.{flatOf, layoutOf, codeOf, firstInput, secondInput, vectorOf, numberOf};
+use super::ImplicitModel;
 use super::ModelComponent;
 use super::Part;
 use geometry::Vec3;
@@ -107,4 +108,14 @@ pub fn lay_parts(parts: [ModelComponent; 64], words: &mut [u32; 192], numbers: &
         store_part(part, p, words, numbers);
         p += 1;
     }
+}
+
+// Lays a model's parts out in two arrays, whole: the codes, first inputs and second inputs of its 64 parts in one, their
+// numbers x, y, z and w in the other.
+pub fn lay_out(model: ImplicitModel, words: &mut [u32; 192], numbers: &mut [f64; 256])
+    ensures { λ _. ⌜ flatOf (now (words .exit)) (now (numbers .exit)) ≡ layoutOf (map partIn (model .parts)) ⌝ }
+    ensures { λ _. ⌜ length (model .parts) ≡ 64 ⌝ }
+{
+    let parts = model.parts;
+    lay_parts(parts, words, numbers);
 }

@@ -3,8 +3,8 @@ ghost use mathlib.Core.Path.{_≡_};
 ghost use Prim.Native.Nat.{_+_, _<_, _≤_};
 ghost use lib.ListN.{length};
 use crate::Hex;
-use crate::byte_at;
-use crate::hex16;
+use crate::digits::byte_at;
+use crate::numbers::hex16;
 
 // The answer to a line that is no case: a number that no call gives.
 const OFF: u64 = 0xffff_ffff_ffff_ffff;

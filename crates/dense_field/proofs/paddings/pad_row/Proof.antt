@@ -1,0 +1,138 @@
+-- `paddings::pad_row` meets its contract: an outer row is set whole, and an inner one at its two ends.
+use native.Mathlib.Omega.{arith}
+use borrow.Author.Needs.{needs}
+use lib.ListN.{length, length-set}
+use Rattle.dense_field.proofs.Lending.{Within, within}
+use Rattle.dense_field.proofs.Edges.{edge-first, edge-last, outer-row}
+use Rattle.dense_field.proofs.PadLaws.{outer-stretch, inner-row}
+use Rattle.dense_field.proofs.paddings.pad_row.Statement.{statement}
+use Rattle.dense_field.proofs.paddings.pad_row.Tie as tie
+
+-- the row and the slab stand in the field
+within-of : (s : tie.Start) → Within (s .args .n) (s .args .j) (s .args .k) (length (s .args .values .now))
+within-of s = within (s .pre .0) (s .args .j) (s .args .k) (omega arith) (omega arith)
+
+mul-at : tie.Need-mul-at
+mul-at c =
+    let s = c .before .before in
+    let w = within-of s in
+    omega arith
+
+mul-at-2 : tie.Need-mul-at-2
+mul-at-2 c =
+    let s = c .before .before in
+    let w = within-of s in
+    omega arith
+
+mul-at-3 : tie.Need-mul-at-3
+mul-at-3 c =
+    let s = c .before .before in
+    let w = within-of s in
+    omega arith
+
+add-at : tie.Need-add-at
+add-at c =
+    let s = c .before .before in
+    let w = within-of s in
+    omega arith
+
+fill-requires : tie.Need-fill-requires
+fill-requires c κs =
+    let s = c .before .before .before .before in
+    let w = within-of s in
+    omega arith
+
+same-length : tie.Need-same-length
+same-length c = search needs
+
+returns : tie.Need-returns
+returns c =
+    let a = c .before .before .before .before .before .before .before .args in
+    outer-stretch (a .n) (a .value) (a .values .now) _ _ (outer-row (a .n) (a .j) (a .k) (omega arith) (edge-first _ _ (omega arith))) (c .before .before .fill .ensures)
+
+add-if2 : tie.Need-add-if2
+add-if2 c = search needs
+
+fill-requires-2 : tie.Need-fill-requires-2
+fill-requires-2 c κs =
+    let s = c .before .before .before .before .before .before in
+    let w = within-of s in
+    omega arith
+
+same-length-2 : tie.Need-same-length-2
+same-length-2 c = search needs
+
+returns-2 : tie.Need-returns-2
+returns-2 c =
+    let a = c .before .before .before .before .before .before .before .before .before .args in
+    outer-stretch (a .n) (a .value) (a .values .now) _ _ (outer-row (a .n) (a .j) (a .k) (omega arith) (edge-last _ _ (omega arith))) (c .before .before .fill2 .ensures)
+
+mul-values : tie.Need-mul-values
+mul-values c =
+    let s = c .before .before .before .before .before in
+    let w = within-of s in
+    omega arith
+
+slice-write-values : tie.Need-slice-write-values
+slice-write-values c =
+    let s = c .before .before .before .before .before in
+    let w = within-of s in
+    omega arith
+
+sub-values : tie.Need-sub-values
+sub-values c =
+    let s = c .before .before .before .before .before in
+    let w = within-of s in
+    omega arith
+
+add-values : tie.Need-add-values
+add-values c =
+    let s = c .before .before .before .before .before in
+    let w = within-of s in
+    omega arith
+
+mul-values-2 : tie.Need-mul-values-2
+mul-values-2 c =
+    let s = c .before .before .before .before .before in
+    let w = within-of s in
+    omega arith
+
+slice-write-values-2 : tie.Need-slice-write-values-2
+slice-write-values-2 c =
+    let s = c .before .before .before .before .before in
+    let w = within-of s in
+    simp length-set (omega arith)
+
+same-length-3 : tie.Need-same-length-3
+same-length-3 c = simp length-set
+
+returns-3 : tie.Need-returns-3
+returns-3 c =
+    let s = c .before .before .before .before .before in
+    let w = within-of s in
+    let a = c .before .before .before .before .before .args in
+    inner-row (a .n) (a .value) (a .values .now) (a .j) (a .k) (omega arith) (omega arith) (omega arith) (omega arith) (omega arith) (omega arith)
+
+pub pad-row-spec : {M : Type 1} → statement M
+pad-row-spec =
+    tie.close
+    (tie.spec
+    mul-at
+    mul-at-2
+    mul-at-3
+    add-at
+    fill-requires
+    same-length
+    returns
+    add-if2
+    fill-requires-2
+    same-length-2
+    returns-2
+    mul-values
+    slice-write-values
+    sub-values
+    add-values
+    mul-values-2
+    slice-write-values-2
+    same-length-3
+    returns-3)
