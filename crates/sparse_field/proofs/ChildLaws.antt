@@ -1,7 +1,7 @@
 -- A child's turn, from what the code reads: its kind, its octet, and the points of its leaf.
 use Prim.Native.Nat.{ℕ, zero, suc, _+_, _*_, _-_, _≤_, _<_, min}
 use mathlib.Core.Path.{_≡_, refl, sym, ap, ap₂, subst, _∙_}
-use mathlib.Core.Bool.{Bool, true, false, cond}
+use mathlib.Core.Bool.{true, false, cond}
 use mathlib.Core.List.{List}
 use native.Mathlib.Nat.{mul-le-mul-right, pos-of-ne-zero}
 use native.Mathlib.Numerals.{add-one}

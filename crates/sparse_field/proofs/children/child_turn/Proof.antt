@@ -1,11 +1,10 @@
 -- `children::child_turn` meets its contract: by its kind and the grid's verdict the child is passed over, becomes a constant or a leaf.
-use Prim.Native.Nat.{ℕ, suc, _+_, _-_, _*_, _≤_, _<_, min}
+use Prim.Native.Nat.{ℕ, _+_, _*_, _≤_, _<_}
 use mathlib.Core.Path.{_≡_, ap}
 use native.Mathlib.Omega.{arith}
 use native.Mathlib.Nat.{mul-le-mul-right}
 use lib.ListN.{length}
 use Rattle.grid.specs.Blocks.{cube}
-use Rattle.grid.specs.Nodes.{nodesOf}
 use Rattle.schedule.specs.Memory.{Memory}
 use Rattle.sparse_field.specs.Plan.{planWith}
 use Rattle.schedule.specs.Lent.{memoryOf}
@@ -66,18 +65,6 @@ few-leaves d =
     let s = start (counted d) in
     let a = s .args in
     leaves-few (a .g) (a .band) (a .words .now) (a .reals .now) (a .parts) (a .v) (a .c) (a .leaves) (memory s) (s .pre .0 .0) (s .pre .0 .2) (s .pre .1)
-
--- a leaf more has its stretch in the store
-stretch : (d : tie.After-decide-child) →
-    (start (counted d) .args .leaves + 1) * cube (start (counted d) .args .g .leaf) ≤ length (start (counted d) .args .store .now)
-stretch d =
-    let p = counted d in
-    let s = start p in
-    let a = s .args in
-    leaf-inside (a .g) (a .band) (a .words .now) (a .reals .now) (a .parts) (a .v) (a .c) (a .budget) (a .leaves) (memory s) (a .b)
-    (s .pre .0 .1) (s .pre .0 .2) (s .pre .1) (p .cube-of .result) (p .cube-of .ensures)
-    (d .before .octet-values .ensures) (d .before .before .child-box .ensures) (d .decide-child .ensures)
-    (d .before .before .before .if1 .left)
 
 -- ---- what is left
 
@@ -143,6 +130,18 @@ slice-write-places c = omega (arith, inside (counted (c .before .before)))
 
 add-leaf-from : tie.Need-add-leaf-from
 add-leaf-from c = omega (arith, few-leaves (c .before .before))
+
+-- a leaf more has its stretch in the store
+stretch : (d : tie.After-decide-child) →
+    (start (counted d) .args .leaves + 1) * cube (start (counted d) .args .g .leaf) ≤ length (start (counted d) .args .store .now)
+stretch d =
+    let p = counted d in
+    let s = start p in
+    let a = s .args in
+    leaf-inside (a .g) (a .band) (a .words .now) (a .reals .now) (a .parts) (a .v) (a .c) (a .budget) (a .leaves) (memory s) (a .b)
+    (s .pre .0 .1) (s .pre .0 .2) (s .pre .1) (p .cube-of .result) (p .cube-of .ensures)
+    (d .before .octet-values .ensures) (d .before .before .child-box .ensures) (d .decide-child .ensures)
+    (d .before .before .before .if1 .left)
 
 leaf-from-requires : tie.Need-leaf-from-requires
 leaf-from-requires c κs =
