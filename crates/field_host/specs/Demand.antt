@@ -31,12 +31,12 @@ HostDemandThree =
     (cs : List HostCall) (s : Station) → NoJob s
     → Agree sparse (viewRun sparse engineAt (run onStation cs s)) (run (ledgerCall sparse) (map callOf cs) (firstLedger sparse (s .memory)))
 
--- After any such list a drop leaves all zeros.
+-- After any such list a drop leaves all zeros (rule L8).
 abbrev pub HostDropLeavesZeros : Type 0
 HostDropLeavesZeros =
     (cs : List HostCall) (s : Station) → NoJob s → run onStation (cs ++ (dropsAll ∷ [])) s .last .memory ≡ zeroMemory (lengthsOf (s .memory))
 
--- Two jobs of one input and equal slice lengths, given budgets of equal sum since their opens, hold equal elements (rule L11).
+-- Where two lists leave jobs with the same input, the same lengths and the same sum of budgets, every element is the same (rule L11).
 abbrev pub HostEqualBudgets : Type 0
 HostEqualBudgets =
     (cs₁ cs₂ : List HostCall) (s₁ s₂ : Station) → NoJob s₁ → NoJob s₂ → lengthsOf (s₁ .memory) ≡ lengthsOf (s₂ .memory)
@@ -48,7 +48,7 @@ HostEqualBudgets =
 abbrev pub recordAfter : List HostCall → Station → Record
 recordAfter cs s = decoded (run onStation cs s .last .carried)
 
--- After any such list a finished job holds the plan's own values, and zeros elsewhere.
+-- After any such list a finished job holds the plan's own values, and zeros elsewhere (rule S17).
 abbrev pub HostFinishedField : Type 0
 HostFinishedField =
     (cs : List HostCall) (s : Station) → NoJob s → recordAfter cs s .job ≡ true → recordAfter cs s .cursor ≡ End

@@ -29,8 +29,8 @@ pub extern "C" fn jisampode_corner_list(
     count: &mut [usize; 1],
 ) -> u32
     ensures answer { λ r. ⌜ r ≡ cornersNumber (cornerListOf inner (now (kinds .entry)) (length (now (list .entry)))) ⌝ }
-    ensures { λ _. ⌜ HoldsCorners (cornerListOf inner (now (kinds .entry)) (length (now (list .entry)))) inner (now (kinds .entry)) (now (list .entry))
-        (now (list .exit)) ⌝ }
+    ensures list { λ _. ⌜ HoldsCorners (cornerListOf inner (now (kinds .entry)) (length (now (list .entry)))) inner (now (kinds .entry))
+        (now (list .entry)) (now (list .exit)) ⌝ }
     ensures count { λ _. ⌜ now (count .exit) ≡ cornersCount (now (count .entry)) (cornerListOf inner (now (kinds .entry)) (length (now (list .entry)))) ⌝ }
 {
     put_count(grid::corner_list(inner, kinds, list), count)

@@ -10,9 +10,6 @@ mod reading; // reading.rt: a record's counts and cursor
 mod record; // record.rt: a record in four arrays
 mod walks; // walks.rt: walks over points, cells and octets
 
-pub use given::box_in;
 pub use given::box_of;
-pub use given::input_given;
-pub use given::model_given;
 pub use walks::put_box;
 pub use walks::put_point;

@@ -26,7 +26,7 @@ pub fn node_most(least: f64, s: f64, i: usize) -> f64
 }
 
 // The box of the node at (i, j, k).
-pub fn node_box_at(g: Grid, at: Vec3i) -> BoundingBox
+fn node_box_at(g: Grid, at: Vec3i) -> BoundingBox
     ensures { λ r. ⌜ r ≡ nodeBoxAt g at ⌝ }
 {
     let b = g.bounds.min;
@@ -53,7 +53,7 @@ pub fn node_box(g: Grid, v: usize) -> BoundingBox
 }
 
 // The box of the child at (i, j, k) of a node that has the box b and n children along an axis.
-pub fn child_box_at(b: BoundingBox, n: u32, at: Vec3i) -> BoundingBox
+fn child_box_at(b: BoundingBox, n: u32, at: Vec3i) -> BoundingBox
     ensures { λ r. ⌜ r ≡ childBoxAt b n at ⌝ }
 {
     let p = b.min;

@@ -24,21 +24,22 @@ DemandThree =
     (cs : List Call) (s : Held) → s .held .job ≡ false
     → Agree sparse (viewRun sparse engineIn (run onHeld cs s)) (run (ledgerCall sparse) cs (firstLedger sparse (s .memory)))
 
--- After any such list a drop leaves all zeros.
+-- After any such list a drop leaves all zeros (rule L8).
 abbrev pub DropLeavesZeros : Type 0
 DropLeavesZeros =
     (cs : List Call) (s : Held) → s .held .job ≡ false
     → run onHeld (cs ++ (drops ∷ [])) s .last .memory ≡ zeroMemory (lengthsOf (s .memory))
 
--- Two jobs of one input and equal slice lengths, in one list or in two, given budgets of equal sum since their opens, hold equal elements (rule L11).
+-- What a job has made of the memory depends on its input, on the lengths of the slices and on the sum of its budgets, and on nothing that
+-- came before it: where two lists leave jobs for which these three are the same, every element is the same (rule L11).
 abbrev pub EqualBudgets : Type 0
 EqualBudgets =
     (cs₁ cs₂ : List Call) (s₁ s₂ : Held) → s₁ .held .job ≡ false → s₂ .held .job ≡ false → lengthsOf (s₁ .memory) ≡ lengthsOf (s₂ .memory)
     → (i : Input) (n : ℕ) → budgetSum sparse (lengthsOf (s₁ .memory)) cs₁ noEntry ≡ entry i n → budgetSum sparse (lengthsOf (s₂ .memory)) cs₂ noEntry ≡ entry i n
     → run onHeld cs₁ s₁ .last .memory ≡ run onHeld cs₂ s₂ .last .memory
 
--- DEMAND 2 for the sparse field: after any such list a finished job holds the plan's own values, from the model at the corner and leaf points, and
--- zeros elsewhere.
+-- DEMAND 2 for the sparse field: after any such list a finished job holds the plan's own values, from the model at the corner and leaf points,
+-- and zeros elsewhere (rule S17).
 abbrev pub FinishedField : Type 0
 FinishedField =
     (cs : List Call) (s : Held) → s .held .job ≡ false
