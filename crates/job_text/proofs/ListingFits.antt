@@ -12,9 +12,11 @@ use Rattle.lists.proofs.Tables.{length-tabulate}
 use Rattle.grid.specs.Blocks.{cube}
 use Rattle.schedule.specs.Schedule.{decision}
 use Rattle.schedule.specs.Plan.{Plan, Decision, constant, leaf}
-use Rattle.schedule.specs.Totals.{sumFrom, sumBelow, bit, countBefore, activeAll, leavesAll, total}
+use Rattle.lists.specs.Sums.{sumFrom, sumBelow, bit}
+use Rattle.schedule.specs.Totals.{countBefore, activeAll, leavesAll, total}
 use Rattle.schedule.specs.Counts.{countsWith}
-use Rattle.schedule.proofs.Sums.{sumBelow-snoc, sumBits-most, before-next, before-node, before-all}
+use Rattle.lists.proofs.Sums.{sumBelow-snoc, sumBits-most}
+use Rattle.schedule.proofs.Sums.{before-next, before-node, before-all}
 use Rattle.sparse_field.specs.declared.Input.{Input}
 use Rattle.sparse_field.specs.Plan.{planWith, planOf}
 use Rattle.sparse_field.specs.Records.{sparse, lent}

@@ -16,9 +16,9 @@ use Rattle.lists.proofs.Tests.{and-left, and-right}
 use Rattle.lists.proofs.Filling.{filled-all, filled-constant, filled-length, take-filled}
 use Rattle.float.specs.Zero.{plusZero}
 use Rattle.schedule.specs.Memory.{Memory}
-use Rattle.schedule.specs.Totals.{sumFrom, sumBelow}
+use Rattle.lists.specs.Sums.{sumFrom, sumBelow}
 use Rattle.schedule.specs.Counts.{Counts}
-use Rattle.schedule.proofs.Sums.{sumFrom-most}
+use Rattle.lists.proofs.Sums.{sumFrom-most}
 use Rattle.forms.specs.Digits.{decimalOf}
 use Rattle.forms.specs.Forms.{spell, spellPiece, pieceOf, isField, after}
 use Rattle.job_text.specs.declared.Listing.the-variants.{Bytes, Refused}

@@ -7,7 +7,7 @@ ghost use lib.ListN.{length, take, replicate};
 ghost use lib.Seq.{sets};
 ghost use Rattle.schedule.specs.JobRecord.{atEnd};
 ghost use Rattle.schedule.specs.Possible.{impossible};
-ghost use Rattle.schedule.specs.Totals.{sumBelow};
+ghost use Rattle.lists.specs.Sums.{sumBelow};
 ghost use Rattle.schedule.specs.Lent.{memoryOf, held, entered};
 ghost use Rattle.sparse_field.specs.Records.{sparse, jobIn, countsIn, cursorIn};
 ghost use Rattle.forms.specs.Forms.{pieceOf, spell};

@@ -1,3 +1,4 @@
 pub mod Tabulate
 pub mod Filled
 pub mod Slices
+pub mod Sums

@@ -12,7 +12,7 @@ use Rattle.geometry.specs.Values.{vec3i}
 use Rattle.geometry.specs.Index.{placeOf, indicesOf}
 use Rattle.geometry.specs.Octet.{octetOrder, octetPlaces}
 use Rattle.geometry.proofs.Inverse.{indices-of-place, place-of-indices}
-use Rattle.schedule.specs.Totals.{bit}
+use Rattle.lists.specs.Sums.{bit}
 use Rattle.grid.specs.Blocks.{cube}
 use Rattle.grid.specs.Boxes.{childIndices}
 use Rattle.grid.specs.Corners.{octet, needed}

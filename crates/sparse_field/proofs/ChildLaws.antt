@@ -27,7 +27,8 @@ use Rattle.schedule.specs.Plan.{Plan}
 use Rattle.schedule.specs.Memory.{Memory}
 use Rattle.schedule.specs.Opened.{nonzero}
 use Rattle.schedule.specs.Totals.{countOf, countAll, activeAll}
-use Rattle.schedule.proofs.Sums.{before-below, before-most, sumFrom-most, sumBits-most}
+use Rattle.schedule.proofs.Sums.{before-below, before-most}
+use Rattle.lists.proofs.Sums.{sumFrom-most, sumBits-most}
 use Rattle.sparse_field.specs.declared.Progress.{Progress}
 use Rattle.sparse_field.specs.declared.Cursor.the-variants.{Point}
 use Rattle.sparse_field.specs.declared.Stop.the-variants.{Through, At}

@@ -11,7 +11,7 @@ use lib.Dec.{eqb}
 use lib.Seq.{take-at, drop-at, drop-drop, take-add, take-all, length-take-le, set-at, drop-cons}
 use borrow.Author.Tests.{eq-eqb, ne-eqb}
 use borrow.Rule.Slice.PartMut.{putMid}
-use Rattle.schedule.specs.Totals.{bit}
+use Rattle.lists.specs.Sums.{bit}
 use Rattle.schedule.specs.Opened.{nonzero}
 use Rattle.sparse_field.specs.Inner.Flags.{flagsFrom, agreesFrom, inRows}
 

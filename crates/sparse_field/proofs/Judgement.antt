@@ -30,11 +30,13 @@ use Rattle.grid.proofs.CauseLaws.{inner-block, leaf-block, few-children}
 use Rattle.schedule.specs.Schedule.{corner, point}
 use Rattle.schedule.specs.Plan.{Plan}
 use Rattle.schedule.specs.Resume.{Cursor, at}
-use Rattle.schedule.specs.Totals.{sumFrom, sumBelow, bit, countOf, countBefore, countAll, activeBefore, activeAll, activeUpTo, evaluationsBound}
+use Rattle.lists.specs.Sums.{sumFrom, sumBelow, bit}
+use Rattle.schedule.specs.Totals.{countOf, countBefore, countAll, activeBefore, activeAll, activeUpTo, evaluationsBound}
 use Rattle.schedule.specs.Opened.{activeAt, nonzero, ActiveKinds}
 use Rattle.schedule.specs.Counts.{countsWith, sameCounts}
 use Rattle.schedule.specs.Possible.{sameLengths, sameActive, validCursor, insideChild, impossible}
-use Rattle.schedule.proofs.Sums.{sumBelow-snoc, before-next, before-node}
+use Rattle.lists.proofs.Sums.{sumBelow-snoc}
+use Rattle.schedule.proofs.Sums.{before-next, before-node}
 use Rattle.schedule.proofs.Activity.{active-at}
 use Rattle.sparse_field.specs.declared.Input.{Input}
 use Rattle.sparse_field.specs.declared.Counts.{Counts}

@@ -25,7 +25,7 @@ use Rattle.grid.specs.CornerList as kinds
 use Rattle.grid.proofs.Active.{by-axes}
 use Rattle.geometry.proofs.Inverse.{column-below, line-below}
 use Rattle.schedule.specs.Plan.{Plan}
-use Rattle.schedule.specs.Totals.{bit}
+use Rattle.lists.specs.Sums.{bit}
 use Rattle.schedule.specs.Opened.{activeAt, kindsFrom, nonzero, ActiveKinds}
 use Rattle.schedule.specs.Possible.{sameActive}
 use Rattle.schedule.proofs.Activity.{active-at}

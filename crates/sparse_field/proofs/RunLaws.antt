@@ -11,7 +11,7 @@ use Rattle.schedule.specs.Plan.{Plan}
 use Rattle.schedule.specs.Resume.{Cursor, end, at, cursorOf, eventsFrom, reading}
 use Rattle.schedule.specs.Split.{split, evaluations}
 use Rattle.schedule.specs.Memory.{State, state, apply, applyAll}
-use Rattle.schedule.specs.Totals.{sumFrom, bit}
+use Rattle.lists.specs.Sums.{sumFrom, bit}
 use Rattle.schedule.proofs.Next.{corner-evaluate, corner-skip, point-evaluate}
 use Rattle.sparse_field.specs.Inner.Runs.{Run, runOf}
 use Rattle.sparse_field.specs.Inner.CornerRun.{neededFrom, evaluatedFrom}

@@ -7,7 +7,7 @@ use Prim.Native.Nat.{ℕ, zero, suc, min, _+_, _-_, _≤_, _<_}
 use native.Mathlib.Omega.{arith}
 use lib.ListN.{length, getD, take}
 use lib.Ieee.{Float}
-use Rattle.schedule.specs.Totals.{sumFrom, bit}
+use Rattle.lists.specs.Sums.{sumFrom, bit}
 use Rattle.sparse_field.specs.Inner.CornerRun.{neededFrom, evaluatedFrom, CornerRun}
 use Rattle.sparse_field.specs.Inner.Gathered.{Gathered}
 use Rattle.sparse_field.specs.Inner.Written.{written}

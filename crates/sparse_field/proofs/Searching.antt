@@ -8,8 +8,8 @@ use native.Mathlib.Numerals.{add-one}
 use native.Mathlib.Omega.{arith}
 use lib.ListN.{length, take, set}
 use lib.Seq.{take-suc-set}
-use Rattle.schedule.specs.Totals.{sumFrom, bit}
-use Rattle.schedule.proofs.Sums.{sumFrom-snoc}
+use Rattle.lists.specs.Sums.{sumFrom, bit}
+use Rattle.lists.proofs.Sums.{sumFrom-snoc}
 use Rattle.sparse_field.specs.Inner.CornerRun.{neededFrom}
 use Rattle.sparse_field.specs.Inner.Gathered.{neededList, Gathering}
 

@@ -17,7 +17,8 @@ use Rattle.schedule.specs.Schedule.{Site, Event, corner, point, evaluate, work,
 use Rattle.schedule.specs.Plan.{Plan, constant, leaf}
 use Rattle.schedule.specs.Resume.{at, eventsFrom, childrenLeft, nodesLeft}
 use Rattle.schedule.specs.Memory.{Memory, State, apply}
-use Rattle.schedule.specs.Totals.{activeBefore, activeAll, bit}
+use Rattle.schedule.specs.Totals.{activeBefore, activeAll}
+use Rattle.lists.specs.Sums.{bit}
 use Rattle.schedule.specs.PlanLaws.{PlanLaws}
 use Rattle.schedule.specs.Opened.{nonzero, activeAt}
 use Rattle.schedule.proofs.Sums.{before-next, before-node}

@@ -10,7 +10,7 @@ ghost use Rattle.grid.specs.Nodes.{nodesOf};
 ghost use Rattle.grid.specs.Boxes.{active};
 ghost use Rattle.grid.specs.Inner.Activity.{axisActive};
 ghost use Rattle.grid.specs.Causes.{refusedByTwo, refusedByFive};
-ghost use Rattle.schedule.specs.Totals.{bit};
+ghost use Rattle.lists.specs.Sums.{bit};
 ghost use Rattle.schedule.specs.Opened.{kindsFrom};
 ghost use Rattle.schedule.specs.Possible.{sameActive};
 ghost use Rattle.sparse_field.specs.Plan.{planOf};

@@ -6,7 +6,7 @@ use mathlib.Core.Bool.{Bool, true, cond}
 use mathlib.Core.List.{List}
 use lib.ListN.{set}
 use lib.Ieee.{Float}
-use Rattle.schedule.specs.Totals.{sumFrom, bit}
+use Rattle.lists.specs.Sums.{sumFrom, bit}
 
 -- how many of r corners from i on pass the test
 abbrev pub neededFrom : (ℕ → Bool) → (r i : ℕ) → ℕ

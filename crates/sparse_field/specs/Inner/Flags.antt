@@ -3,7 +3,7 @@ use Prim.Native.Nat.{ℕ, zero, suc, _*_, _/_, _%_}
 use mathlib.Core.Bool.{Bool, true, false, _&&_, Bool·beq}
 use mathlib.Core.List.{List, [], _∷_}
 use lib.ListN.{getD, length}
-use Rattle.schedule.specs.Totals.{bit, sumBelow}
+use Rattle.lists.specs.Sums.{bit, sumBelow}
 use Rattle.schedule.specs.Opened.{nonzero}
 use Rattle.grid.specs.declared.Grid.{Grid}
 use Rattle.grid.specs.Blocks.{cube}

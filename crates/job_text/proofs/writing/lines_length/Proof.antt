@@ -4,8 +4,8 @@ use mathlib.Core.Path.{_≡_, refl, ap, _∙_}
 use native.Mathlib.Numerals.{add-one}
 use native.Mathlib.Omega.{arith}
 use borrow.Author.Needs.{needs}
-use Rattle.schedule.specs.Totals.{sumFrom, sumBelow}
-use Rattle.schedule.proofs.Sums.{sumBelow-snoc}
+use Rattle.lists.specs.Sums.{sumFrom, sumBelow}
+use Rattle.lists.proofs.Sums.{sumBelow-snoc}
 use Rattle.job_text.specs.Inner.Lengths.{lengthAt}
 use Rattle.job_text.proofs.ListingLaws.{length-most}
 use Rattle.job_text.proofs.writing.lines_length.Statement.{statement}

@@ -5,7 +5,7 @@ use mathlib.Core.List.{List, []}
 use native.Mathlib.Omega.{arith}
 use lib.ListN.{length}
 use Rattle.schedule.specs.Memory.{Memory}
-use Rattle.schedule.specs.Totals.{sumBelow}
+use Rattle.lists.specs.Sums.{sumBelow}
 use Rattle.schedule.specs.Lent.{memoryOf}
 use Rattle.sparse_field.specs.Records.{countsIn}
 use Rattle.job_text.specs.Inner.Lengths.{lengthAt}

@@ -4,7 +4,7 @@ use mathlib.Core.Logic.{⊎-elim}
 use Prim.Native.Nat.{_-_, _≤_}
 use native.Mathlib.Omega.{arith}
 use lib.ListN.{length, getD}
-use Rattle.schedule.specs.Totals.{sumFrom, sumBelow, bit}
+use Rattle.lists.specs.Sums.{sumFrom, sumBelow, bit}
 use Rattle.schedule.specs.Opened.{nonzero}
 use Rattle.sparse_field.proofs.Judgement.{count-more, count-skip}
 use borrow.Author.Needs.{needs}
