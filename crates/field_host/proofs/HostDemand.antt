@@ -14,8 +14,9 @@ use Rattle.model.specs.declared.ModelComponent.{ModelComponent}
 use Rattle.model.specs.Flat.{Flat, flatOf}
 use Rattle.model.proofs.Accepted.{count-le}
 use Rattle.schedule.specs.Memory.{Memory}
-use Rattle.schedule.specs.Opened.{Lengths, lengthsOf, stateAt}
-use Rattle.schedule.specs.Calls.{opens, steps, drops, refused, run}
+use Rattle.input.specs.declared.Lengths.{Lengths}
+use Rattle.schedule.specs.Opened.{lengthsOf, stateAt}
+use Rattle.schedule.specs.Calls.{opens, steps, run}
 use Rattle.schedule.specs.Engine.{advanced, engineCall, engineOpen, engineStepJob}
 use Rattle.schedule.specs.Possible.{impossible}
 use Rattle.schedule.specs.Ledger.{noEntry, entry}
@@ -24,10 +25,10 @@ use Rattle.schedule.specs.JobRecord.{noJob, atEnd}
 use Rattle.schedule.specs.Implements.{Implements}
 use Rattle.schedule.proofs.Implements.{implements-ledger, implements-drop, implements-elements, implements-finished}
 use Rattle.schedule.proofs.Possible.{possible}
-use Rattle.sparse_field.specs.declared.Input.{Input}
+use Rattle.input.specs.declared.Input.{Input}
 use Rattle.sparse_field.specs.declared.Record.{Record}
 use Rattle.sparse_field.specs.Plan.{planOf}
-use Rattle.sparse_field.specs.Records.{sparse, lent, jobIn, recordIn, cursorIn, byFlag, noRecord, noModel}
+use Rattle.sparse_field.specs.Records.{sparse, jobIn, recordIn, cursorIn, byFlag, noRecord, noModel}
 use Rattle.sparse_field.specs.Calls.{Handed, handed, called}
 use Rattle.sparse_field.specs.Inner.Parts.{openedRecord, openedMemory}
 use Rattle.sparse_field.specs.Lists.{Held, answerIn}

@@ -16,7 +16,7 @@ use Rattle.model.specs.Flat.{Flat}
 use Rattle.model.proofs.InOrder.{ordered-at}
 use Rattle.model.proofs.Accepted.{count-le, in-order}
 use Rattle.grid.specs.Blocks.{isBlock}
-use Rattle.grid.specs.Causes.{refusedByTwo}
+use Rattle.grid.specs.Limits.{refusedByTwo}
 use Rattle.schedule.specs.Memory.{Memory}
 use Rattle.schedule.specs.Opened.{lengthsOf}
 use Rattle.schedule.specs.Calls.{steps}

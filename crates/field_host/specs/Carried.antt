@@ -9,11 +9,11 @@ use lib.Ieee.{Float}
 use Rattle.lists.specs.Slices.{LentSlice}
 use Rattle.model.specs.Part.{partIn}
 use Rattle.model.specs.Flat.{flatOf, layoutOf}
-use Rattle.grid.specs.declared.Lengths.{Lengths}
-use Rattle.sparse_field.specs.declared.Input.{Input}
-use Rattle.sparse_field.specs.declared.Counts.{Counts}
-use Rattle.sparse_field.specs.declared.Cursor.{Cursor}
-use Rattle.sparse_field.specs.declared.Cursor.the-variants.{End, Corner, Point}
+use Rattle.input.specs.declared.Lengths.{Lengths}
+use Rattle.input.specs.declared.Input.{Input}
+use Rattle.schedule.specs.declared.Counts.{Counts}
+use Rattle.schedule.specs.declared.Cursor.{Cursor}
+use Rattle.schedule.specs.declared.Cursor.the-variants.{End, Corner, Point}
 use Rattle.sparse_field.specs.declared.Record.{Record}
 use Rattle.sparse_field.specs.Records.{noRecord}
 use Rattle.field_host.specs.Given.{inputGiven}

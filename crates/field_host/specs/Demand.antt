@@ -12,8 +12,8 @@ use Rattle.schedule.specs.Calls.{run}
 use Rattle.schedule.specs.Ledger.{noEntry, entry, ledgerCall, firstLedger}
 use Rattle.schedule.specs.Agree.{Agree}
 use Rattle.schedule.specs.Implements.{viewRun}
-use Rattle.sparse_field.specs.declared.Input.{Input}
-use Rattle.sparse_field.specs.declared.Cursor.the-variants.{End}
+use Rattle.input.specs.declared.Input.{Input}
+use Rattle.schedule.specs.declared.Cursor.the-variants.{End}
 use Rattle.sparse_field.specs.declared.Record.{Record}
 use Rattle.sparse_field.specs.Plan.{planOf}
 use Rattle.sparse_field.specs.Records.{sparse}

@@ -5,9 +5,9 @@ use mathlib.Core.List.{List, [], _∷_}
 use lib.Dec.{eqb}
 use lib.ListN.{getD}
 use Rattle.schedule.specs.Memory.{Memory}
-use Rattle.sparse_field.specs.declared.Counts.{Counts}
-use Rattle.sparse_field.specs.declared.Answer.{Answer}
-use Rattle.sparse_field.specs.declared.Answer.the-variants.{Accepted, Refused}
+use Rattle.schedule.specs.declared.Counts.{Counts}
+use Rattle.schedule.specs.declared.Answer.{Answer}
+use Rattle.schedule.specs.declared.Answer.the-variants.{Accepted, Refused}
 use Rattle.sparse_field.specs.declared.Outcome.{Outcome}
 use Rattle.sparse_field.specs.Calls.{Handed, called}
 use Rattle.sparse_field.specs.Lists.{Call}

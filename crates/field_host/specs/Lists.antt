@@ -4,7 +4,9 @@ use mathlib.Core.List.{List}
 use lib.Ieee.{Float}
 use Rattle.model.specs.Flat.{Flat}
 use Rattle.schedule.specs.Memory.{Memory}
-use Rattle.schedule.specs.Calls.{opens, steps, drops, Answer, accepted, refused, Outcome}
+use Rattle.schedule.specs.Calls.{opens, steps, drops, Outcome}
+use Rattle.schedule.specs.declared.Answer.{Answer}
+use Rattle.schedule.specs.declared.Answer.the-variants.{Accepted, Refused}
 use Rattle.schedule.specs.Engine.{Engine}
 use Rattle.sparse_field.specs.Records.{sparse, recordIn}
 use Rattle.sparse_field.specs.Lists.{Call}
@@ -31,8 +33,8 @@ pub record Station : Type 0 where
 
 -- the answer of a number: 0 is that the call was accepted
 abbrev pub answerOf : ℕ → Answer
-answerOf zero = accepted
-answerOf (suc n) = refused (suc n)
+answerOf zero = Accepted
+answerOf (suc n) = Refused (suc n)
 
 -- one call: what the contracts of the C functions say
 abbrev pub onStation : HostCall → Station → Outcome Station

@@ -22,10 +22,10 @@ ghost use Rattle.field_host.specs.Carried.{
   encoded,
 };
 use crate::given::input_given;
-use grid::Lengths;
+use input::Lengths;
 use sparse_field::Counts;
 use sparse_field::Cursor;
-use sparse_field::Input;
+use input::Input;
 use sparse_field::Record;
 
 // Whether the words are those of some record: a flag of 0 or 1, block sizes and a count of 32 bits, one

@@ -21,5 +21,4 @@ pub mod BlockLaws
 pub mod ListedCorners
 pub mod Sums
 pub mod ActiveCounts
-pub mod CauseLaws
-pub mod Clear
+pub mod LimitLaws

@@ -1,4 +1,4 @@
--- The grid of a sparse field (rules G1 to G18), and the causes of open.
+-- The grid of a sparse field (rules G1 to G18), and what a grid can be.
 pub mod Ranges
 pub mod Blocks
 pub mod Nodes
@@ -8,5 +8,5 @@ pub mod Leaves
 pub mod Pruning
 pub mod CornerList
 pub mod Counting
-pub mod Causes
+pub mod Limits
 pub mod Inner

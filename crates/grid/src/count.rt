@@ -4,13 +4,15 @@ ghost use mathlib.Core.Path.{_≡_};
 ghost use mathlib.Core.Bool.{cond, false, _&&_};
 ghost use Prim.Native.Nat.{_≤_};
 ghost use lib.Ieee.{le};
-ghost use Rattle.grid.specs.Counting.{activeIn, activeOf};
+ghost use Rattle.grid.specs.Counting.{activeIn, activeOf, countsOf, sameGrid};
 ghost use Rattle.grid.specs.Inner.Activity.{axisCount, axisTotal};
-ghost use Rattle.grid.specs.Causes.{refusedByTwo, refusedByFive};
+ghost use Rattle.grid.specs.Limits.{refusedByTwo, refusedByFive};
 use crate::Grid;
+use crate::GridCounts;
 use crate::nodes::indices;
 use crate::nodes::node_counts;
 use crate::nodes::node_size;
+use crate::nodes::node_total;
 
 // 1 where bounds from `least` to `most` meet what lies from `begin` to `end`, and 0 elsewhere.
 fn met(least: f64, most: f64, begin: f64, end: f64) -> u64
@@ -86,4 +88,25 @@ pub fn active_children(g: Grid) -> u64
     let y = axis_total(min.y, max.y, s, n, nodes.j as u64);
     let z = axis_total(min.z, max.z, s, n, nodes.k as u64);
     x * y * z
+}
+
+// The nodes and the active children of such a grid.
+pub fn grid_counts(g: Grid) -> GridCounts
+    requires { ⌜ (refusedByTwo g ≡ false) × (refusedByFive g ≡ false) ⌝ }
+    ensures { λ r. ⌜ r ≡ countsOf g ⌝ }
+{
+    GridCounts {
+        nodes: node_total(g) as u64,
+        active: active_children(g),
+    }
+}
+
+// Whether two grids' counts are the same.
+pub fn same_grid(a: GridCounts, b: GridCounts) -> bool
+    ensures { λ r. ⌜ r ≡ sameGrid a b ⌝ }
+{
+    if a.nodes != b.nodes {
+        return false;
+    }
+    a.active == b.active
 }

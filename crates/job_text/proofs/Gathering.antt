@@ -5,7 +5,7 @@ use native.Mathlib.Omega.{arith}
 use mathlib.Core.List.{List, [], _∷_, _++_, map, append-nil}
 use lib.ListN.{length, drop, set, replicate, length-append, length-drop}
 use Rattle.forms.proofs.Turns.{drop-end}
-use Rattle.grid.specs.declared.Band.{Band}
+use Rattle.input.specs.declared.Band.{Band}
 use Rattle.grid.specs.declared.Grid.{Grid}
 use Rattle.model.specs.declared.ModelComponent.{ModelComponent}
 use Rattle.model.specs.declared.Part.{Part}

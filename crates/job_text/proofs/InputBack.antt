@@ -13,7 +13,7 @@ use Rattle.model.specs.declared.ModelComponent.{ModelComponent}
 use Rattle.model.specs.declared.Part.{Part}
 use Rattle.model.specs.declared.Part.the-variants.{Constant, Sphere, Plane, Min, Max, Add, Sub, Neg}
 use Rattle.model.specs.Part.{partIn}
-use Rattle.sparse_field.specs.declared.Input.{Input}
+use Rattle.input.specs.declared.Input.{Input}
 use Rattle.job_text.specs.Lines.{limit}
 use Rattle.job_text.specs.Parts.{partFrom, Spelt}
 use Rattle.job_text.specs.Reading.{componentOf, componentsOf, patternsOf, readJob, readText, readingOf}

@@ -10,7 +10,8 @@ use Rattle.grid.proofs.BlockLaws.{cube-le}
 use Rattle.schedule.specs.Plan.{Plan}
 use Rattle.schedule.specs.Memory.{Memory}
 use Rattle.schedule.specs.Totals.{leavesAll, total, evaluationsBound}
-use Rattle.schedule.specs.Opened.{Lengths, lengthsOf, stateAt}
+use Rattle.input.specs.declared.Lengths.{Lengths}
+use Rattle.schedule.specs.Opened.{lengthsOf, stateAt}
 use Rattle.schedule.specs.Counts.{countsWith}
 use Rattle.schedule.specs.JobRecord.{job, isFinished}
 use Rattle.schedule.specs.Possible.{impossible}
@@ -20,11 +21,11 @@ use Rattle.schedule.proofs.AfterFacts.{after}
 use Rattle.schedule.proofs.EventCounts.{total-bound}
 use Rattle.schedule.proofs.LedgerTheorem.{same-job}
 use Rattle.schedule.proofs.Reachable.{jobAt}
-use Rattle.sparse_field.specs.declared.Input.{Input}
+use Rattle.input.specs.declared.Input.{Input}
 use Rattle.sparse_field.specs.declared.Record.{Record}
 use Rattle.sparse_field.specs.declared.Outcome.{Outcome}
-use Rattle.sparse_field.specs.declared.Answer.{Answer}
-use Rattle.sparse_field.specs.declared.Answer.the-variants.{Accepted, Refused}
+use Rattle.schedule.specs.declared.Answer.{Answer}
+use Rattle.schedule.specs.declared.Answer.the-variants.{Accepted, Refused}
 use Rattle.sparse_field.specs.Plan.{planOf, planWith}
 use Rattle.sparse_field.specs.Records.{sparse, lent, jobIn, recordIn}
 use Rattle.sparse_field.specs.Calls.{called, handed}

@@ -17,7 +17,7 @@ use Rattle.lists.proofs.Filling.{filled-all, filled-constant, filled-length, ta
 use Rattle.float.specs.Zero.{plusZero}
 use Rattle.schedule.specs.Memory.{Memory}
 use Rattle.lists.specs.Sums.{sumFrom, sumBelow}
-use Rattle.schedule.specs.Counts.{Counts}
+use Rattle.schedule.specs.declared.Counts.{Counts}
 use Rattle.lists.proofs.Sums.{sumFrom-most}
 use Rattle.forms.specs.Digits.{decimalOf}
 use Rattle.forms.specs.Forms.{spell, spellPiece, pieceOf, isField, after}

@@ -8,9 +8,9 @@ use lib.ListN.{length}
 use Rattle.grid.specs.declared.Grid.{Grid}
 use Rattle.grid.specs.Blocks.{cube}
 use Rattle.grid.specs.Nodes.{nodesOf}
-use Rattle.grid.specs.Causes.{childrenOf}
+use Rattle.grid.specs.Limits.{childrenOf}
 use Rattle.grid.proofs.BlockLaws.{cube-le}
-use Rattle.grid.proofs.CauseLaws.{inner-block, leaf-block, few-children}
+use Rattle.grid.proofs.LimitLaws.{inner-block, leaf-block, few-children}
 use Rattle.schedule.specs.Memory.{Memory}
 use Rattle.schedule.specs.JobRecord.{atEnd}
 use Rattle.schedule.specs.Opened.{lengthsOf}

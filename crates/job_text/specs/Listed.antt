@@ -1,7 +1,7 @@
 -- THE DEFINITION OF `fieldlist`: what it prints for a text (rules T9 to T14).
 use Prim.Native.Nat.{ℕ, zero, suc}
 use mathlib.Core.List.{List, [], _∷_}
-use Rattle.schedule.specs.Opened.{Lengths}
+use Rattle.input.specs.declared.Lengths.{Lengths}
 use Rattle.sparse_field.specs.Records.{sparse}
 use Rattle.sparse_field.specs.Plan.{planOf}
 use Rattle.forms.specs.Forms.{spell}

@@ -2,7 +2,7 @@
 // bytes.
 use forms::End;
 use model::Part;
-use sparse_field::Input;
+use input::Input;
 
 mod lines; // lines.rt: one line of a listing
 mod list; // list.rt: what `fieldlist` prints

@@ -16,12 +16,12 @@ use crate::parts::real_at;
 use crate::parts::word_at;
 use forms::End;
 use geometry::BoundingBox;
-use grid::Band;
+use input::Band;
 use grid::Grid;
 use model::ImplicitModel;
 use model::ModelComponent;
 use model::Part;
-use sparse_field::Input;
+use input::Input;
 
 // The grid of a text's first three lines.
 fn grid_of(bounds: &[u64; 6], cell: &[u64; 6], blocks: &[u64; 6]) -> Grid

@@ -3,3 +3,4 @@ pub mod Lists
 pub mod Tables
 pub mod Filling
 pub mod Sums
+pub mod Flags

@@ -13,7 +13,7 @@ use borrow.Author.Tests.{lt-ltb, le-ltb}
 use Rattle.lists.specs.Filled.{filled}
 use Rattle.geometry.specs.declared.BoundingBox.{BoundingBox}
 use Rattle.grid.specs.declared.Grid.{Grid}
-use Rattle.grid.specs.declared.Band.{Band}
+use Rattle.input.specs.declared.Band.{Band}
 use Rattle.grid.specs.Blocks.{cube}
 use Rattle.grid.specs.Nodes.{nodesOf}
 use Rattle.grid.specs.Boxes.{nodeBox, childBox}
@@ -25,12 +25,12 @@ use Rattle.grid.specs.Pruning.{verdictOf}
 use Rattle.grid.proofs.Verdicts.{verdict-kind}
 use Rattle.schedule.specs.Plan.{Plan}
 use Rattle.schedule.specs.Memory.{Memory}
-use Rattle.schedule.specs.Opened.{nonzero}
+use Rattle.lists.specs.Flags.{nonzero}
 use Rattle.schedule.specs.Totals.{countOf, countAll, activeAll}
 use Rattle.schedule.proofs.Sums.{before-below, before-most}
 use Rattle.lists.proofs.Sums.{sumFrom-most, sumBits-most}
 use Rattle.sparse_field.specs.declared.Progress.{Progress}
-use Rattle.sparse_field.specs.declared.Cursor.the-variants.{Point}
+use Rattle.schedule.specs.declared.Cursor.the-variants.{Point}
 use Rattle.sparse_field.specs.declared.Stop.the-variants.{Through, At}
 use Rattle.schedule.specs.Lent.{memoryOf}
 use Rattle.sparse_field.specs.Inner.FlatValue.{flatValue}

@@ -11,10 +11,11 @@ use Rattle.model.specs.Model.{modelValue, refusedByFour}
 use Rattle.model.specs.Flat.{flatOf, layoutOf, partsOf}
 use Rattle.model.proofs.Accepted.{count-le, laid-value}
 use Rattle.schedule.specs.Plan.{Plan}
-use Rattle.schedule.specs.Resume.{Cursor, eventsFrom}
+use Rattle.schedule.specs.declared.Cursor.{Cursor}
+use Rattle.schedule.specs.Resume.{eventsFrom}
 use Rattle.schedule.specs.Memory.{Memory}
 use Rattle.schedule.specs.Totals.{activeAll}
-use Rattle.sparse_field.specs.declared.Input.{Input}
+use Rattle.input.specs.declared.Input.{Input}
 use Rattle.sparse_field.specs.declared.Progress.{Progress}
 use Rattle.sparse_field.specs.Inner.FlatValue.{flatValue}
 use Rattle.sparse_field.specs.Plan.{planWith, planOf, valueOf}

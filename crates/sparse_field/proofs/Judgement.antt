@@ -11,51 +11,46 @@ use lib.ListN.{length, getD, take}
 use lib.Seq.{getD-take, length-take-le}
 use lib.Ieee.{Float}
 use borrow.Author.Tests.{eq-eqb, ne-eqb, eqb-true, eqb-false, lt-ltb, le-ltb, ltb-true, ltb-false, not-false}
+use Rattle.schedule.specs.declared.Cursor.the-variants.{Corner, Point}
 use Rattle.lists.proofs.Tests.{or-left, or-right, and-left, and-right}
 use Rattle.model.specs.declared.ImplicitModel.{ImplicitModel}
 use Rattle.grid.specs.declared.Grid.{Grid}
-use Rattle.grid.specs.declared.Band.{Band}
-use Rattle.grid.specs.declared.Lengths.{Lengths}
-use Rattle.grid.specs.declared.Refusal.{Refusal}
-use Rattle.grid.specs.declared.Refusal.the-variants.{None, By}
+use Rattle.input.specs.declared.Band.{Band}
+use Rattle.input.specs.declared.Lengths.{Lengths}
+use Rattle.input.specs.declared.Refusal.{Refusal}
+use Rattle.input.specs.declared.Refusal.the-variants.{None, By}
 use Rattle.grid.specs.Ranges.{countBelow}
 use Rattle.grid.specs.Blocks.{cube}
 use Rattle.grid.specs.Nodes.{nodesOf}
 use Rattle.grid.specs.Boxes.{active}
 use Rattle.grid.specs.Counting as counting
-use Rattle.grid.specs.Causes.{refusedByTwo, refusedByFive, childrenOf, refusalOf}
+use Rattle.grid.specs.Limits.{refusedByTwo, refusedByFive, childrenOf}
+use Rattle.input.specs.Causes.{refusalOf, numberOf}
 use Rattle.grid.proofs.BlockLaws.{cube-le}
-use Rattle.grid.proofs.Clear.{Clear, clear, number-above}
-use Rattle.grid.proofs.CauseLaws.{inner-block, leaf-block, few-children}
+use Rattle.input.proofs.Clear.{Clear, clear, number-above}
+use Rattle.grid.proofs.LimitLaws.{inner-block, leaf-block, few-children}
 use Rattle.schedule.specs.Schedule.{corner, point}
 use Rattle.schedule.specs.Plan.{Plan}
-use Rattle.schedule.specs.Resume.{Cursor, at}
+use Rattle.schedule.specs.declared.Cursor.{Cursor}
+use Rattle.schedule.specs.Resume.{at}
 use Rattle.lists.specs.Sums.{sumFrom, sumBelow, bit}
 use Rattle.schedule.specs.Totals.{countOf, countBefore, countAll, activeBefore, activeAll, activeUpTo, evaluationsBound}
-use Rattle.schedule.specs.Opened.{activeAt, nonzero, ActiveKinds}
+use Rattle.schedule.specs.Opened.{activeAt, ActiveKinds}
+use Rattle.lists.specs.Flags.{nonzero}
 use Rattle.schedule.specs.Counts.{countsWith, sameCounts}
 use Rattle.schedule.specs.Possible.{sameLengths, sameActive, validCursor, insideChild, impossible}
 use Rattle.lists.proofs.Sums.{sumBelow-snoc}
 use Rattle.schedule.proofs.Sums.{before-next, before-node}
 use Rattle.schedule.proofs.Activity.{active-at}
-use Rattle.sparse_field.specs.declared.Input.{Input}
-use Rattle.sparse_field.specs.declared.Counts.{Counts}
+use Rattle.input.specs.declared.Input.{Input}
+use Rattle.schedule.specs.declared.Counts.{Counts}
 use Rattle.sparse_field.specs.declared.Record.{Record}
 use Rattle.sparse_field.specs.Plan.{planWith, planOf}
-use Rattle.sparse_field.specs.Records.{numberOf, lengthsIn, countsIn, cursorIn, jobIn, sparse}
+use Rattle.sparse_field.specs.Records.{lengthsIn, countsIn, cursorIn, jobIn, sparse}
 use Rattle.schedule.specs.Lent.{memoryOf}
 use Rattle.sparse_field.specs.Inner.Flags.{countNonzero}
 use Rattle.sparse_field.specs.Inner.Judged.{RightKinds, wrongProgress}
-use Rattle.sparse_field.proofs.FlagLaws.{nonzero-true}
-
--- ---- an input without a cause
-
-pub no-cause : (g : Grid) (band : Band) (m : ImplicitModel) (l : Lengths) → numberOf (refusalOf g band m l) ≡ 0 → Clear g band m l
-no-cause g band m l e = clear g band m l (by (refusalOf g band m l) refl e)
-  where
-    by : (r : Refusal) → refusalOf g band m l ≡ r → numberOf r ≡ 0 → r ≡ None
-    by None same z = refl
-    by (By n) same z = absurd (let above = number-above g band m l n same in let f : ⊥ = omega arith in f)
+use Rattle.lists.proofs.Flags.{nonzero-true}
 
 -- ---- kinds that are found right
 
@@ -228,19 +223,19 @@ module _ (i : Input) (c : Counts) where
 -- ---- the tests of cursors
 
 module _ (i : Input) (v : ℕ) where
-  pub corner-node : (k : ℕ) → nodesOf (i .grid) ≤ v → false ≡ validCursor (planOf i) (at (corner v k))
+  pub corner-node : (k : ℕ) → nodesOf (i .grid) ≤ v → false ≡ validCursor (planOf i) (Corner v k)
   unfolding validCursor planWith
   corner-node k h = rw (le-ltb v (nodesOf (i .grid)) h) refl
 
-  pub corner-place : (k : ℕ) → v < nodesOf (i .grid) → cube (i .grid .inner + 1) ≤ k → false ≡ validCursor (planOf i) (at (corner v k))
+  pub corner-place : (k : ℕ) → v < nodesOf (i .grid) → cube (i .grid .inner + 1) ≤ k → false ≡ validCursor (planOf i) (Corner v k)
   unfolding validCursor planWith
   corner-place k h m = rw (lt-ltb v (nodesOf (i .grid)) h, le-ltb k (cube (i .grid .inner + 1)) m) refl
 
-  pub corner-needed : (k : ℕ) → v < nodesOf (i .grid) → k < cube (i .grid .inner + 1) → {b : Bool} → b ≡ planOf i .needed v k → b ≡ validCursor (planOf i) (at (corner v k))
+  pub corner-needed : (k : ℕ) → v < nodesOf (i .grid) → k < cube (i .grid .inner + 1) → {b : Bool} → b ≡ planOf i .needed v k → b ≡ validCursor (planOf i) (Corner v k)
   unfolding validCursor planWith
   corner-needed k h m e = rw (lt-ltb v (nodesOf (i .grid)) h, lt-ltb k (cube (i .grid .inner + 1)) m) e
 
-  pub corner-valid : (k : ℕ) → validCursor (planOf i) (at (corner v k)) ≡ true → v < nodesOf (i .grid)
+  pub corner-valid : (k : ℕ) → validCursor (planOf i) (Corner v k) ≡ true → v < nodesOf (i .grid)
   unfolding validCursor planWith
   corner-valid k e =
       let a = ltb v (nodesOf (i .grid)) in
@@ -248,23 +243,23 @@ module _ (i : Input) (v : ℕ) where
       ltb-true v (nodesOf (i .grid)) (and-left a b (and-left (a && b) (planOf i .needed v k) e))
 
   module _ (c p : ℕ) where
-    pub point-node : nodesOf (i .grid) ≤ v → false ≡ validCursor (planOf i) (at (point v c p))
+    pub point-node : nodesOf (i .grid) ≤ v → false ≡ validCursor (planOf i) (Point v c p)
     unfolding validCursor planWith
     point-node h = rw (le-ltb v (nodesOf (i .grid)) h) refl
 
-    pub point-child : v < nodesOf (i .grid) → cube (i .grid .inner) ≤ c → false ≡ validCursor (planOf i) (at (point v c p))
+    pub point-child : v < nodesOf (i .grid) → cube (i .grid .inner) ≤ c → false ≡ validCursor (planOf i) (Point v c p)
     unfolding validCursor planWith
     point-child h m = rw (lt-ltb v (nodesOf (i .grid)) h, le-ltb c (cube (i .grid .inner)) m) refl
 
-    pub point-active : v < nodesOf (i .grid) → c < cube (i .grid .inner) → active (i .grid) v c ≡ false → false ≡ validCursor (planOf i) (at (point v c p))
+    pub point-active : v < nodesOf (i .grid) → c < cube (i .grid .inner) → active (i .grid) v c ≡ false → false ≡ validCursor (planOf i) (Point v c p)
     unfolding validCursor planWith
     point-active h m e = rw (lt-ltb v (nodesOf (i .grid)) h, lt-ltb c (cube (i .grid .inner)) m, e) refl
 
-    pub point-place : v < nodesOf (i .grid) → c < cube (i .grid .inner) → active (i .grid) v c ≡ true → {b : Bool} → b ≡ ltb p (cube (i .grid .leaf)) → b ≡ validCursor (planOf i) (at (point v c p))
+    pub point-place : v < nodesOf (i .grid) → c < cube (i .grid .inner) → active (i .grid) v c ≡ true → {b : Bool} → b ≡ ltb p (cube (i .grid .leaf)) → b ≡ validCursor (planOf i) (Point v c p)
     unfolding validCursor planWith
     point-place h m e k = rw (lt-ltb v (nodesOf (i .grid)) h, lt-ltb c (cube (i .grid .inner)) m, e) k
 
-    pub point-valid : validCursor (planOf i) (at (point v c p)) ≡ true → (v < nodesOf (i .grid)) × (c < cube (i .grid .inner))
+    pub point-valid : validCursor (planOf i) (Point v c p) ≡ true → (v < nodesOf (i .grid)) × (c < cube (i .grid .inner))
     unfolding validCursor planWith
     point-valid e =
         let a = ltb v (nodesOf (i .grid)) in
@@ -305,7 +300,7 @@ pub record UpTo (P : Plan) (l : List ℕ) (n : ℕ) (a : Cursor) : Type 0 where
   pub count : countNonzero (take n l) ≡ activeUpTo P a
 
 module _ (i : Input) (l : List ℕ) (h : RightKinds i l) (v n : ℕ) (e : n ≡ cube (i .grid .inner)) where
-  pub corner-up-to : (q : ℕ) → validCursor (planOf i) (at (corner v q)) ≡ true → UpTo (planOf i) l (v * n) (at (corner v q))
+  pub corner-up-to : (q : ℕ) → validCursor (planOf i) (Corner v q) ≡ true → UpTo (planOf i) l (v * n) (Corner v q)
   unfolding activeUpTo planWith
   corner-up-to q ok =
       let m = cube (i .grid .inner) in
@@ -316,7 +311,7 @@ module _ (i : Input) (l : List ℕ) (h : RightKinds i l) (v n : ℕ) (e : n ≡ 
         count = count-up-to (planOf i) l (h .right) (h .long) v 0 (v * n) below (omega arith) place;
       }
 
-  pub point-up-to : (c p : ℕ) → validCursor (planOf i) (at (point v c p)) ≡ true → UpTo (planOf i) l (v * n + (c + 1)) (at (point v c p))
+  pub point-up-to : (c p : ℕ) → validCursor (planOf i) (Point v c p) ≡ true → UpTo (planOf i) l (v * n + (c + 1)) (Point v c p)
   unfolding activeUpTo planWith
   point-up-to c p ok =
       let m = cube (i .grid .inner) in
@@ -378,8 +373,8 @@ module _ (r : Record) (ks : List ℕ) (ns : List Float) (ps : List ℕ) (st cs :
   impossible-cause a = judged-first meetsCause otherLengths otherKinds otherCounts manyEvaluations otherCursor manyLeaves noLeaf a
 
   module _ (a : meetsCause ≡ false) where
-    pub possible-input : Clear (r .input .grid) (r .input .band) (r .input .model) lentNow
-    possible-input = no-cause (r .input .grid) (r .input .band) (r .input .model) lentNow (eqb-true _ 0 (not-false _ a))
+    pub possible-input : Clear (r .input) lentNow
+    possible-input = no-cause (r .input) lentNow (eqb-true _ 0 (not-false _ a))
 
     pub impossible-lengths : otherLengths ≡ true → true ≡ isImpossible
     unfolding impossible

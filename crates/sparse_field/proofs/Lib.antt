@@ -4,7 +4,6 @@ pub mod Decisions
 pub mod RunLaws
 pub mod Turns
 pub mod ChildLaws
-pub mod FlagLaws
 pub mod NodeKinds
 pub mod NodeLaws
 pub mod JobLaws

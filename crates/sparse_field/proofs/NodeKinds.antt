@@ -14,7 +14,7 @@ use borrow.Rule.Slice.PartMut.{putMid}
 use Rattle.geometry.specs.Index.{indicesOf}
 use Rattle.geometry.specs.declared.Vec3i.{Vec3i}
 use Rattle.grid.specs.declared.Grid.{Grid}
-use Rattle.grid.specs.declared.Band.{Band}
+use Rattle.input.specs.declared.Band.{Band}
 use Rattle.grid.specs.Ranges.{anyBelow}
 use Rattle.grid.specs.Blocks.{cube}
 use Rattle.grid.specs.Nodes.{sizeOf, nodeCounts, nodesOf}
@@ -26,13 +26,14 @@ use Rattle.grid.proofs.Active.{by-axes}
 use Rattle.geometry.proofs.Inverse.{column-below, line-below}
 use Rattle.schedule.specs.Plan.{Plan}
 use Rattle.lists.specs.Sums.{bit}
-use Rattle.schedule.specs.Opened.{activeAt, kindsFrom, nonzero, ActiveKinds}
+use Rattle.schedule.specs.Opened.{activeAt, kindsFrom, ActiveKinds}
+use Rattle.lists.specs.Flags.{nonzero, flagsFrom, agreesFrom}
 use Rattle.schedule.specs.Possible.{sameActive}
 use Rattle.schedule.proofs.Activity.{active-at}
-use Rattle.sparse_field.specs.declared.Input.{Input}
+use Rattle.input.specs.declared.Input.{Input}
 use Rattle.sparse_field.specs.Plan.{planWith, planOf}
-use Rattle.sparse_field.specs.Inner.Flags.{flagsFrom, agreesFrom, tableTest, nodeTest, gridTest}
-use Rattle.sparse_field.proofs.FlagLaws.{length-flags, flags-cong, flags-append, flags-none, agrees-cong, agrees-append, agrees-not, nonzero-eqb}
+use Rattle.sparse_field.specs.Inner.Flags.{tableTest, nodeTest, gridTest}
+use Rattle.lists.proofs.Flags.{length-flags, flags-cong, flags-append, flags-none, agrees-cong, agrees-append, agrees-not, nonzero-eqb}
 
 -- ---- a node's children, by the tables of three axes
 

@@ -12,7 +12,7 @@ use lib.Ieee.{Float}
 use Rattle.float.specs.Zero.{plusZero}
 use Rattle.geometry.specs.declared.BoundingBox.{BoundingBox}
 use Rattle.grid.specs.declared.Grid.{Grid}
-use Rattle.grid.specs.declared.Band.{Band}
+use Rattle.input.specs.declared.Band.{Band}
 use Rattle.grid.specs.Blocks.{cube}
 use Rattle.grid.specs.Nodes.{nodesOf}
 use Rattle.grid.specs.Boxes.{active, nodeBox, childBox}
@@ -32,8 +32,8 @@ use Rattle.schedule.specs.Opened.{ActiveKinds}
 use Rattle.schedule.proofs.Sums.{before-all, before-most}
 use Rattle.schedule.proofs.Next.{corner-evaluate, corner-last, node-first, node-last}
 use Rattle.sparse_field.specs.declared.Progress.{Progress}
-use Rattle.sparse_field.specs.declared.Cursor.{Cursor}
-use Rattle.sparse_field.specs.declared.Cursor.the-variants.{End, Corner}
+use Rattle.schedule.specs.declared.Cursor.{Cursor}
+use Rattle.schedule.specs.declared.Cursor.the-variants.{End, Corner, Point}
 use Rattle.sparse_field.specs.Records.{cursorIn}
 use Rattle.sparse_field.specs.declared.Stop.the-variants.{Through, At}
 use Rattle.schedule.specs.Lent.{memoryOf}
@@ -101,20 +101,20 @@ module _ (P : Plan) (v i b leaves next left : ℕ) (m : Memory) (after : List Fl
   }
 
   -- what is left from the next corner on
-  corners-run : runOf P b (eventsFrom P (at (corner v i)) (readingIn m)) (stateIn m leaves)
-      ≡ runOf P left (eventsFrom P (at (corner v next)) (readingIn cornered)) (stateIn cornered leaves)
+  corners-run : runOf P b (eventsFrom P (Corner v i) (readingIn m)) (stateIn m leaves)
+      ≡ runOf P left (eventsFrom P (Corner v next) (readingIn cornered)) (stateIn cornered leaves)
   corners-run =
       let r : ℕ = next - i in
       let place : i + r ≡ next = omega (arith, run .from) in
       let rest : b - neededFrom (P .needed v) r i ≡ left = omega (arith, run .spent) in
       run-corners P v r i b (stateIn m leaves) (m .corners) (omega (arith, run .from, run .within)) (lent .corners) (omega (arith, run .spent))
-      ∙ ap₂ (λ k n. runOf P k (eventsFrom P (at (corner v n)) (λ j. getD (evaluatedFrom (P .needed v) (P .cornerValue v) r i (m .corners)) j plusZero))
+      ∙ ap₂ (λ k n. runOf P k (eventsFrom P (Corner v n) (λ j. getD (evaluatedFrom (P .needed v) (P .cornerValue v) r i (m .corners)) j plusZero))
       (stateIn (memoryOf (m .kinds) (m .numbers) (m .places) (m .store) (evaluatedFrom (P .needed v) (P .cornerValue v) r i (m .corners))) leaves)) rest place
-      ∙ ap (λ l. runOf P left (eventsFrom P (at (corner v next)) (λ j. getD l j plusZero)) (stateIn (memoryOf (m .kinds) (m .numbers) (m .places) (m .store) l) leaves)) (sym (run .written))
+      ∙ ap (λ l. runOf P left (eventsFrom P (Corner v next) (λ j. getD l j plusZero)) (stateIn (memoryOf (m .kinds) (m .numbers) (m .places) (m .store) l) leaves)) (sym (run .written))
 
   -- it stops before a corner
   pub corners-stopped : {to : List Event} {most : ℕ} → next < P .corners
-      → Advanced P b leaves m cornered (eventsFrom P (at (corner v i)) (readingIn m)) to (progress leaves left (At (Corner v next))) most
+      → Advanced P b leaves m cornered (eventsFrom P (Corner v i) (readingIn m)) to (progress leaves left (At (Corner v next))) most
   corners-stopped short =
       let stop : (left ≡ 0) × (P .needed v next ≡ true) = ⊎-elim (λ (e : next ≡ P .corners). absurd (omega arith)) (λ p. p) (run .stops) in
       record {
@@ -128,7 +128,7 @@ module _ (P : Plan) (v i b leaves next left : ℕ) (m : Memory) (after : List Fl
 
   -- it comes to the children
   pub corners-through : PlanLaws P → v < P .nodes → P .corners ≤ next → leaves ≤ activeBefore P v 0
-      → Advanced P b leaves m cornered (eventsFrom P (at (corner v i)) (readingIn m)) (childrenLeft P v 0 (readingIn cornered)) (progress leaves left Through)
+      → Advanced P b leaves m cornered (eventsFrom P (Corner v i) (readingIn m)) (childrenLeft P v 0 (readingIn cornered)) (progress leaves left Through)
       (activeBefore P v 0)
   corners-through laws node last most = record {
     same = corners-run ∙ ap (λ es. runOf P left es (stateIn cornered leaves)) (corner-last P v laws node next last (readingIn cornered));
@@ -139,8 +139,8 @@ module _ (P : Plan) (v i b leaves next left : ℕ) (m : Memory) (after : List Fl
 -- ---- one node after another
 
 -- a node begins with corners that are all +0
-pub node-begins : (P : Plan) (v : ℕ) (m : Memory) → v < P .nodes → ZeroCorners m → nodesLeft P v ≡ eventsFrom P (at (corner v 0)) (readingIn m)
-node-begins P v m below cleared = node-first P v below ∙ ap (eventsFrom P (at (corner v 0))) (sym (fun-ext cleared))
+pub node-begins : (P : Plan) (v : ℕ) (m : Memory) → v < P .nodes → ZeroCorners m → nodesLeft P v ≡ eventsFrom P (Corner v 0) (readingIn m)
+node-begins P v m below cleared = node-first P v below ∙ ap (eventsFrom P (Corner v 0)) (sym (fun-ext cleared))
 
 -- after the last node nothing is left
 pub nodes-end : (P : Plan) (v b leaves : ℕ) (m m₁ : Memory) (from : List Event) (r : Progress) → v ≡ P .nodes
@@ -152,7 +152,7 @@ nodes-end P v b leaves m m₁ from r last done =
 -- one node more
 pub node-after : (P : Plan) (v b leaves made left : ℕ) {m₀ m m₁ : Memory} {from : List Event} {r : Progress} {most : ℕ}
     → Advanced P b leaves m₀ m from (nodesLeft P v) (progress made left Through) most → v < P .nodes → ZeroCorners m
-    → NodeAdvanced P v left made m m₁ (eventsFrom P (at (corner v 0)) (readingIn m)) r
+    → NodeAdvanced P v left made m m₁ (eventsFrom P (Corner v 0) (readingIn m)) r
     → Advanced P b leaves m₀ m₁ from (nodesLeft P (suc v)) r (activeBefore P (suc v) 0)
 node-after P v b leaves made left {m₀} {m} {m₁} {from} {r} {most} done below cleared node =
     advanced-then P
@@ -227,14 +227,14 @@ module _ (g : Grid) (band : Band) (words : List ℕ) (reals : List Float) (parts
 
   -- the code's corners stop before one that is needed
   pub node-at-corner : next < cube (g .inner + 1)
-      → NodeAdvanced P v b leaves m (memoryOf (m .kinds) (m .numbers) (m .places) (m .store) after) (eventsFrom P (at (corner v i)) (readingIn m))
+      → NodeAdvanced P v b leaves m (memoryOf (m .kinds) (m .numbers) (m .places) (m .store) after) (eventsFrom P (Corner v i) (readingIn m))
       (progress leaves left (At (Corner v next)))
   unfolding planWith
   node-at-corner short = record { advanced = corners-stopped P v i b leaves next left m after (ready .lent) planned short; cleared = tt }
 
   -- or come to the children
   pub node-past-corners : cube (g .inner + 1) ≤ next
-      → Advanced P b leaves m (memoryOf (m .kinds) (m .numbers) (m .places) (m .store) after) (eventsFrom P (at (corner v i)) (readingIn m))
+      → Advanced P b leaves m (memoryOf (m .kinds) (m .numbers) (m .places) (m .store) after) (eventsFrom P (Corner v i) (readingIn m))
       (childrenLeft P v 0 (readingIn (memoryOf (m .kinds) (m .numbers) (m .places) (m .store) after))) (progress leaves left Through) (activeBefore P v 0)
   unfolding planWith
   node-past-corners last =
@@ -257,7 +257,7 @@ module _ (g : Grid) (band : Band) (words : List ℕ) (reals : List Float) (parts
       → turn ≡ leafProgress leaves b v c p (cube (g .leaf))
       → store ≡ filled ((leaves - 1) * cube (g .leaf) + p) (min b (cube (g .leaf) - p))
       (λ q. plans.at (flatValue words reals parts) (leafPoint child (g .leaf) (q - (leaves - 1) * cube (g .leaf)))) (m .store)
-      → Advanced Q b leaves m (memoryOf (m .kinds) (m .numbers) (m .places) store (m .corners)) (eventsFrom Q (at (point v c p)) (readingIn m))
+      → Advanced Q b leaves m (memoryOf (m .kinds) (m .numbers) (m .places) store (m .corners)) (eventsFrom Q (Point v c p) (readingIn m))
       (childrenLeft Q v (suc c) (readingIn m)) turn (activeBefore Q v (suc c))
   unfolding planWith boxOf
   node-points {box} {child} {store} {turn} within boxed lies goes stored =
@@ -265,10 +265,10 @@ module _ (g : Grid) (band : Band) (words : List ℕ) (reals : List Float) (parts
       let stored′ : store ≡ filledStore Q v c p b leaves (m .store) =
       stored ∙ ap (λ x. filled ((leaves - 1) * cube (g .leaf) + p) (min b (cube (g .leaf) - p))
       (λ q. plans.at (flatValue words reals parts) (leafPoint x (g .leaf) (q - (leaves - 1) * cube (g .leaf)))) (m .store)) lies′ in
-      subst (λ l. Advanced Q b leaves m (memoryOf (m .kinds) (m .numbers) (m .places) l (m .corners)) (eventsFrom Q (at (point v c p)) (readingIn m))
+      subst (λ l. Advanced Q b leaves m (memoryOf (m .kinds) (m .numbers) (m .places) l (m .corners)) (eventsFrom Q (Point v c p) (readingIn m))
       (childrenLeft Q v (suc c) (readingIn m)) turn (activeBefore Q v (suc c))) (sym stored′)
       (subst (λ t. Advanced Q b leaves m (memoryOf (m .kinds) (m .numbers) (m .places) (filledStore Q v c p b leaves (m .store)) (m .corners))
-      (eventsFrom Q (at (point v c p)) (readingIn m)) (childrenLeft Q v (suc c) (readingIn m)) t (activeBefore Q v (suc c))) (sym goes)
+      (eventsFrom Q (Point v c p) (readingIn m)) (childrenLeft Q v (suc c) (readingIn m)) t (activeBefore Q v (suc c))) (sym goes)
       (turn-points Q v c p b leaves m (ready .lent) (ready .atMost) within))
 
 -- ---- from a cursor on

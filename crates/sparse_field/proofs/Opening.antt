@@ -7,14 +7,14 @@ use native.Mathlib.Nat.{mul-pos, mul-le-mul-right}
 use native.Mathlib.Omega.{arith}
 use Rattle.float.specs.Zero.{plusZero}
 use Rattle.grid.specs.declared.Grid.{Grid}
-use Rattle.grid.specs.declared.Band.{Band}
-use Rattle.grid.specs.declared.Lengths.{Lengths}
+use Rattle.input.specs.declared.Band.{Band}
+use Rattle.input.specs.declared.Lengths.{Lengths}
 use Rattle.grid.specs.Blocks.{cube}
 use Rattle.grid.specs.Nodes.{nodesOf}
-use Rattle.grid.specs.Causes.{childrenOf}
+use Rattle.grid.specs.Limits.{childrenOf}
 use Rattle.grid.proofs.Counts.{i-above, j-above, k-above}
-use Rattle.grid.proofs.Clear.{Clear}
-use Rattle.grid.proofs.CauseLaws.{inner-block, leaf-block, few-children}
+use Rattle.input.proofs.Clear.{Clear, no-cause}
+use Rattle.grid.proofs.LimitLaws.{inner-block, leaf-block, few-children}
 use Rattle.model.specs.declared.ImplicitModel.{ImplicitModel}
 use Rattle.schedule.specs.Schedule.{schedule, nodesFrom}
 use Rattle.schedule.specs.Plan.{Plan}
@@ -35,16 +35,16 @@ use Rattle.schedule.specs.Stops.{AtLeast}
 use Rattle.schedule.specs.Opened as opens
 use Rattle.schedule.specs.Opened.{lengthsOf, ActiveKinds}
 use Rattle.schedule.specs.Inputs.{InputsLaws}
-use Rattle.sparse_field.specs.declared.Input.{Input}
-use Rattle.sparse_field.specs.declared.Cursor.{Cursor}
+use Rattle.input.specs.declared.Input.{Input}
+use Rattle.schedule.specs.declared.Cursor.{Cursor}
 use Rattle.sparse_field.specs.declared.Progress.{Progress}
-use Rattle.sparse_field.specs.declared.Cursor.the-variants.{End, Corner, Point}
+use Rattle.schedule.specs.declared.Cursor.the-variants.{End, Corner, Point}
 use Rattle.sparse_field.specs.Plan.{planWith, planOf, valueOf}
 use Rattle.sparse_field.specs.Inner.Parts.{startMemory, cursorAt}
 use Rattle.sparse_field.specs.Inner.Progress.{Sized, Lent, Advanced, readingIn, ZeroCorners}
 use Rattle.sparse_field.specs.Records.{sparse, lent, cursorIn}
 use Rattle.sparse_field.specs.Inner.Startable.{Startable}
-use Rattle.sparse_field.proofs.Judgement.{no-cause, active-all}
+use Rattle.sparse_field.proofs.Judgement.{active-all}
 use Rattle.sparse_field.proofs.NodeLaws.{plan-laws, node-begins}
 use Rattle.sparse_field.specs.Inner.Runs.{runOf}
 use Rattle.sparse_field.proofs.ChildLaws.{active-few}
@@ -62,7 +62,7 @@ sized g none = record {
 }
 
 -- memory whose lengths no cause refuses
-pub lent-memory : (i : Input) (m : Memory) → Clear (i .grid) (i .band) (i .model) (lent (lengthsOf m)) → ActiveKinds (planOf i) (m .kinds) → Lent (planOf i) m
+pub lent-memory : (i : Input) (m : Memory) → Clear i (lent (lengthsOf m)) → ActiveKinds (planOf i) (m .kinds) → Lent (planOf i) m
 unfolding planWith
 lent-memory i m none right = record {
   kinds = none .lent .kinds;
@@ -85,16 +85,16 @@ pub sparse-laws : InputsLaws sparse
 unfolding planWith
 sparse-laws = record {
   planLaws = λ l i none.
-      let n = no-cause (i .grid) (i .band) (i .model) (lent l) none in
+      let n = no-cause i (lent l) none in
       plan-laws (i .grid) (i .band) (valueOf (i .model)) (sized (i .grid) n .innerLeast);
-  enoughCorners = λ l i none. no-cause (i .grid) (i .band) (i .model) (lent l) none .lent .corners;
+  enoughCorners = λ l i none. no-cause i (lent l) none .lent .corners;
 }
 
 -- its lent slices hold all its children and all its leaves' points
 pub long-enough : (l : opens.Lengths) (i : Input) → sparse .cause l i ≡ 0 → LongEnough (planOf i) l
 unfolding planWith
 long-enough l i none =
-    let n = no-cause (i .grid) (i .band) (i .model) (lent l) none in
+    let n = no-cause i (lent l) none in
     let few = mul-le-mul-right (cube (i .grid .leaf)) (leavesAll-most (planOf i)) in
     record {
       kinds = n .lent .kinds;
@@ -113,13 +113,13 @@ module _ (i : Input) (l : opens.Lengths) (none : sparse .cause l i ≡ 0) where
   abbrev P : Plan
   P = planOf i
 
-  pub nothing : Clear (i .grid) (i .band) (i .model) (lent l)
-  nothing = no-cause (i .grid) (i .band) (i .model) (lent l) none
+  pub nothing : Clear i (lent l)
+  nothing = no-cause i (lent l) none
 
   -- the memory that open prepares is lent
   pub start-lent : Lent P (startMemory i l)
   start-lent =
-      lent-memory i (startMemory i l) (subst (λ k. Clear (i .grid) (i .band) (i .model) (lent k)) (sym (opened-lengths P l)) nothing) (opened-active P l)
+      lent-memory i (startMemory i l) (subst (λ k. Clear i (lent k)) (sym (opened-lengths P l)) nothing) (opened-active P l)
 
   -- its corners are all +0
   start-cleared : ZeroCorners (startMemory i l)

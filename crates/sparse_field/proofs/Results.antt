@@ -11,7 +11,7 @@ use Rattle.schedule.specs.Resume.{cursorOf, eventsFrom}
 use Rattle.schedule.specs.Split.{split, evaluations}
 use Rattle.schedule.specs.Memory.{Memory, State, applyAll}
 use lib.ListN.{length}
-use Rattle.grid.specs.declared.Lengths as grids
+use Rattle.input.specs.declared.Lengths as grids
 use Rattle.grid.specs.Blocks.{cube}
 use Rattle.schedule.specs.Totals.{activeAll, activeUpTo, evaluationsBound}
 use Rattle.schedule.specs.PlanLaws.{PlanLaws, Valid}
@@ -24,9 +24,9 @@ use Rattle.schedule.proofs.Split.{split-made}
 use Rattle.schedule.proofs.Sums.{up-to-most}
 use Rattle.schedule.proofs.EventCounts.{left-bound}
 use Rattle.schedule.proofs.Resume.{resume-within}
-use Rattle.sparse_field.specs.declared.Input.{Input}
-use Rattle.sparse_field.specs.declared.Cursor.{Cursor}
-use Rattle.sparse_field.specs.declared.Cursor.the-variants.{End, Corner, Point}
+use Rattle.input.specs.declared.Input.{Input}
+use Rattle.schedule.specs.declared.Cursor.{Cursor}
+use Rattle.schedule.specs.declared.Cursor.the-variants.{End, Corner, Point}
 use Rattle.sparse_field.specs.declared.Progress.{Progress}
 use Rattle.sparse_field.specs.declared.Stop.{Stop}
 use Rattle.sparse_field.specs.declared.Stop.the-variants.{Through, At}

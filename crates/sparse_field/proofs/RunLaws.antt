@@ -8,7 +8,9 @@ use lib.ListN.{set, length, length-set}
 use lib.Ieee.{Float}
 use Rattle.schedule.specs.Schedule.{Event, Work, Site, corner, point, evaluate, work}
 use Rattle.schedule.specs.Plan.{Plan}
-use Rattle.schedule.specs.Resume.{Cursor, end, at, cursorOf, eventsFrom, reading}
+use Rattle.schedule.specs.declared.Cursor.{Cursor}
+use Rattle.schedule.specs.declared.Cursor.the-variants.{End, Corner, Point}
+use Rattle.schedule.specs.Resume.{at, cursorOf, eventsFrom, reading}
 use Rattle.schedule.specs.Split.{split, evaluations}
 use Rattle.schedule.specs.Memory.{State, state, apply, applyAll}
 use Rattle.lists.specs.Sums.{sumFrom, bit}
@@ -42,11 +44,11 @@ module _ (P : Plan) where
   run-stop t x es s = refl
 
   -- nothing is left
-  pub run-end : (b : ℕ) (s : State) → runOf P b [] s ≡ record { state = s; cursor = end; left = b }
+  pub run-end : (b : ℕ) (s : State) → runOf P b [] s ≡ record { state = s; cursor = End; left = b }
   unfolding runOf split applyAll evaluations cursorOf
   run-end b s =
       let all : b - 0 ≡ b = omega arith in
-      λ i. record { state = s; cursor = end; left = all i }
+      λ i. record { state = s; cursor = End; left = all i }
 
   -- a state with other corners, and with another store
   abbrev pub withCorners : State → List Float → State
@@ -58,7 +60,7 @@ module _ (P : Plan) where
   module _ (v : ℕ) where
     -- what is left from corner i on, in a state with corners l
     abbrev pub cornersRun : ℕ → ℕ → State → List Float → Run
-    cornersRun b i s l = runOf P b (eventsFrom P (at (corner v i)) (reading (withCorners s l))) (withCorners s l)
+    cornersRun b i s l = runOf P b (eventsFrom P (Corner v i) (reading (withCorners s l))) (withCorners s l)
 
     -- r corners from i on, as far as they are needed
     pub run-corners : (r i b : ℕ) (s : State) (l : List Float) → i + r ≤ P .corners → P .corners ≤ length l → neededFrom (P .needed v) r i ≤ b
@@ -83,7 +85,7 @@ module _ (P : Plan) where
             let place : suc i + r ≡ i + suc r = omega arith in
             let spent : b - 1 - neededFrom (P .needed v) r (suc i) ≡ b - (1 + neededFrom (P .needed v) r (suc i)) = omega arith in
             ap (λ es. runOf P b es (withCorners s l)) (corner-evaluate P v i (omega arith) e (withCorners s l) (omega arith))
-            ∙ ap (λ b. runOf P b (evaluate (corner v i) (P .cornerValue v i) ∷ eventsFrom P (at (corner v (suc i))) (reading (withCorners s (set l i (P .cornerValue v i))))) (withCorners s l)) more
+            ∙ ap (λ b. runOf P b (evaluate (corner v i) (P .cornerValue v i) ∷ eventsFrom P (Corner v (suc i)) (reading (withCorners s (set l i (P .cornerValue v i))))) (withCorners s l)) more
             ∙ run-evaluate (b - 1) (corner v i) (P .cornerValue v i) _ (withCorners s l)
             ∙ later (b - 1) (set l i (P .cornerValue v i)) (rw length-set long) (omega arith)
             ∙ ap₂ (λ b i′. cornersRun b i′ s (evaluatedFrom (P .needed v) (P .cornerValue v) r (suc i) (set l i (P .cornerValue v i)))) spent place
@@ -97,7 +99,7 @@ module _ (P : Plan) where
     module _ (c : ℕ) (read : ℕ → Float) where
       -- what is left from point p on, in a state with a store l
       abbrev pub pointsRun : ℕ → ℕ → State → List Float → Run
-      pointsRun b p s l = runOf P b (eventsFrom P (at (point v c p)) read) (withStore s l)
+      pointsRun b p s l = runOf P b (eventsFrom P (Point v c p) read) (withStore s l)
 
       -- where the last leaf's stretch of the store begins
       abbrev pub stretch : State → ℕ

@@ -14,20 +14,22 @@ use Rattle.float.specs.Zero.{plusZero}
 use Rattle.lists.specs.Filled.{filled}
 use Rattle.lists.proofs.Filling.{filled-length}
 use Rattle.schedule.specs.Schedule.{Site, Event, corner, point, evaluate, work, makeConstant, makeLeaf, clearCorners, zeros}
-use Rattle.schedule.specs.Plan.{Plan, constant, leaf}
+use Rattle.schedule.specs.Plan.{Plan}
+use Rattle.grid.specs.declared.Verdict.the-variants.{Constant, Leaf}
 use Rattle.schedule.specs.Resume.{at, eventsFrom, childrenLeft, nodesLeft}
 use Rattle.schedule.specs.Memory.{Memory, State, apply}
 use Rattle.schedule.specs.Totals.{activeBefore, activeAll}
 use Rattle.lists.specs.Sums.{bit}
 use Rattle.schedule.specs.PlanLaws.{PlanLaws}
-use Rattle.schedule.specs.Opened.{nonzero, activeAt}
+use Rattle.lists.specs.Flags.{nonzero}
+use Rattle.schedule.specs.Opened.{activeAt}
 use Rattle.schedule.proofs.Sums.{before-next, before-node}
 use Rattle.schedule.proofs.Next.{corner-evaluate, corner-last, child-skip, child-constant, child-leaf, child-last, point-evaluate, point-last}
 use Rattle.schedule.proofs.Activity.{active-at, set-active}
 use Rattle.schedule.proofs.StopFacts.{getD-equal}
 use Rattle.sparse_field.specs.declared.Progress.{Progress}
-use Rattle.sparse_field.specs.declared.Cursor.{Cursor}
-use Rattle.sparse_field.specs.declared.Cursor.the-variants.{Corner, Point}
+use Rattle.schedule.specs.declared.Cursor.{Cursor}
+use Rattle.schedule.specs.declared.Cursor.the-variants.{Corner, Point}
 use Rattle.sparse_field.specs.declared.Stop.{Stop}
 use Rattle.sparse_field.specs.declared.Stop.the-variants.{Through, At}
 use Rattle.schedule.specs.Lent.{memoryOf}
@@ -110,7 +112,7 @@ module _ (P : Plan) where
     }
 
     -- a child that becomes a constant
-    pub turn-constant : P .active v c ≡ true → (k : ℕ) (x : Float) → 0 < k → P .decide v c (readingIn m) ≡ constant k x
+    pub turn-constant : P .active v c ≡ true → (k : ℕ) (x : Float) → 0 < k → P .decide v c (readingIn m) ≡ Constant k x
         → ChildrenAdvanced P v c (suc c) b leaves m
         (memoryOf (set (m .kinds) (v * P .children + c) k) (set (m .numbers) (v * P .children + c) x) (m .places) (m .store) (m .corners))
         (progress leaves b Through)
@@ -148,7 +150,7 @@ module _ (P : Plan) where
 
   -- a leaf's points from p on, while the budget lasts
   pub leaf-run : (v c p b n : ℕ) (m : Memory) → p ≤ P .leafPoints
-      → runOf P b (eventsFrom P (at (point v c p)) (readingIn m)) (stateIn m n)
+      → runOf P b (eventsFrom P (Point v c p) (readingIn m)) (stateIn m n)
       ≡ afterStop P (leafState v c p b n m)
       (leafProgress n b v c p (P .leafPoints) .left) (leafProgress n b v c p (P .leafPoints) .stop) (childrenLeft P v (suc c) (readingIn m))
   unfolding leafProgress
@@ -188,7 +190,7 @@ module _ (P : Plan) where
 
   -- points of the last leaf, that of child c
   pub turn-points : (v c p b n : ℕ) (m : Memory) → Lent P m → n ≤ activeBefore P v (suc c) → p ≤ P .leafPoints
-      → Advanced P b n m (leafState v c p b n m .memory) (eventsFrom P (at (point v c p)) (readingIn m)) (childrenLeft P v (suc c) (readingIn m))
+      → Advanced P b n m (leafState v c p b n m .memory) (eventsFrom P (Point v c p) (readingIn m)) (childrenLeft P v (suc c) (readingIn m))
       (leafProgress n b v c p (P .leafPoints)) (activeBefore P v (suc c))
   turn-points v c p b n m lent most within = record {
     same = leaf-run v c p b n m within
@@ -206,7 +208,7 @@ module _ (P : Plan) where
     leafMade = memoryOf (set (m .kinds) (v * P .children + c) 2) (m .numbers) (set (m .places) (v * P .children + c) leaves) (m .store) (m .corners)
 
     -- a child that becomes a leaf, with its points
-    pub turn-leaf : P .active v c ≡ true → P .decide v c (readingIn m) ≡ leaf
+    pub turn-leaf : P .active v c ≡ true → P .decide v c (readingIn m) ≡ Leaf
         → ChildrenAdvanced P v c (suc c) b leaves m (leafState v c 0 b (suc leaves) leafMade .memory) (leafProgress (suc leaves) b v c 0 (P .leafPoints))
     unfolding apply
     turn-leaf active decided =
@@ -222,7 +224,7 @@ module _ (P : Plan) where
         let points = turn-points v c 0 b (suc leaves) leafMade made (omega (arith, ready .atMost, before-next P (P .active) v c)) (omega arith) in
         record {
           same = ap (λ es. runOf P b es (stateIn m leaves)) (child-leaf P v c below active (readingIn m) decided)
-              ∙ run-work P b (makeLeaf (v * P .children + c)) (eventsFrom P (at (point v c 0)) (readingIn m)) (stateIn m leaves)
+              ∙ run-work P b (makeLeaf (v * P .children + c)) (eventsFrom P (Point v c 0) (readingIn m)) (stateIn m leaves)
               ∙ points .same;
           lent = points .lent;
           atMost = points .atMost;

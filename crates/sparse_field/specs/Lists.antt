@@ -5,8 +5,8 @@ use Rattle.schedule.specs.Memory.{Memory}
 use Rattle.schedule.specs.Calls as calls
 use Rattle.schedule.specs.Engine.{Engine}
 use Rattle.sparse_field.specs.declared.Record.{Record}
-use Rattle.sparse_field.specs.declared.Answer.{Answer}
-use Rattle.sparse_field.specs.declared.Answer.the-variants.{Accepted, Refused}
+use Rattle.schedule.specs.declared.Answer.{Answer}
+use Rattle.schedule.specs.declared.Answer.the-variants.{Accepted, Refused}
 use Rattle.sparse_field.specs.Records.{sparse, recordIn}
 use Rattle.sparse_field.specs.Calls.{called}
 

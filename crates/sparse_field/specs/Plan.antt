@@ -8,7 +8,7 @@ use Rattle.model.specs.declared.ImplicitModel.{ImplicitModel}
 use Rattle.model.specs.Part.{partIn}
 use Rattle.model.specs.Model.{modelValue}
 use Rattle.grid.specs.declared.Grid.{Grid}
-use Rattle.grid.specs.declared.Band.{Band}
+use Rattle.input.specs.declared.Band.{Band}
 use Rattle.grid.specs.declared.Verdict.{Verdict}
 use Rattle.grid.specs.declared.Verdict.the-variants.{Constant, Leaf}
 use Rattle.grid.specs.Blocks.{cube}
@@ -17,16 +17,16 @@ use Rattle.grid.specs.Boxes as boxes
 use Rattle.grid.specs.Corners as corners
 use Rattle.grid.specs.Leaves.{leafPoint}
 use Rattle.grid.specs.Pruning.{verdictOf}
-use Rattle.schedule.specs.Plan.{Plan, Decision, constant, leaf}
-use Rattle.sparse_field.specs.declared.Input.{Input}
+use Rattle.schedule.specs.Plan.{Plan}
+use Rattle.input.specs.declared.Input.{Input}
 
 -- the grid's verdict, in the schedule's terms
-abbrev pub decisionOf : Verdict → Decision
-decisionOf (Constant kind number) = constant kind number
-decisionOf Leaf = leaf
+abbrev pub decisionOf : Verdict → Verdict
+decisionOf (Constant kind number) = Constant kind number
+decisionOf Leaf = Leaf
 
 -- what a child becomes, by its box and its octet's values (rules G13, G14 and S7)
-unfoldable pub decideOf : Band → BoundingBox → List Float → Decision
+unfoldable pub decideOf : Band → BoundingBox → List Float → Verdict
 decideOf band b octet = decisionOf (verdictOf (band .min) (band .max) b octet)
 
 -- a function's value at a point

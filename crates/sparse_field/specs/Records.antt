@@ -6,20 +6,20 @@ use Rattle.geometry.specs.Values.{vec3, box}
 use Rattle.float.specs.Zero.{plusZero}
 use Rattle.model.specs.declared.ImplicitModel.{ImplicitModel}
 use Rattle.model.specs.declared.Part.the-variants.{Constant}
-use Rattle.grid.specs.declared.Lengths as grids
-use Rattle.grid.specs.declared.Refusal.{Refusal}
-use Rattle.grid.specs.declared.Refusal.the-variants.{None, By}
-use Rattle.grid.specs.Causes.{refusalOf}
+use Rattle.input.specs.declared.Lengths as grids
+use Rattle.input.specs.declared.Refusal.{Refusal}
+use Rattle.input.specs.declared.Refusal.the-variants.{None, By}
+use Rattle.input.specs.Causes.{refusalOf}
 use Rattle.schedule.specs.Schedule as schedule
 use Rattle.schedule.specs.Resume as resume
 use Rattle.schedule.specs.Opened as opened
 use Rattle.schedule.specs.Counts as counts
 use Rattle.schedule.specs.Inputs.{Inputs}
 use Rattle.schedule.specs.JobRecord.{Job, JobRecord, noJob, job}
-use Rattle.sparse_field.specs.declared.Input.{Input}
-use Rattle.sparse_field.specs.declared.Counts.{Counts}
-use Rattle.sparse_field.specs.declared.Cursor.{Cursor}
-use Rattle.sparse_field.specs.declared.Cursor.the-variants.{End, Corner, Point}
+use Rattle.input.specs.declared.Input.{Input}
+use Rattle.schedule.specs.declared.Counts.{Counts}
+use Rattle.schedule.specs.declared.Cursor.{Cursor}
+use Rattle.schedule.specs.declared.Cursor.the-variants.{End, Corner, Point}
 use Rattle.sparse_field.specs.declared.Record.{Record}
 use Rattle.sparse_field.specs.Plan.{planOf}
 
@@ -36,7 +36,7 @@ numberOf (By n) = n
 
 -- the inputs of sparse fields: the causes of open, and the plan of each (rule C53)
 abbrev pub sparse : Inputs
-sparse = record { Input = Input; cause = λ l i. numberOf (refusalOf (i .grid) (i .band) (i .model) (lent l)); plan = planOf }
+sparse = record { Input = Input; cause = λ l i. numberOf (refusalOf i (lent l)); plan = planOf }
 
 -- ---- the schedule's record of the code's
 
@@ -48,8 +48,8 @@ countsIn c = record { nodes = c .nodes; active = c .active; leaves = c .leaves; 
 
 abbrev pub cursorIn : Cursor → resume.Cursor
 cursorIn End = resume.end
-cursorIn (Corner v i) = resume.at (schedule.corner v i)
-cursorIn (Point v c p) = resume.at (schedule.point v c p)
+cursorIn (Corner v i) = Corner v i
+cursorIn (Point v c p) = Point v c p
 
 -- the job of a record, whatever its flag is
 abbrev pub jobIn : Record → Job sparse
@@ -70,8 +70,8 @@ countsOut c = record { nodes = c .nodes; active = c .active; leaves = c .leaves;
 
 abbrev pub cursorOut : resume.Cursor → Cursor
 cursorOut resume.end = End
-cursorOut (resume.at (schedule.corner v i)) = Corner v i
-cursorOut (resume.at (schedule.point v c p)) = Point v c p
+cursorOut (Corner v i) = Corner v i
+cursorOut (Point v c p) = Point v c p
 
 -- a model without parts: 64 constants +0, none of which counts
 abbrev pub noModel : ImplicitModel

@@ -11,15 +11,15 @@ ghost use Rattle.sparse_field.specs.Inner.Parts.{startMemory, openedReco
 ghost use Rattle.sparse_field.specs.Records.{sparse, lent, jobIn, recordOut};
 use crate::Answer;
 use crate::Cursor;
-use crate::Input;
+use input::Input;
 use crate::Outcome;
 use crate::Record;
 use crate::jobs;
 use crate::judging;
 use crate::kinds as kind;
 use crate::zeroing;
-use grid::Lengths;
-use grid::Refusal;
+use input::Lengths;
+use input::Refusal;
 
 // What an accepted open writes before the first event: all five slices are zeroed whole, and the kinds
 // are set.
@@ -76,7 +76,7 @@ pub fn open(
     ensures memory { λ _. ⌜ left kinds numbers places store corners ≡ called (opens input) found (entered kinds numbers places store corners) .memory ⌝ }
 {
     let lengths = jobs::lengths_of(kinds, numbers, places, store, corners);
-    let refusal = grid::open_refusal(input.grid, input.band, input.model, lengths);
+    let refusal = input::open_refusal(input, lengths);
     if let Refusal::By(number) = refusal {
         return Outcome {
             answer: Answer::Refused(number),

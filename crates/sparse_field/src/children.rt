@@ -16,7 +16,7 @@ use crate::Progress;
 use crate::Stop;
 use crate::points;
 use geometry::BoundingBox;
-use grid::Band;
+use input::Band;
 use grid::Grid;
 use grid::Verdict;
 

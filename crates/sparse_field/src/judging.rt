@@ -4,33 +4,35 @@ ghost use mathlib.Core.Path.{_≡_};
 ghost use mathlib.Core.Bool.{true, false, not};
 ghost use Prim.Native.Nat.{_*_, _≤_, _<_};
 ghost use lib.Dec.{eqb};
+ghost use Rattle.schedule.specs.declared.Cursor.the-variants.{Corner, Point};
 ghost use Rattle.grid.specs.Blocks.{cube};
-ghost use Rattle.grid.specs.Causes.{refusedByTwo, refusedByFive, refusalOf};
+ghost use Rattle.grid.specs.Limits.{refusedByTwo, refusedByFive};
+ghost use Rattle.input.specs.Causes.{refusalOf, numberOf};
 ghost use Rattle.schedule.specs.Schedule as schedule;
 ghost use Rattle.schedule.specs.Resume as resume;
 ghost use Rattle.schedule.specs.Totals.{activeUpTo, evaluationsBound};
 ghost use Rattle.schedule.specs.Counts.{countsWith, sameCounts};
 ghost use Rattle.schedule.specs.Possible.{sameLengths, validCursor, insideChild, impossible};
 ghost use Rattle.sparse_field.specs.Plan.{planOf};
-ghost use Rattle.sparse_field.specs.Records.{numberOf, lengthsIn, countsIn, cursorIn, jobIn, sparse};
+ghost use Rattle.sparse_field.specs.Records.{lengthsIn, countsIn, cursorIn, jobIn, sparse};
 ghost use Rattle.schedule.specs.Lent.{entered};
 ghost use Rattle.sparse_field.specs.Inner.Flags.{countNonzero};
 ghost use Rattle.sparse_field.specs.Inner.Judged.{RightKinds, wrongLeaves, wrongProgress};
 use crate::Counts;
 use crate::Cursor;
-use crate::Input;
+use input::Input;
 use crate::Record;
 use crate::corners::is_needed;
 use crate::kinds::cube_of;
 use crate::kinds::kinds_right;
-use grid::Lengths;
-use grid::Refusal;
+use input::Lengths;
+use input::Refusal;
 
 // Whether open would refuse the input, on slices of these lengths.
 fn meets_cause(input: Input, lengths: Lengths) -> bool
-    ensures { λ r. ⌜ r ≡ not (eqb (numberOf (refusalOf (input .grid) (input .band) (input .model) lengths)) 0) ⌝ }
+    ensures { λ r. ⌜ r ≡ not (eqb (numberOf (refusalOf input lengths)) 0) ⌝ }
 {
-    match grid::open_refusal(input.grid, input.band, input.model, lengths) {
+    match input::open_refusal(input, lengths) {
         Refusal::None => false,
         Refusal::By(number) => number != 0,
     }
@@ -99,7 +101,7 @@ fn evaluations_bound(input: Input) -> u64
 // Whether a cursor at a corner is at a needed one, by its node's part of the kinds.
 fn corner_right(input: Input, kinds: &[u8], v: usize, i: usize) -> bool
     requires { ⌜ RightKinds input (now kinds) ⌝ }
-    ensures { λ r. ⌜ r ≡ validCursor (planOf input) (resume.at (schedule.corner v i)) ⌝ }
+    ensures { λ r. ⌜ r ≡ validCursor (planOf input) (Corner v i) ⌝ }
 {
     let g = input.grid;
     let n = g.inner;
@@ -118,7 +120,7 @@ fn corner_right(input: Input, kinds: &[u8], v: usize, i: usize) -> bool
 // Whether a cursor at a point is at one of an active child.
 fn point_right(input: Input, v: usize, c: usize, p: usize) -> bool
     requires { ⌜ (refusedByTwo (input .grid) ≡ false) × (refusedByFive (input .grid) ≡ false) ⌝ }
-    ensures { λ r. ⌜ r ≡ validCursor (planOf input) (resume.at (schedule.point v c p)) ⌝ }
+    ensures { λ r. ⌜ r ≡ validCursor (planOf input) (Point v c p) ⌝ }
 {
     let g = input.grid;
     if v >= grid::node_total(g) {

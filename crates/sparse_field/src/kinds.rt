@@ -9,13 +9,14 @@ ghost use Rattle.grid.specs.Blocks.{cube};
 ghost use Rattle.grid.specs.Nodes.{nodesOf};
 ghost use Rattle.grid.specs.Boxes.{active};
 ghost use Rattle.grid.specs.Inner.Activity.{axisActive};
-ghost use Rattle.grid.specs.Causes.{refusedByTwo, refusedByFive};
+ghost use Rattle.grid.specs.Limits.{refusedByTwo, refusedByFive};
 ghost use Rattle.lists.specs.Sums.{bit};
 ghost use Rattle.schedule.specs.Opened.{kindsFrom};
 ghost use Rattle.schedule.specs.Possible.{sameActive};
 ghost use Rattle.sparse_field.specs.Plan.{planOf};
-ghost use Rattle.sparse_field.specs.Inner.Flags.{flagsFrom, agreesFrom, tableTest, slabTest, nodeTest, gridTest};
-use crate::Input;
+ghost use Rattle.lists.specs.Flags.{flagsFrom, agreesFrom};
+ghost use Rattle.sparse_field.specs.Inner.Flags.{tableTest, slabTest, nodeTest, gridTest};
+use input::Input;
 use crate::zeroing::zero_bytes;
 use grid::Grid;
 

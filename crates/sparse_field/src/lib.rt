@@ -1,7 +1,7 @@
 // The sparse field, after sparse_field.rs: open, step and drop of a job on five lent slices.
-use grid::Band;
+use input::Band;
 use grid::Grid;
-use grid::Lengths;
+use input::Lengths;
 use model::ImplicitModel;
 
 mod calls; // calls.rt: open, step and drop

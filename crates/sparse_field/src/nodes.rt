@@ -20,7 +20,7 @@ use crate::children;
 use crate::corners;
 use crate::zeroing;
 use geometry::BoundingBox;
-use grid::Band;
+use input::Band;
 use grid::Grid;
 
 // The rest of node v, which has the box b, from child `first` on. Its corners are cleared at its end.
@@ -96,7 +96,7 @@ fn node_from_corner(
     requires { ⌜ Ready (planNow g band words reals parts) v 0 leaves (held kinds numbers places store corners) ⌝ }
     ensures { λ r. ⌜ NodeAdvanced (planIn g band words reals parts) v budget leaves (entered kinds numbers places store corners)
         (left kinds numbers places store corners)
-        (eventsFrom (planIn g band words reals parts) (at (corner v i)) (readingIn (entered kinds numbers places store corners))) r ⌝ }
+        (eventsFrom (planIn g band words reals parts) (Corner v i) (readingIn (entered kinds numbers places store corners))) r ⌝ }
 {
     let n = g.inner as usize;
     let b = grid::node_box(g, v);
@@ -162,7 +162,7 @@ fn node_from_point(
     requires { ⌜ Ready (planNow g band words reals parts) v (suc c) leaves (held kinds numbers places store corners) ⌝ }
     ensures { λ r. ⌜ NodeAdvanced (planIn g band words reals parts) v budget leaves (entered kinds numbers places store corners)
         (left kinds numbers places store corners)
-        (eventsFrom (planIn g band words reals parts) (at (point v c p)) (readingIn (entered kinds numbers places store corners))) r ⌝ }
+        (eventsFrom (planIn g band words reals parts) (Point v c p) (readingIn (entered kinds numbers places store corners))) r ⌝ }
 {
     let b = grid::node_box(g, v);
     let child = grid::child_box(b, g.inner, c);

@@ -7,15 +7,15 @@ use crate::held::JOB;
 use crate::held::LENGTHS;
 use crate::numbers;
 use geometry::BoundingBox;
-use grid::Band;
+use input::Band;
 use grid::Grid;
-use grid::Lengths;
+use input::Lengths;
 use model::ImplicitModel;
 use model::ModelComponent;
 use model::Part;
 use sparse_field::Counts;
 use sparse_field::Cursor;
-use sparse_field::Input;
+use input::Input;
 use sparse_field::Record;
 
 fn grid_at(held: &[u64; 684], at: usize) -> Grid

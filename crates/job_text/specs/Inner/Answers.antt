@@ -5,7 +5,7 @@ use mathlib.Core.List.{List}
 use lib.ListN.{length, drop}
 use Rattle.forms.specs.declared.End.{End}
 use Rattle.forms.specs.declared.End.the-variants.{At, Off}
-use Rattle.grid.specs.declared.Band.{Band}
+use Rattle.input.specs.declared.Band.{Band}
 use Rattle.grid.specs.declared.Grid.{Grid}
 use Rattle.model.specs.declared.Part.{Part}
 use Rattle.job_text.specs.declared.PartLine as declared

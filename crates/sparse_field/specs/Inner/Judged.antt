@@ -7,14 +7,15 @@ use lib.Dec.{ltb, eqb}
 use lib.ListN.{length}
 use Rattle.grid.specs.Blocks.{cube}
 use Rattle.grid.specs.Nodes.{nodesOf}
-use Rattle.grid.specs.Causes.{refusedByTwo, refusedByFive}
+use Rattle.grid.specs.Limits.{refusedByTwo, refusedByFive}
 use Rattle.schedule.specs.Plan.{Plan}
-use Rattle.schedule.specs.Resume.{Cursor}
+use Rattle.schedule.specs.declared.Cursor.{Cursor}
 use Rattle.schedule.specs.Totals.{activeUpTo, evaluationsBound}
 use Rattle.schedule.specs.Opened.{ActiveKinds}
-use Rattle.schedule.specs.Counts.{Counts, countsWith, sameCounts}
+use Rattle.schedule.specs.declared.Counts.{Counts}
+use Rattle.schedule.specs.Counts.{countsWith, sameCounts}
 use Rattle.schedule.specs.Possible.{validCursor, insideChild}
-use Rattle.sparse_field.specs.declared.Input.{Input}
+use Rattle.input.specs.declared.Input.{Input}
 use Rattle.sparse_field.specs.Plan.{planOf}
 
 -- an input that causes 2 and 5 do not refuse, with kinds that are long enough and as rule R8 wants them

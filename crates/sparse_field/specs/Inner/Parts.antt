@@ -2,16 +2,17 @@
 use Prim.Native.Nat.{ℕ, _*_}
 use mathlib.Core.Bool.{false, true}
 use Rattle.schedule.specs.Memory.{Memory}
-use Rattle.schedule.specs.Opened.{Lengths, opened}
+use Rattle.input.specs.declared.Lengths.{Lengths}
+use Rattle.schedule.specs.Opened.{opened}
 use Rattle.schedule.specs.Engine.{Engine, openedEngine, engineStepJob}
-use Rattle.sparse_field.specs.declared.Input.{Input}
+use Rattle.input.specs.declared.Input.{Input}
 use Rattle.sparse_field.specs.declared.Record.{Record}
 use Rattle.sparse_field.specs.Plan.{planOf}
 use Rattle.sparse_field.specs.Records.{sparse, jobIn, recordOut}
-use Rattle.grid.specs.declared.Lengths as grids
+use Rattle.input.specs.declared.Lengths as grids
 use Rattle.schedule.specs.JobRecord.{job}
-use Rattle.sparse_field.specs.declared.Cursor.{Cursor}
-use Rattle.sparse_field.specs.declared.Cursor.the-variants.{End}
+use Rattle.schedule.specs.declared.Cursor.{Cursor}
+use Rattle.schedule.specs.declared.Cursor.the-variants.{End}
 use Rattle.sparse_field.specs.declared.Stop.{Stop}
 use Rattle.sparse_field.specs.declared.Stop.the-variants.{Through, At}
 

@@ -8,7 +8,7 @@ use denote.Ref.{now}
 use lib.ListN.{length, getD}
 use lib.Ieee.{Float}
 use Rattle.grid.specs.declared.Grid.{Grid}
-use Rattle.grid.specs.declared.Band.{Band}
+use Rattle.input.specs.declared.Band.{Band}
 use Rattle.grid.specs.Blocks.{cube}
 use Rattle.grid.specs.Nodes.{nodesOf}
 use Rattle.schedule.specs.Schedule.{Event}
@@ -22,7 +22,7 @@ use Rattle.schedule.specs.Opened.{ActiveKinds}
 use Rattle.sparse_field.specs.declared.Progress.{Progress}
 use Rattle.sparse_field.specs.declared.Stop.{Stop}
 use Rattle.sparse_field.specs.declared.Stop.the-variants.{Through, At}
-use Rattle.sparse_field.specs.declared.Cursor.the-variants.{Point}
+use Rattle.schedule.specs.declared.Cursor.the-variants.{Point}
 use Rattle.sparse_field.specs.Plan.{planWith}
 use Rattle.sparse_field.specs.Inner.FlatValue.{flatValue}
 use Rattle.sparse_field.specs.Inner.Runs.{Run, runOf}

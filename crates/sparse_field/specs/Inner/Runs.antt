@@ -3,7 +3,8 @@ use Prim.Native.Nat.{ℕ, _-_}
 use mathlib.Core.List.{List}
 use Rattle.schedule.specs.Schedule.{Event}
 use Rattle.schedule.specs.Plan.{Plan}
-use Rattle.schedule.specs.Resume.{Cursor, cursorOf}
+use Rattle.schedule.specs.declared.Cursor.{Cursor}
+use Rattle.schedule.specs.Resume.{cursorOf}
 use Rattle.schedule.specs.Split.{split, evaluations}
 use Rattle.schedule.specs.Memory.{State, applyAll}
 

@@ -2,8 +2,8 @@
 use Prim.Native.Nat.{ℕ, suc, _≤_, _<_}
 use Rattle.schedule.specs.Plan.{Plan}
 use Rattle.schedule.specs.Totals.{activeBefore}
-use Rattle.sparse_field.specs.declared.Cursor.{Cursor}
-use Rattle.sparse_field.specs.declared.Cursor.the-variants.{End, Corner, Point}
+use Rattle.schedule.specs.declared.Cursor.{Cursor}
+use Rattle.schedule.specs.declared.Cursor.the-variants.{End, Corner, Point}
 
 -- at most as many leaves as rule R12 allows, and at least one inside a child (rule R13)
 abbrev pub Startable : Plan → Cursor → ℕ → Type 0

@@ -3,7 +3,7 @@ use borrow.Author.Needs.{needs}
 use borrow.Author.Tests.{not-true, not-false}
 use mathlib.Core.Path.{sym, ap, _∙_}
 use denote.Ref.{now}
-use Rattle.sparse_field.specs.declared.Input.{Input}
+use Rattle.input.specs.declared.Input.{Input}
 use native.Mathlib.Omega.{arith}
 use Rattle.field_host.specs.Carried.{decoded, recordGiven}
 use Rattle.field_host.proofs.Fitting.{inner-fits, leaf-fits, count-fits}

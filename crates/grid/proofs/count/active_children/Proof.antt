@@ -4,7 +4,7 @@ use Prim.Native.Nat.{_≤_}
 use native.Mathlib.Omega.{arith}
 use Rattle.geometry.specs.declared.Vec3i.{Vec3i}
 use Rattle.grid.proofs.ActiveCounts.{active-of-by, total-few}
-use Rattle.grid.proofs.CauseLaws.{few-nodes, inner-block, totals-area, totals-volume}
+use Rattle.grid.proofs.LimitLaws.{few-nodes, inner-block, totals-area, totals-volume}
 use borrow.Author.Needs.{needs}
 use Rattle.grid.proofs.count.active_children.Statement.{statement}
 use Rattle.grid.proofs.count.active_children.Tie as tie

@@ -5,7 +5,7 @@ use native.Mathlib.Omega.{arith}
 use Rattle.geometry.specs.declared.Vec3i.{Vec3i}
 use Rattle.grid.proofs.ActiveCounts.{active-in-by, count-few}
 use Rattle.grid.proofs.Counts.{i-above, j-above}
-use Rattle.grid.proofs.CauseLaws.{totals-area, totals-volume}
+use Rattle.grid.proofs.LimitLaws.{totals-area, totals-volume}
 use borrow.Author.Needs.{needs}
 use Rattle.grid.proofs.count.active_in.Statement.{statement}
 use Rattle.grid.proofs.count.active_in.Tie as tie

@@ -8,9 +8,6 @@ use Rattle.grid.proofs.ActiveCounts.{axisCount-le, total-few, axis-tota
 use borrow.Author.Needs.{needs}
 use Rattle.grid.proofs.count.axis_total.Statement.{statement}
 use Rattle.grid.proofs.count.axis_total.Tie as tie
-use Rattle.grid.proofs.count.axis_total.Reads as reads
-use Rattle.grid.proofs.count.axis_total.Lts as lts
-use Rattle.grid.proofs.count.axis_count.Reads as axis-count-reads
 
 abbrev Inv-loop : tie.InvT-loop
 Inv-loop least most s n nodes total₀ i₀ total i = (i ≤ nodes) × (total ≡ axisTotal least most s n i)

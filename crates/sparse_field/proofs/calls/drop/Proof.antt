@@ -1,6 +1,6 @@
 -- `calls::drop` meets its contract.
 use mathlib.Core.Path.{sym, ap, _∙_}
-use Rattle.sparse_field.specs.declared.Answer.the-variants.{Accepted}
+use Rattle.schedule.specs.declared.Answer.the-variants.{Accepted}
 use Rattle.sparse_field.proofs.CallLaws.{drop-accepted}
 use Rattle.schedule.specs.Memory.{Memory}
 use Rattle.schedule.specs.Lent.{memoryOf}

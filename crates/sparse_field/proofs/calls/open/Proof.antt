@@ -1,8 +1,7 @@
 -- `calls::open` meets its contract: refused by the first cause, or opened.
 use mathlib.Core.Path.{_≡_, sym, ap, _∙_}
-use Rattle.grid.specs.Causes.{refusalOf}
-use Rattle.sparse_field.specs.declared.Answer.the-variants.{Accepted}
-use Rattle.sparse_field.specs.Records.{numberOf}
+use Rattle.input.specs.Causes.{refusalOf, numberOf}
+use Rattle.schedule.specs.declared.Answer.the-variants.{Accepted}
 use Rattle.sparse_field.proofs.CallLaws.{open-refused, open-accepted}
 use Rattle.schedule.specs.Memory.{Memory}
 use Rattle.schedule.specs.Lent.{memoryOf}
@@ -42,7 +41,7 @@ returns : tie.Need-returns
 returns c =
     let s = c .before .before .before .before .before .before .before .before .before .before .before .before .before .before .before in
     let a = s .args in
-    let refusal = sym (ap (refusalOf (a .input .grid) (a .input .band) (a .input .model)) (c .before .before .before .before .lengths-of .ensures)) ∙ sym (c .before .before .before .open-refusal .ensures) ∙ c .before .refusal .given .1 in
+    let refusal = sym (ap (refusalOf (a .input)) (c .before .before .before .before .lengths-of .ensures)) ∙ sym (c .before .before .before .open-refusal .ensures) ∙ c .before .refusal .given .1 in
     let done = open-refused (a .input) (a .found) (memory s) _ refusal in
     (sym (ap (λ h. h .outcome) done), sym (ap (λ h. h .memory) done))
 
@@ -53,7 +52,7 @@ opened-requires : tie.Need-opened-requires
 opened-requires c κs =
     let s = c .before .before .before .before .before .before .before .before .before .before .before .before .before .before .before .before .before .before .before in
     let a = s .args in
-    let refusal = sym (ap (refusalOf (a .input .grid) (a .input .band) (a .input .model)) (c .before .before .before .before .before .before .before .before .lengths-of .ensures)) ∙ sym (c .before .before .before .before .before .before .before .open-refusal .ensures) ∙ c .before .before .before .before .before .enum-told .given .1 in
+    let refusal = sym (ap (refusalOf (a .input)) (c .before .before .before .before .before .before .before .before .lengths-of .ensures)) ∙ sym (c .before .before .before .before .before .before .before .open-refusal .ensures) ∙ c .before .before .before .before .before .enum-told .given .1 in
     (c .before .before .before .before .before .before .before .before .lengths-of .ensures, ap numberOf refusal)
 
 same-length-6 : tie.Need-same-length-6
@@ -75,7 +74,7 @@ returns-2 : tie.Need-returns-2
 returns-2 c =
     let s = c .before .before .before .before .before .before .before .before .before .before .before .before .before .before .before .before .before .before .before .before .before .before .before .before .before .before .before .before .before .before in
     let a = s .args in
-    let refusal = sym (ap (refusalOf (a .input .grid) (a .input .band) (a .input .model)) (c .before .before .before .before .before .before .before .before .before .before .before .before .before .before .before .before .before .before .before .lengths-of .ensures)) ∙ sym (c .before .before .before .before .before .before .before .before .before .before .before .before .before .before .before .before .before .before .open-refusal .ensures) ∙ c .before .before .before .before .before .before .before .before .before .before .before .before .before .before .before .before .enum-told .given .1 in
+    let refusal = sym (ap (refusalOf (a .input)) (c .before .before .before .before .before .before .before .before .before .before .before .before .before .before .before .before .before .before .before .lengths-of .ensures)) ∙ sym (c .before .before .before .before .before .before .before .before .before .before .before .before .before .before .before .before .before .before .open-refusal .ensures) ∙ c .before .before .before .before .before .before .before .before .before .before .before .before .before .before .before .before .enum-told .given .1 in
     let done = open-accepted (a .input) (a .found) (memory s) (ap numberOf refusal) in (
       ap (λ r. record { answer = Accepted; next = r }) (c .before .before .before .before .before .before .before .before .before .before .opened .ensures .0) ∙ sym (ap (λ h. h .outcome) done),
       c .before .before .before .before .before .before .before .before .before .before .opened .ensures .1 ∙ sym (ap (λ h. h .memory) done),

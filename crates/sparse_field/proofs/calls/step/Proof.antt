@@ -2,7 +2,7 @@
 use mathlib.Core.Path.{_≡_, refl, sym, ap, _∙_}
 use mathlib.Core.Bool.{Bool, true, false, not}
 use borrow.Author.Tests.{not-false}
-use Rattle.sparse_field.specs.declared.Answer.the-variants.{Accepted}
+use Rattle.schedule.specs.declared.Answer.the-variants.{Accepted}
 use Rattle.sparse_field.proofs.CallLaws.{step-none, step-impossible, step-accepted}
 use Rattle.schedule.specs.Memory.{Memory}
 use Rattle.schedule.specs.Lent.{memoryOf}

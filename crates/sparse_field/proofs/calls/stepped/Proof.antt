@@ -12,8 +12,8 @@ use Rattle.schedule.proofs.Sums.{up-to-most}
 use Rattle.sparse_field.specs.Plan.{planOf, planWith}
 use Rattle.sparse_field.specs.Inner.Progress.{Sized, Lent}
 use Rattle.sparse_field.specs.Records.{sparse, lent, lengthsIn, cursorIn, jobIn, recordOut}
-use Rattle.grid.proofs.Clear.{Clear}
-use Rattle.sparse_field.proofs.Judgement.{no-cause, bound-fits}
+use Rattle.input.proofs.Clear.{Clear, no-cause}
+use Rattle.sparse_field.proofs.Judgement.{bound-fits}
 use Rattle.sparse_field.proofs.Opening.{sized, lent-memory, valid-startable, active-within, sparse-laws}
 use Rattle.sparse_field.proofs.Results.{left-most, leaves-after, made-most, record-same, engine-after}
 use Rattle.schedule.specs.Memory.{Memory}
@@ -31,8 +31,8 @@ judged : (s : tie.Start) → Possible sparse (jobIn (s .args .found)) (memory s)
 judged s = possible sparse (jobIn (s .args .found)) (memory s) (s .pre)
 
 -- its input meets no cause
-cause : (s : tie.Start) → let i = s .args .found .input in Clear (i .grid) (i .band) (i .model) (lent (lengthsOf (memory s)))
-cause s = let i = s .args .found .input in no-cause (i .grid) (i .band) (i .model) (lent (lengthsOf (memory s))) (judged s .noCause)
+cause : (s : tie.Start) → let i = s .args .found .input in Clear i (lent (lengthsOf (memory s)))
+cause s = let i = s .args .found .input in no-cause i (lent (lengthsOf (memory s))) (judged s .noCause)
 
 size : (s : tie.Start) → Sized (s .args .found .input .grid)
 size s = sized _ (cause s)

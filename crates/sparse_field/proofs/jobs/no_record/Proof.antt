@@ -4,7 +4,7 @@ use Rattle.float.specs.Zero.{plusZero}
 use Rattle.geometry.specs.declared.BoundingBox.{BoundingBox}
 use Rattle.geometry.specs.Values.{box}
 use Rattle.sparse_field.specs.declared.Record.{Record}
-use Rattle.sparse_field.specs.declared.Cursor.the-variants.{End}
+use Rattle.schedule.specs.declared.Cursor.the-variants.{End}
 use Rattle.sparse_field.specs.Records.{noRecord, noInput, noModel}
 use borrow.Author.Needs.{needs}
 use Rattle.sparse_field.proofs.jobs.no_record.Statement.{statement}

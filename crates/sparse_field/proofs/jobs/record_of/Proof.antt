@@ -4,7 +4,7 @@ use mathlib.Core.Bool.{true}
 use native.Mathlib.Omega.{arith}
 use borrow.Author.Needs.{needs}
 use Rattle.grid.proofs.BlockLaws.{cube-le}
-use Rattle.grid.proofs.CauseLaws.{store-few}
+use Rattle.grid.proofs.LimitLaws.{store-few}
 use Rattle.sparse_field.proofs.jobs.record_of.Statement.{statement}
 use Rattle.sparse_field.proofs.jobs.record_of.Tie as tie
 

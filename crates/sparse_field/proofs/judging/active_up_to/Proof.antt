@@ -2,10 +2,10 @@
 use mathlib.Core.Path.{sym, ap, _∙_}
 use native.Mathlib.Omega.{arith}
 use lib.Seq.{length-take-le}
-use Rattle.grid.proofs.CauseLaws.{inner-block}
+use Rattle.grid.proofs.LimitLaws.{inner-block}
 use Rattle.schedule.specs.Totals.{activeUpTo}
 use Rattle.schedule.specs.Possible.{validCursor}
-use Rattle.sparse_field.specs.declared.Cursor.{Cursor}
+use Rattle.schedule.specs.declared.Cursor.{Cursor}
 use Rattle.sparse_field.specs.Plan.{planOf}
 use Rattle.sparse_field.specs.Records.{cursorIn}
 use Rattle.sparse_field.proofs.Judgement.{corner-up-to, point-up-to, active-all}

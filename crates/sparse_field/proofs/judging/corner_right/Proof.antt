@@ -5,10 +5,10 @@ use native.Mathlib.Omega.{arith}
 use lib.ListN.{length, take, drop, length-take, length-drop}
 use Rattle.grid.specs.Blocks.{cube}
 use Rattle.grid.specs.Nodes.{nodesOf}
-use Rattle.grid.proofs.CauseLaws.{inner-block, few-nodes, nodes-few}
-use Rattle.schedule.specs.Opened.{nonzero}
+use Rattle.grid.proofs.LimitLaws.{inner-block, few-nodes, nodes-few}
+use Rattle.lists.specs.Flags.{nonzero}
 use Rattle.sparse_field.specs.Plan.{valueOf}
-use Rattle.sparse_field.proofs.FlagLaws.{row-below}
+use Rattle.lists.proofs.Flags.{row-below}
 use Rattle.sparse_field.proofs.NodeKinds.{part-needed}
 use Rattle.sparse_field.proofs.Judgement.{corner-node, corner-place, corner-needed}
 use borrow.Author.Needs.{needs}

@@ -5,7 +5,7 @@ use Prim.Native.Nat.{_-_, _≤_}
 use native.Mathlib.Omega.{arith}
 use lib.ListN.{length, getD}
 use Rattle.lists.specs.Sums.{sumFrom, sumBelow, bit}
-use Rattle.schedule.specs.Opened.{nonzero}
+use Rattle.lists.specs.Flags.{nonzero}
 use Rattle.sparse_field.proofs.Judgement.{count-more, count-skip}
 use borrow.Author.Needs.{needs}
 use Rattle.sparse_field.proofs.judging.count_nonzero.Statement.{statement}

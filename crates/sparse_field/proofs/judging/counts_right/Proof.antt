@@ -1,7 +1,7 @@
 -- `counts_right` meets its contract: one count after the other.
 use mathlib.Core.Path.{sym, _∙_}
 use native.Mathlib.Omega.{arith}
-use Rattle.grid.proofs.CauseLaws.{leaf-block, few-nodes, nodes-few}
+use Rattle.grid.proofs.LimitLaws.{leaf-block, few-nodes, nodes-few}
 use Rattle.sparse_field.proofs.Judgement.{counts-nodes, counts-active, counts-sampled}
 use Rattle.sparse_field.proofs.judging.counts_right.Statement.{statement}
 use Rattle.sparse_field.proofs.judging.counts_right.Tie as tie

@@ -4,7 +4,7 @@ use Prim.Native.Nat.{_+_, _*_}
 use native.Mathlib.Omega.{arith}
 use Rattle.grid.specs.Blocks.{cube}
 use Rattle.grid.specs.Nodes.{nodesOf}
-use Rattle.grid.proofs.CauseLaws.{inner-block, leaf-block, few-nodes, nodes-few}
+use Rattle.grid.proofs.LimitLaws.{inner-block, leaf-block, few-nodes, nodes-few}
 use Rattle.schedule.specs.Totals.{evaluationsBound}
 use Rattle.sparse_field.specs.Plan.{planWith}
 use Rattle.sparse_field.proofs.Judgement.{bound-fits}

@@ -3,7 +3,7 @@ use mathlib.Core.Path.{refl, sym, ap, _∙_}
 use mathlib.Core.Bool.{not}
 use lib.Dec.{eqb}
 use borrow.Author.Tests.{eq-eqb}
-use Rattle.sparse_field.specs.Records.{numberOf}
+use Rattle.input.specs.Causes.{numberOf}
 use borrow.Author.Needs.{needs}
 use Rattle.sparse_field.proofs.judging.meets_cause.Statement.{statement}
 use Rattle.sparse_field.proofs.judging.meets_cause.Tie as tie

@@ -4,7 +4,7 @@ use Prim.Native.Nat.{ℕ}
 use native.Mathlib.Omega.{arith}
 use lib.Dec.{ltb}
 use borrow.Author.Tests.{not-true, not-false}
-use Rattle.grid.proofs.CauseLaws.{inner-block, leaf-block, few-nodes, nodes-few}
+use Rattle.grid.proofs.LimitLaws.{inner-block, leaf-block, few-nodes, nodes-few}
 use Rattle.sparse_field.proofs.Judgement.{point-node, point-child, point-active, point-place}
 use Rattle.sparse_field.proofs.judging.point_right.Statement.{statement}
 use Rattle.sparse_field.proofs.judging.point_right.Tie as tie

@@ -3,9 +3,8 @@ use mathlib.Core.Path.{_≡_, ap}
 use mathlib.Core.Bool.{true, false}
 use Prim.Native.Nat.{_-_, _≤_}
 use lib.ListN.{length, take}
-use Rattle.schedule.specs.Opened.{nonzero}
-use Rattle.sparse_field.specs.Inner.Flags.{agreesFrom}
-use Rattle.sparse_field.proofs.FlagLaws.{agrees-none, agrees-one, differs-one, agrees-all, nonzero-true}
+use Rattle.lists.specs.Flags.{nonzero, agreesFrom}
+use Rattle.lists.proofs.Flags.{agrees-none, agrees-one, differs-one, agrees-all, nonzero-true}
 use borrow.Author.Needs.{needs}
 use Rattle.sparse_field.proofs.kinds.all_zero.Statement.{statement}
 use Rattle.sparse_field.proofs.kinds.all_zero.Tie as tie

@@ -6,7 +6,7 @@ use lib.Seq.{length-take-le}
 use borrow.Author.Tests.{not-true, not-false}
 use Rattle.grid.specs.Blocks.{cube}
 use Rattle.grid.specs.Nodes.{nodesOf}
-use Rattle.grid.proofs.CauseLaws.{inner-block, few-nodes, nodes-few}
+use Rattle.grid.proofs.LimitLaws.{inner-block, few-nodes, nodes-few}
 use Rattle.sparse_field.proofs.NodeKinds.{all-differ, all-agree}
 use borrow.Author.Needs.{needs}
 use Rattle.sparse_field.proofs.kinds.kinds_right.Statement.{statement}

@@ -8,8 +8,8 @@ use lib.ListN.{take, length-take, length-drop}
 use borrow.Author.Tests.{not-true, not-false}
 use Rattle.grid.specs.Blocks.{cube}
 use Rattle.grid.specs.Boxes.{active}
-use Rattle.sparse_field.specs.Inner.Flags.{agreesFrom, inRows}
-use Rattle.sparse_field.proofs.FlagLaws.{row-below, agrees-none, agrees-all, rows-agree, rows-differ}
+use Rattle.lists.specs.Flags.{agreesFrom, inRows}
+use Rattle.lists.proofs.Flags.{row-below, agrees-none, agrees-all, rows-agree, rows-differ}
 use borrow.Author.Needs.{needs}
 use Rattle.sparse_field.proofs.kinds.nodes_right.Statement.{statement}
 use Rattle.sparse_field.proofs.kinds.nodes_right.Tie as tie

@@ -5,8 +5,9 @@ use Prim.Native.Nat.{_-_, _≤_}
 use native.Mathlib.Omega.{arith}
 use lib.ListN.{length, getD, take}
 use borrow.Author.Tests.{not-true, not-false}
-use Rattle.sparse_field.specs.Inner.Flags.{agreesFrom, tableTest}
-use Rattle.sparse_field.proofs.FlagLaws.{agrees-none, agrees-one, differs-one, agrees-all, compared-same, compared-other}
+use Rattle.lists.specs.Flags.{agreesFrom}
+use Rattle.sparse_field.specs.Inner.Flags.{tableTest}
+use Rattle.lists.proofs.Flags.{agrees-none, agrees-one, differs-one, agrees-all, compared-same, compared-other}
 use borrow.Author.Needs.{needs}
 use Rattle.sparse_field.proofs.kinds.row_right.Statement.{statement}
 use Rattle.sparse_field.proofs.kinds.row_right.Tie as tie

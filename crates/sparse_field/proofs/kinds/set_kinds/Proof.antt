@@ -5,7 +5,7 @@ use native.Mathlib.Omega.{arith}
 use lib.Seq.{length-take-le}
 use Rattle.grid.specs.Blocks.{cube}
 use Rattle.grid.specs.Nodes.{nodesOf}
-use Rattle.grid.proofs.CauseLaws.{inner-block, few-nodes, nodes-few}
+use Rattle.grid.proofs.LimitLaws.{inner-block, few-nodes, nodes-few}
 use Rattle.sparse_field.proofs.NodeKinds.{all-set}
 use borrow.Author.Needs.{needs}
 use Rattle.sparse_field.proofs.kinds.set_kinds.Statement.{statement}

@@ -7,8 +7,8 @@ use native.Mathlib.Omega.{arith}
 use lib.ListN.{length}
 use Rattle.grid.specs.Blocks.{cube}
 use Rattle.grid.specs.Boxes.{active}
-use Rattle.sparse_field.specs.Inner.Flags.{flagsFrom, inRows}
-use Rattle.sparse_field.proofs.FlagLaws.{flagged, flagged-none, flagged-length, flagged-all, row-below, row-length, rows-more}
+use Rattle.lists.specs.Flags.{flagsFrom, inRows}
+use Rattle.lists.proofs.Flags.{flagged, flagged-none, flagged-length, flagged-all, row-below, row-length, rows-more}
 use borrow.Author.Needs.{needs}
 use Rattle.sparse_field.proofs.kinds.set_nodes.Statement.{statement}
 use Rattle.sparse_field.proofs.kinds.set_nodes.Tie as tie

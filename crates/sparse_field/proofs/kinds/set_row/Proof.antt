@@ -6,8 +6,9 @@ use Prim.Native.Nat.{ℕ, _-_, _≤_, _<_}
 use native.Mathlib.Omega.{arith}
 use lib.ListN.{length, set}
 use borrow.Author.Tests.{not-true, not-false}
-use Rattle.sparse_field.specs.Inner.Flags.{flagsFrom, tableTest}
-use Rattle.sparse_field.proofs.FlagLaws.{flagged, flagged-none, flagged-length, flagged-set, flagged-all, flags-none}
+use Rattle.lists.specs.Flags.{flagsFrom}
+use Rattle.sparse_field.specs.Inner.Flags.{tableTest}
+use Rattle.lists.proofs.Flags.{flagged, flagged-none, flagged-length, flagged-set, flagged-all, flags-none}
 use borrow.Author.Needs.{needs}
 use Rattle.sparse_field.proofs.kinds.set_row.Statement.{statement}
 use Rattle.sparse_field.proofs.kinds.set_row.Tie as tie

@@ -6,8 +6,9 @@ use native.Mathlib.Nat.{zero-mul, mul-le-mul-right}
 use native.Mathlib.Omega.{arith}
 use lib.ListN.{length}
 use borrow.Author.Tests.{not-true, not-false}
-use Rattle.sparse_field.specs.Inner.Flags.{flagsFrom, inRows, tableTest, slabTest}
-use Rattle.sparse_field.proofs.FlagLaws.{flagged, flagged-none, flagged-length, flagged-all, flags-none, row-below, row-length, rows-more}
+use Rattle.lists.specs.Flags.{flagsFrom, inRows}
+use Rattle.sparse_field.specs.Inner.Flags.{tableTest, slabTest}
+use Rattle.lists.proofs.Flags.{flagged, flagged-none, flagged-length, flagged-all, flags-none, row-below, row-length, rows-more}
 use borrow.Author.Needs.{needs}
 use Rattle.sparse_field.proofs.kinds.set_slab.Statement.{statement}
 use Rattle.sparse_field.proofs.kinds.set_slab.Tie as tie

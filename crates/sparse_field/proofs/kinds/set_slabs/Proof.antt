@@ -7,8 +7,9 @@ use native.Mathlib.Omega.{arith}
 use lib.ListN.{length}
 use Rattle.grid.specs.Blocks.{cube}
 use Rattle.grid.proofs.BlockLaws.{square-le}
-use Rattle.sparse_field.specs.Inner.Flags.{inRows, tableTest, slabTest, nodeTest}
-use Rattle.sparse_field.proofs.FlagLaws.{flagged, flagged-none, flagged-length, flagged-all, row-below, row-length, rows-more}
+use Rattle.lists.specs.Flags.{inRows}
+use Rattle.sparse_field.specs.Inner.Flags.{tableTest, slabTest, nodeTest}
+use Rattle.lists.proofs.Flags.{flagged, flagged-none, flagged-length, flagged-all, row-below, row-length, rows-more}
 use borrow.Author.Needs.{needs}
 use Rattle.sparse_field.proofs.kinds.set_slabs.Statement.{statement}
 use Rattle.sparse_field.proofs.kinds.set_slabs.Tie as tie

@@ -6,8 +6,9 @@ use native.Mathlib.Nat.{zero-mul, mul-le-mul-right}
 use native.Mathlib.Omega.{arith}
 use lib.ListN.{take, length-take, length-drop}
 use borrow.Author.Tests.{not-true, not-false}
-use Rattle.sparse_field.specs.Inner.Flags.{agreesFrom, tableTest, slabTest}
-use Rattle.sparse_field.proofs.FlagLaws.{agrees-none, agrees-all, row-below, rows-agree, rows-differ}
+use Rattle.lists.specs.Flags.{agreesFrom}
+use Rattle.sparse_field.specs.Inner.Flags.{tableTest, slabTest}
+use Rattle.lists.proofs.Flags.{agrees-none, agrees-all, row-below, rows-agree, rows-differ}
 use borrow.Author.Needs.{needs}
 use Rattle.sparse_field.proofs.kinds.slab_right.Statement.{statement}
 use Rattle.sparse_field.proofs.kinds.slab_right.Tie as tie

@@ -7,12 +7,12 @@ use lib.Ieee.Scale.{finite}
 use borrow.Author.Tests.{not-true, not-false}
 use Rattle.geometry.specs.declared.Vec3i.{Vec3i}
 use Rattle.grid.specs.Nodes.{nodesOf}
-use Rattle.grid.specs.Causes.{childrenOf}
+use Rattle.grid.specs.Limits.{childrenOf}
 use Rattle.grid.proofs.BlockLaws.{cube-le}
-use Rattle.grid.proofs.CauseLaws.{inner-block, five-size, five-i, five-j, five-k, five-last, area-few, volume-few, product-few}
+use Rattle.grid.proofs.LimitLaws.{inner-block, five-size, five-i, five-j, five-k, five-last, area-few, volume-few, product-few}
 use borrow.Author.Needs.{needs}
-use Rattle.grid.proofs.causes.cause_five.Statement.{statement}
-use Rattle.grid.proofs.causes.cause_five.Tie as tie
+use Rattle.grid.proofs.limits.cause_five.Statement.{statement}
+use Rattle.grid.proofs.limits.cause_five.Tie as tie
 
 node-size-requires : tie.Need-node-size-requires
 node-size-requires c κs = search needs

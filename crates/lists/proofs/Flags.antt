@@ -1,4 +1,4 @@
--- Lists of 0 and 1 by a test, and kinds that agree with one: part by part, element by element, and in rows.
+-- Lists of 0 and 1 by a test, and numbers that agree with one: part by part, element by element, and in rows.
 use mathlib.Core.Path.{_≡_, refl, sym, ap, _∙_}
 use mathlib.Core.Bool.{Bool, true, false, not, _&&_, Bool·beq}
 use mathlib.Core.List.{List, [], _∷_, _++_, append-nil, append-assoc}
@@ -11,9 +11,9 @@ use lib.Dec.{eqb}
 use lib.Seq.{take-at, drop-at, drop-drop, take-add, take-all, length-take-le, set-at, drop-cons}
 use borrow.Author.Tests.{eq-eqb, ne-eqb}
 use borrow.Rule.Slice.PartMut.{putMid}
 use Rattle.lists.specs.Sums.{bit}
-use Rattle.schedule.specs.Opened.{nonzero}
-use Rattle.sparse_field.specs.Inner.Flags.{flagsFrom, agreesFrom, inRows}
+use Rattle.lists.proofs.Tests.{and-left, and-right}
+use Rattle.lists.specs.Flags.{nonzero, flagsFrom, agreesFrom, inRows}
 
 -- ---- places in rows of n
 
@@ -24,13 +24,13 @@ module _ (n : ℕ) (test : ℕ → ℕ → Bool) where
       let place : (j * n + i) % n ≡ i = mul-add-mod-self-right j n i ∙ mod-eq-of-lt h in
       λ t. test (row t) (place t)
 
--- ---- nonzero kinds
+-- ---- nonzero numbers
 
 pub nonzero-true : (k : ℕ) → (k ≡ 0 → ⊥) → nonzero k ≡ true
 nonzero-true zero h = absurd (h refl)
 nonzero-true (suc k) h = refl
 
--- the code's comparison of a kind with a flag
+-- the code's comparison of a number with a flag
 pub nonzero-eqb : (k : ℕ) → not (eqb k 0) ≡ nonzero k
 nonzero-eqb zero = ap not (eq-eqb 0 0 refl)
 nonzero-eqb (suc k) = ap not (ne-eqb (suc k) 0 (λ e. omega arith))
@@ -60,6 +60,13 @@ module _ (test : ℕ → Bool) where
   unfolding flagsFrom
   length-flags zero j = refl
   length-flags (suc r) j = ap suc (length-flags r (suc j))
+
+  -- each is that of its place
+  pub getD-flags : (r i j : ℕ) → j < r → getD (flagsFrom test r i) j 0 ≡ bit (test (i + j))
+  unfolding flagsFrom
+  getD-flags zero i j h = absurd (omega arith)
+  getD-flags (suc r) i zero h = rw add-zero
+  getD-flags (suc r) i (suc j) h = rw (add-suc, ← suc-add) (getD-flags r (suc i) j (omega arith))
 
   pub flags-append : (a b j : ℕ) → flagsFrom test (a + b) j ≡ flagsFrom test a j ++ flagsFrom test b (j + a)
   unfolding flagsFrom
@@ -121,7 +128,7 @@ module _ (test : ℕ → Bool) (l : List ℕ) where
       ∙ sym (append-assoc f (flagsFrom test n (0 + a)) (drop n (drop a l)))
       ∙ (λ t. sym (flags-append test a n 0) t ++ drop-drop n a l t)
 
--- ---- kinds that agree with a test
+-- ---- numbers that agree with a test
 
 and-nothing : (b : Bool) → (b && false) ≡ false
 and-nothing true = refl
@@ -138,6 +145,28 @@ beq-self false = refl
 beq-not : (b : Bool) → Bool·beq (not b) b ≡ false
 beq-not true = refl
 beq-not false = refl
+
+-- tests that pass as equal are
+beq-true : (a b : Bool) → Bool·beq a b ≡ true → a ≡ b
+beq-true true true e = refl
+beq-true true false e = sym e
+beq-true false true e = e
+beq-true false false e = refl
+
+-- numbers agree exactly where each of them does
+pub agrees : (test : ℕ → Bool) (l : List ℕ) (j : ℕ) → ((i : ℕ) → i < length l → nonzero (getD l i 0) ≡ test (j + i)) → agreesFrom test j l ≡ true
+unfolding agreesFrom
+agrees test [] j h = refl
+agrees test (x ∷ l) j h =
+    rw (rw add-zero at (h 0 (omega arith)), beq-self (test j))
+    (agrees test l (suc j) (λ i hi. rw (suc-add, ← add-suc) (h (suc i) (omega arith))))
+
+pub agrees-each : (test : ℕ → Bool) (l : List ℕ) (j : ℕ) → agreesFrom test j l ≡ true → (i : ℕ) → i < length l → nonzero (getD l i 0) ≡ test (j + i)
+unfolding agreesFrom
+agrees-each test [] j e i h = absurd (omega arith)
+agrees-each test (x ∷ l) j e zero h = rw add-zero (beq-true (nonzero x) (test j) (and-left _ (agreesFrom test (suc j) l) e))
+agrees-each test (x ∷ l) j e (suc i) h =
+    rw (add-suc, ← suc-add) (agrees-each test l (suc j) (and-right (Bool·beq (nonzero x) (test j)) _ e) i (omega arith))
 
 pub agrees-append : (test : ℕ → Bool) (j : ℕ) (a b : List ℕ) → agreesFrom test j (a ++ b) ≡ (agreesFrom test j a && agreesFrom test (j + length a) b)
 unfolding agreesFrom

@@ -1,9 +1,9 @@
 -- `cause_two` meets its contract.
 use mathlib.Core.Path.{sym, _∙_}
 use borrow.Author.Needs.{needs}
-use Rattle.grid.specs.Causes.{refusedByTwo}
-use Rattle.grid.proofs.causes.cause_two.Statement.{statement}
-use Rattle.grid.proofs.causes.cause_two.Tie as tie
+use Rattle.grid.specs.Limits.{refusedByTwo}
+use Rattle.grid.proofs.limits.cause_two.Statement.{statement}
+use Rattle.grid.proofs.limits.cause_two.Tie as tie
 
 is-block-requires : tie.Need-is-block-requires
 is-block-requires c κs = search needs

@@ -1,9 +1,9 @@
 -- `cause_three` meets its contract.
 use mathlib.Core.Path.{sym, _∙_}
 use borrow.Author.Needs.{needs}
-use Rattle.grid.specs.Causes.{refusedByThree}
-use Rattle.grid.proofs.causes.cause_three.Statement.{statement}
-use Rattle.grid.proofs.causes.cause_three.Tie as tie
+use Rattle.input.specs.Causes.{refusedByThree}
+use Rattle.input.proofs.causes.cause_three.Statement.{statement}
+use Rattle.input.proofs.causes.cause_three.Tie as tie
 
 is-nan-requires : tie.Need-is-nan-requires
 is-nan-requires c κs = search needs

@@ -1,9 +1,9 @@
 -- `cause_one` meets its contract.
 use mathlib.Core.Path.{sym, _∙_}
 use borrow.Author.Needs.{needs}
-use Rattle.grid.specs.Causes.{refusedByOne}
-use Rattle.grid.proofs.causes.cause_one.Statement.{statement}
-use Rattle.grid.proofs.causes.cause_one.Tie as tie
+use Rattle.grid.specs.Limits.{refusedByOne}
+use Rattle.grid.proofs.limits.cause_one.Statement.{statement}
+use Rattle.grid.proofs.limits.cause_one.Tie as tie
 
 box-refused-requires : tie.Need-box-refused-requires
 box-refused-requires c κs = search needs

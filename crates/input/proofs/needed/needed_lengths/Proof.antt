@@ -2,11 +2,12 @@
 use borrow.Author.Needs.{needs}
 use native.Mathlib.Omega.{arith}
 use Prim.Native.Nat.{_*_, _≤_}
-use Rattle.grid.specs.Causes.{childrenOf, storeNeeded}
+use Rattle.grid.specs.Limits.{childrenOf}
+use Rattle.grid.specs.Causes.{storeNeeded}
 use Rattle.grid.proofs.BlockLaws.{cube-le}
-use Rattle.grid.proofs.CauseLaws.{inner-block, leaf-block, few-nodes, nodes-few, product-few, few-children, active-few, store-few}
-use Rattle.field_host.proofs.needed.needed_lengths.Statement.{statement}
-use Rattle.field_host.proofs.needed.needed_lengths.Tie as tie
+use Rattle.grid.proofs.LimitLaws.{inner-block, leaf-block, few-nodes, nodes-few, product-few, few-children, active-few, store-few}
+use Rattle.input.proofs.needed.needed_lengths.Statement.{statement}
+use Rattle.input.proofs.needed.needed_lengths.Tie as tie
 
 cast-inner : tie.Need-cast-inner
 cast-inner c = search needs

@@ -1,4 +1,4 @@
--- The causes of open: what each test decides, and what holds of a grid that causes 2 and 5 do not refuse.
+-- What each test of a grid decides, and what holds of a grid that causes 2 and 5 do not refuse.
 use mathlib.Core.Path.{_≡_, refl, ap}
 use mathlib.Core.Bool.{Bool, true, false, not, _||_, or-true}
 use Prim.Native.Nat.{ℕ, _+_, _*_, _≤_, _<_}
@@ -7,18 +7,12 @@ use lib.Dec.{ltb}
 use lib.Ieee.Scale.{finite}
 use borrow.Author.Tests.{ltb-false, lt-ltb, le-ltb, not-false}
 use Rattle.lists.proofs.Tests.{or-left, or-right, or-fifth}
-use Rattle.geometry.specs.Causes.{firstOf}
-use Rattle.model.specs.declared.ImplicitModel.{ImplicitModel}
-use Rattle.model.specs.Model.{refusedByFour}
 use Rattle.grid.specs.declared.Grid.{Grid}
-use Rattle.grid.specs.declared.Band.{Band}
-use Rattle.grid.specs.declared.Lengths.{Lengths}
-use Rattle.grid.specs.declared.Refusal.the-variants.{None, By}
 use Rattle.grid.specs.Blocks.{isBlock, cube}
 use Rattle.grid.specs.Nodes.{sizeOf, nodeCounts, nodesOf}
 use Rattle.grid.specs.Boxes.{active}
 use Rattle.grid.specs.Counting.{activeIn, activeOf}
-use Rattle.grid.specs.Causes.{refusedByOne, refusedByTwo, refusedByThree, refusedByFive, refusedBySix, childrenOf, storeNeeded, openCauses, refusalOf}
+use Rattle.grid.specs.Limits.{refusedByTwo, refusedByFive, childrenOf}
 use Rattle.grid.proofs.BlockLaws.{Block, block}
 use Rattle.grid.proofs.RangeLists.{countBelow-le}
 use Rattle.grid.proofs.Sums.{sum-le}
@@ -133,75 +127,3 @@ active-few g = sum-le (nodesOf g) (cube (g .inner)) (activeIn g) (λ v. countBel
 
 pub store-few : (a r : ℕ) → a ≤ 16777216 → r ≤ 262144 → a * r ≤ 4398046511104
 store-few a r ha hr = mul-le-mul {n₂ = 16777216} {m₂ = 262144} ha hr
-
--- ---- cause 6
-
-module _ (g : Grid) (l : Lengths) where
-  abbrev kinds : Bool
-  kinds = ltb (l .kinds) (childrenOf g)
-
-  abbrev numbers : Bool
-  numbers = ltb (l .numbers) (childrenOf g)
-
-  abbrev places : Bool
-  places = ltb (l .places) (childrenOf g)
-
-  abbrev corners : Bool
-  corners = ltb (l .corners) (cube (g .inner + 1))
-
-  abbrev store : Bool
-  store = ltb (l .store) (storeNeeded g)
-
-  pub six-kinds : l .kinds < childrenOf g → true ≡ refusedBySix g l
-  unfolding refusedBySix
-  six-kinds h = or-first kinds numbers places corners store (lt-ltb _ _ h)
-
-  pub six-numbers : l .numbers < childrenOf g → true ≡ refusedBySix g l
-  unfolding refusedBySix
-  six-numbers h = or-second kinds numbers places corners store (lt-ltb _ _ h)
-
-  pub six-places : l .places < childrenOf g → true ≡ refusedBySix g l
-  unfolding refusedBySix
-  six-places h = or-third kinds numbers places corners store (lt-ltb _ _ h)
-
-  pub six-corners : l .corners < cube (g .inner + 1) → true ≡ refusedBySix g l
-  unfolding refusedBySix
-  six-corners h = or-fourth kinds numbers places corners store (lt-ltb _ _ h)
-
-  pub six-last : childrenOf g ≤ l .kinds → childrenOf g ≤ l .numbers → childrenOf g ≤ l .places → cube (g .inner + 1) ≤ l .corners
-      → store ≡ refusedBySix g l
-  unfolding refusedBySix
-  six-last hk hn hp hc =
-      or-fifth kinds numbers places corners store (le-ltb _ _ hk) (le-ltb _ _ hn) (le-ltb _ _ hp) (le-ltb _ _ hc)
-
--- ---- the first cause that applies
-
-module _ (g : Grid) (band : Band) (model : ImplicitModel) (l : Lengths) where
-  pub by-one : refusedByOne g ≡ true → By 1 ≡ refusalOf g band model l
-  unfolding firstOf openCauses refusalOf
-  by-one h1 = rw h1 refl
-
-  pub by-two : refusedByOne g ≡ false → refusedByTwo g ≡ true → By 2 ≡ refusalOf g band model l
-  unfolding firstOf openCauses refusalOf
-  by-two h1 h2 = rw (h1, h2) refl
-
-  pub by-three : refusedByOne g ≡ false → refusedByTwo g ≡ false → refusedByThree band ≡ true → By 3 ≡ refusalOf g band model l
-  unfolding firstOf openCauses refusalOf
-  by-three h1 h2 h3 = rw (h1, h2, h3) refl
-
-  module _ (h1 : refusedByOne g ≡ false) (h2 : refusedByTwo g ≡ false) (h3 : refusedByThree band ≡ false) where
-    pub by-four : refusedByFour model ≡ true → By 4 ≡ refusalOf g band model l
-    unfolding firstOf openCauses refusalOf
-    by-four h4 = rw (h1, h2, h3, h4) refl
-
-    pub by-five : refusedByFour model ≡ false → refusedByFive g ≡ true → By 5 ≡ refusalOf g band model l
-    unfolding firstOf openCauses refusalOf
-    by-five h4 h5 = rw (h1, h2, h3, h4, h5) refl
-
-    pub by-six : refusedByFour model ≡ false → refusedByFive g ≡ false → refusedBySix g l ≡ true → By 6 ≡ refusalOf g band model l
-    unfolding firstOf openCauses refusalOf
-    by-six h4 h5 h6 = rw (h1, h2, h3, h4, h5, h6) refl
-
-    pub by-none : refusedByFour model ≡ false → refusedByFive g ≡ false → refusedBySix g l ≡ false → None ≡ refusalOf g band model l
-    unfolding firstOf openCauses refusalOf
-    by-none h4 h5 h6 = rw (h1, h2, h3, h4, h5, h6) refl
