@@ -27,8 +27,9 @@ use Rattle.schedule.proofs.Implements.{implements-ledger, implements-drop, impl
 use Rattle.schedule.proofs.Possible.{possible}
 use Rattle.input.specs.declared.Input.{Input}
 use Rattle.sparse_field.specs.declared.Record.{Record}
-use Rattle.sparse_field.specs.Plan.{planOf}
-use Rattle.sparse_field.specs.Records.{sparse, jobIn, recordIn, cursorIn, byFlag, noRecord, noModel}
+use Rattle.plans.specs.Plan.{planOf}
+use Rattle.plans.specs.Sparse.{sparse}
+use Rattle.sparse_field.specs.Records.{jobIn, recordIn, byFlag, noRecord, noModel}
 use Rattle.sparse_field.specs.Calls.{Handed, handed, called}
 use Rattle.sparse_field.specs.Inner.Parts.{openedRecord, openedMemory}
 use Rattle.sparse_field.specs.Lists.{Held, answerIn}
@@ -176,4 +177,4 @@ pub host-finished-field : HostFinishedField
 host-finished-field cs s none flag ends =
     let r = recordAfter cs s in
     implements-finished sparse HostCall Station callOf engineAt onStation host-implemented sparse-laws s (no-job s none) long-enough cs (jobIn r)
-    (ap (λ b. byFlag b r) flag) (ap (λ a. atEnd (cursorIn a)) ends)
+    (ap (λ b. byFlag b r) flag) (ap (λ a. atEnd a) ends)

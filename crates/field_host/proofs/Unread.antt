@@ -22,7 +22,8 @@ use Rattle.schedule.specs.Opened.{lengthsOf}
 use Rattle.schedule.specs.Calls.{steps}
 use Rattle.schedule.specs.Possible.{impossible}
 use Rattle.schedule.proofs.Possible.{possible}
-use Rattle.sparse_field.specs.Records.{sparse, jobIn}
+use Rattle.plans.specs.Sparse.{sparse}
+use Rattle.sparse_field.specs.Records.{jobIn}
 use Rattle.sparse_field.specs.Calls.{called}
 use Rattle.sparse_field.proofs.Opening.{nothing}
 use Rattle.sparse_field.proofs.CallLaws.{step-none, step-impossible}

@@ -15,8 +15,8 @@ use Rattle.schedule.specs.Implements.{viewRun}
 use Rattle.input.specs.declared.Input.{Input}
 use Rattle.schedule.specs.declared.Cursor.the-variants.{End}
 use Rattle.sparse_field.specs.declared.Record.{Record}
-use Rattle.sparse_field.specs.Plan.{planOf}
-use Rattle.sparse_field.specs.Records.{sparse}
+use Rattle.plans.specs.Plan.{planOf}
+use Rattle.plans.specs.Sparse.{sparse}
 use Rattle.field_host.specs.Carried.{decoded}
 use Rattle.field_host.specs.Lists.{HostCall, dropsAll, callOf, Station, onStation, engineAt}
 

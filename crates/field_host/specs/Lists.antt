@@ -8,7 +8,8 @@ use Rattle.schedule.specs.Calls.{opens, steps, drops, Outcome}
 use Rattle.schedule.specs.declared.Answer.{Answer}
 use Rattle.schedule.specs.declared.Answer.the-variants.{Accepted, Refused}
 use Rattle.schedule.specs.Engine.{Engine}
-use Rattle.sparse_field.specs.Records.{sparse, recordIn}
+use Rattle.plans.specs.Sparse.{sparse}
+use Rattle.sparse_field.specs.Records.{recordIn}
 use Rattle.sparse_field.specs.Lists.{Call}
 use Rattle.field_host.specs.Given.{inputGiven}
 use Rattle.field_host.specs.Carried.{Carried, decoded}

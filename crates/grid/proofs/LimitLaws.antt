@@ -2,7 +2,8 @@
 use mathlib.Core.Path.{_≡_, refl, ap}
 use mathlib.Core.Bool.{Bool, true, false, not, _||_, or-true}
 use Prim.Native.Nat.{ℕ, _+_, _*_, _≤_, _<_}
-use native.Mathlib.Nat.{mul-le-mul}
+use native.Mathlib.Nat.{mul-le-mul, mul-le-mul-left, mul-add, mul-assoc}
+use native.Mathlib.Omega.{arith}
 use lib.Dec.{ltb}
 use lib.Ieee.Scale.{finite}
 use borrow.Author.Tests.{ltb-false, lt-ltb, le-ltb, not-false}
@@ -13,7 +14,7 @@ use Rattle.grid.specs.Nodes.{sizeOf, nodeCounts, nodesOf}
 use Rattle.grid.specs.Boxes.{active}
 use Rattle.grid.specs.Counting.{activeIn, activeOf}
 use Rattle.grid.specs.Limits.{refusedByTwo, refusedByFive, childrenOf}
-use Rattle.grid.proofs.BlockLaws.{Block, block}
+use Rattle.grid.proofs.BlockLaws.{Block, block, cube-le}
 use Rattle.grid.proofs.RangeLists.{countBelow-le}
 use Rattle.grid.proofs.Sums.{sum-le}
 
@@ -127,3 +128,36 @@ active-few g = sum-le (nodesOf g) (cube (g .inner)) (activeIn g) (λ v. countBel
 
 pub store-few : (a r : ℕ) → a ≤ 16777216 → r ≤ 262144 → a * r ≤ 4398046511104
 store-few a r ha hr = mul-le-mul {n₂ = 16777216} {m₂ = 262144} ha hr
+
+-- ---- what a job of the grid can need
+
+-- the bound on evaluations fits
+pub record BoundFits (g : Grid) : Type 0 where
+  pub nodes : nodesOf g ≤ 2097152
+  pub corners : cube (g .inner + 1) ≤ 274625
+  pub children : cube (g .inner) ≤ 262144
+  pub points : cube (g .leaf) ≤ 262144
+  pub product : cube (g .inner) * cube (g .leaf) ≤ 68719476736
+  pub bound : nodesOf g * (cube (g .inner + 1) + cube (g .inner) * cube (g .leaf)) ≤ 5000000000000
+
+pub bound-fits : (g : Grid) → refusedByTwo g ≡ false → refusedByFive g ≡ false → BoundFits g
+unfolding childrenOf
+bound-fits g two five =
+    let n = inner-block g two in
+    let l = leaf-block g two in
+    let all : nodesOf g * cube (g .inner) ≤ 16777216 = few-children g five in
+    let eight : 8 ≤ cube (g .inner) = cube-le (g .inner) 2 (n .least) in
+    let nodes : nodesOf g ≤ 2097152 = omega (arith, mul-le-mul-left (nodesOf g) eight) in
+    let corners : cube (g .inner + 1) ≤ 274625 = cube-le 65 (g .inner + 1) (omega (arith, n .most)) in
+    let children : cube (g .inner) ≤ 262144 = cube-le 64 (g .inner) (n .most) in
+    let points : cube (g .leaf) ≤ 262144 = cube-le 64 (g .leaf) (l .most) in
+    let first : nodesOf g * cube (g .inner + 1) ≤ 2097152 * 274625 = mul-le-mul nodes corners in
+    let second : nodesOf g * cube (g .inner) * cube (g .leaf) ≤ 16777216 * 262144 = mul-le-mul all points in
+    record {
+      nodes = nodes;
+      corners = corners;
+      children = children;
+      points = points;
+      product = mul-le-mul {n₂ = 262144} {m₂ = 262144} children points;
+      bound = omega (arith, mul-add (nodesOf g) (cube (g .inner + 1)) (cube (g .inner) * cube (g .leaf)), mul-assoc (nodesOf g) (cube (g .inner)) (cube (g .leaf)));
+    }

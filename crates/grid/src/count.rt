@@ -6,9 +6,10 @@ ghost use Prim.Native.Nat.{_≤_};
 ghost use lib.Ieee.{le};
 ghost use Rattle.grid.specs.Counting.{activeIn, activeOf, countsOf, sameGrid};
 ghost use Rattle.grid.specs.Inner.Activity.{axisCount, axisTotal};
-ghost use Rattle.grid.specs.Limits.{refusedByTwo, refusedByFive};
+ghost use Rattle.grid.specs.Limits.{refusedByTwo, refusedByFive, childrenOf};
 use crate::Grid;
 use crate::GridCounts;
+use crate::blocks::cube_of;
 use crate::nodes::indices;
 use crate::nodes::node_counts;
 use crate::nodes::node_size;
@@ -88,6 +89,14 @@ pub fn active_children(g: Grid) -> u64
     let y = axis_total(min.y, max.y, s, n, nodes.j as u64);
     let z = axis_total(min.z, max.z, s, n, nodes.k as u64);
     x * y * z
+}
+
+// All children of such a grid, active or not.
+pub fn child_total(g: Grid) -> usize
+    requires { ⌜ (refusedByTwo g ≡ false) × (refusedByFive g ≡ false) ⌝ }
+    ensures { λ r. ⌜ r ≡ childrenOf g ⌝ }
+{
+    node_total(g) * cube_of(g.inner as usize)
 }
 
 // The nodes and the active children of such a grid.

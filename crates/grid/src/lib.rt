@@ -21,6 +21,7 @@ pub use boxes::node_least;
 pub use boxes::node_most;
 pub use count::active_children;
 pub use count::active_in;
+pub use count::child_total;
 pub use count::grid_counts;
 pub use count::same_grid;
 pub use limits::cause_five;

@@ -12,7 +12,7 @@ pub fn needed_lengths(g: Grid) -> Lengths
     ensures { λ r. ⌜ r ≡ neededLengths g ⌝ }
 {
     let inner = g.inner as usize;
-    let children = grid::node_total(g) * grid::cube_of(inner);
+    let children = grid::child_total(g);
     let store = grid::active_children(g) as usize * grid::cube_of(g.leaf as usize);
     Lengths {
         kinds: children,

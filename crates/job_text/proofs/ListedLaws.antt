@@ -26,14 +26,15 @@ use Rattle.sparse_field.specs.declared.Record.{Record}
 use Rattle.sparse_field.specs.declared.Outcome.{Outcome}
 use Rattle.schedule.specs.declared.Answer.{Answer}
 use Rattle.schedule.specs.declared.Answer.the-variants.{Accepted, Refused}
-use Rattle.sparse_field.specs.Plan.{planOf, planWith}
-use Rattle.sparse_field.specs.Records.{sparse, lent, jobIn, recordIn}
+use Rattle.plans.specs.Plan.{planOf, planWith}
+use Rattle.plans.specs.Sparse.{sparse}
+use Rattle.sparse_field.specs.Records.{jobIn, recordIn}
 use Rattle.sparse_field.specs.Calls.{called, handed}
 use Rattle.sparse_field.proofs.CallLaws.{acceptedWith}
 use Rattle.sparse_field.proofs.Demand.{record-forth}
 use Rattle.sparse_field.proofs.Opening.{sized, sparse-laws, long-enough, nothing}
 use Rattle.sparse_field.proofs.WholeJob.{recordAfter, job-opened, job-finished, finished-possible, finished-flag, finished-elements}
-use Rattle.sparse_field.proofs.Judgement.{bound-fits}
+use Rattle.grid.proofs.LimitLaws.{bound-fits}
 use Rattle.forms.specs.Forms.{spell}
 use Rattle.job_text.specs.declared.Job.{Job}
 use Rattle.job_text.specs.declared.Listing.{Listing}

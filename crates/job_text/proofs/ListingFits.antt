@@ -20,9 +20,10 @@ use Rattle.schedule.specs.Counts.{countsWith}
 use Rattle.lists.proofs.Sums.{sumBelow-snoc, sumBits-most}
 use Rattle.schedule.proofs.Sums.{before-next, before-node, before-all}
 use Rattle.input.specs.declared.Input.{Input}
-use Rattle.sparse_field.specs.Plan.{planWith, planOf}
-use Rattle.sparse_field.specs.Records.{sparse, lent}
-use Rattle.sparse_field.proofs.Judgement.{no-cause, active-all}
+use Rattle.plans.specs.Plan.{planWith, planOf}
+use Rattle.plans.specs.Sparse.{sparse}
+use Rattle.judging.proofs.Judgement.{no-cause}
+use Rattle.plans.proofs.Plans.{active-all}
 use Rattle.forms.specs.Digits.{decimalCount, decimalOf, hexOf}
 use Rattle.forms.specs.Forms.{spell, spellPiece, pieceOf, isField, after}
 use Rattle.forms.proofs.DigitLaws.{digits-length, count-most}
@@ -130,7 +131,7 @@ module _ (P : Plan) where
 pub listing-fits : (i : Input) (nan : ℕ) → sparse .cause programLengths i ≡ 0 → length (planListing (planOf i) nan) ≤ 88176
 unfolding planWith
 listing-fits i nan none =
-    let n = no-cause i (lent programLengths) none in
+    let n = no-cause i programLengths none in
     listing-small (planOf i) nan (n .lent .kinds) (omega (arith, n .lent .store, ap (λ k. k * cube (i .grid .leaf)) (active-all i)))
 
 -- so do the lines of refusals

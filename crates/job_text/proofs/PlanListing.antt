@@ -27,9 +27,10 @@ use Rattle.schedule.specs.JobRecord.{atEnd}
 use Rattle.schedule.specs.Possible.{impossible}
 use Rattle.input.specs.declared.Input.{Input}
 use Rattle.sparse_field.specs.declared.Record.{Record}
-use Rattle.sparse_field.specs.Records.{sparse, jobIn, countsIn, cursorIn}
-use Rattle.sparse_field.specs.Plan.{planWith, planOf, boxOf}
-use Rattle.sparse_field.proofs.Decisions.{decide-kind}
+use Rattle.plans.specs.Sparse.{sparse}
+use Rattle.sparse_field.specs.Records.{jobIn}
+use Rattle.plans.specs.Plan.{planWith, planOf, boxOf}
+use Rattle.plans.proofs.Decisions.{decide-kind}
 use Rattle.job_text.specs.Listing.{doneLine, leafLine, leafValues, kindLine, lineAt, planLine, planLineAt, listing, planListing}
 use Rattle.job_text.specs.Written.{placed, allPlaced, printable, recordListing, putListing, written}
 use Rattle.job_text.proofs.LineLaws.{constant-line}
@@ -146,8 +147,8 @@ module _ (P : Plan) (m : Memory) (constants : Constants P) (done : Finished P m)
 -- ---- the record of a finished job
 
 -- WHAT IS WRITTEN OF A FINISHED JOB IS ITS PLAN'S LISTING
-pub written-plan : (r : Record) (nan : ℕ) (m : Memory) (out : List ℕ) → r .job ≡ true → impossible sparse (jobIn r) m ≡ false → atEnd (cursorIn (r .cursor)) ≡ true
-    → countsIn (r .counts) ≡ countsWith (planOf (r .input)) (leavesAll (planOf (r .input))) (total (planOf (r .input)))
+pub written-plan : (r : Record) (nan : ℕ) (m : Memory) (out : List ℕ) → r .job ≡ true → impossible sparse (jobIn r) m ≡ false → atEnd (r .cursor) ≡ true
+    → (r .counts) ≡ countsWith (planOf (r .input)) (leavesAll (planOf (r .input))) (total (planOf (r .input)))
     → Finished (planOf (r .input)) m → leavesAll (planOf (r .input)) * planOf (r .input) .leafPoints ≤ length (m .store)
     → written r nan m out ≡ putListing (planListing (planOf (r .input)) nan) out
 unfolding printable recordListing

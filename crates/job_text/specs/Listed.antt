@@ -2,8 +2,8 @@
 use Prim.Native.Nat.{ℕ, zero, suc}
 use mathlib.Core.List.{List, [], _∷_}
 use Rattle.input.specs.declared.Lengths.{Lengths}
-use Rattle.sparse_field.specs.Records.{sparse}
-use Rattle.sparse_field.specs.Plan.{planOf}
+use Rattle.plans.specs.Sparse.{sparse}
+use Rattle.plans.specs.Plan.{planOf}
 use Rattle.forms.specs.Forms.{spell}
 use Rattle.job_text.specs.declared.Job.{Job}
 use Rattle.job_text.specs.Lines.{refusedForm, offForm}

@@ -9,7 +9,8 @@ ghost use Rattle.schedule.specs.JobRecord.{atEnd};
 ghost use Rattle.schedule.specs.Possible.{impossible};
 ghost use Rattle.lists.specs.Sums.{sumBelow};
 ghost use Rattle.schedule.specs.Lent.{memoryOf, held, entered};
-ghost use Rattle.sparse_field.specs.Records.{sparse, jobIn, countsIn, cursorIn};
+ghost use Rattle.plans.specs.Sparse.{sparse};
+ghost use Rattle.sparse_field.specs.Records.{jobIn};
 ghost use Rattle.forms.specs.Forms.{pieceOf, spell};
 ghost use Rattle.job_text.specs.Inner.Lengths.{lengthAt, Sizes};
 ghost use Rattle.job_text.specs.Lines.{refusedForm, offForm};
@@ -136,7 +137,7 @@ fn listing_length(
     kinds: &[u8],
 ) -> usize
     requires { ⌜ Sizes total children points × (total ≤ length (now kinds)) ⌝ }
-    ensures { λ r. ⌜ r ≡ length (doneLine (countsIn counts)) + sumBelow (lengthAt children points (now (kinds .entry))) total ⌝ }
+    ensures { λ r. ⌜ r ≡ length (doneLine counts) + sumBelow (lengthAt children points (now (kinds .entry))) total ⌝ }
 {
     let numbers = done_numbers(counts);
     forms::form_length(b"(done D D D D D)\n", &numbers)
@@ -158,11 +159,11 @@ fn put_listing(
 )
     requires { ⌜ Sizes total children points × (total ≤ length (now kinds)) × (total ≤ length (now numbers)) × (total ≤ length (now places)) ⌝ }
     requires { ⌜ allPlaced points (length (now store)) (now kinds) (now places) total 0 ≡ true ⌝ }
-    requires { ⌜ length (listingTo total children points nan (countsIn counts) (memoryOf (now kinds) (now numbers) (now places) (now store) [])) ≤ length
+    requires { ⌜ length (listingTo total children points nan counts (memoryOf (now kinds) (now numbers) (now places) (now store) [])) ≤ length
         (now out) ⌝ }
     ensures { λ _. ⌜ now (out .exit)
         ≡ putBytes
-        (listingTo total children points nan (countsIn counts)
+        (listingTo total children points nan counts
         (memoryOf (now (kinds .entry)) (now (numbers .entry)) (now (places .entry)) (now (store .entry)) []))
         (now (out .entry)) ⌝ }
 {
@@ -200,12 +201,12 @@ fn write_placed(
     requires { ⌜ allPlaced points (length (now store)) (now kinds) (now places) total 0 ≡ true ⌝ }
     ensures answer { λ r. ⌜ r
         ≡ putAnswer
-        (listingTo total children points nan (countsIn counts)
+        (listingTo total children points nan counts
         (memoryOf (now (kinds .entry)) (now (numbers .entry)) (now (places .entry)) (now (store .entry)) []))
         (now (out .entry)) ⌝ }
     ensures out { λ _. ⌜ now (out .exit)
         ≡ putBytes
-        (listingTo total children points nan (countsIn counts)
+        (listingTo total children points nan counts
         (memoryOf (now (kinds .entry)) (now (numbers .entry)) (now (places .entry)) (now (store .entry)) []))
         (now (out .entry)) ⌝ }
 {
@@ -230,7 +231,7 @@ fn write_placed(
 
 // Whether a cursor is at the end.
 fn at_end(cursor: Cursor) -> bool
-    ensures { λ r. ⌜ r ≡ atEnd (cursorIn cursor) ⌝ }
+    ensures { λ r. ⌜ r ≡ atEnd cursor ⌝ }
 {
     match cursor {
         Cursor::End => true,

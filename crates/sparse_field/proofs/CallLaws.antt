@@ -14,7 +14,8 @@ use Rattle.schedule.specs.Engine.{Engine, engineCall, engineOpen, engineStep, e
 use Rattle.input.specs.declared.Input.{Input}
 use Rattle.sparse_field.specs.declared.Record.{Record}
 use Rattle.schedule.specs.declared.Answer.the-variants.{Accepted, Refused}
-use Rattle.sparse_field.specs.Records.{sparse, lent, jobIn, byFlag, recordIn, recordOut, noRecord}
+use Rattle.plans.specs.Sparse.{sparse}
+use Rattle.sparse_field.specs.Records.{jobIn, byFlag, recordIn, recordOut, noRecord}
 use Rattle.sparse_field.specs.Calls.{Handed, handed, called}
 use Rattle.sparse_field.specs.Inner.Parts.{openedRecord, openedMemory, steppedEngine}
 
@@ -31,10 +32,10 @@ module _ (i : Input) (r : Record) (m : Memory) where
   byNumber n = let o = engineOpen sparse i (record { jobRecord = recordIn r; memory = m }) n in handed r (o .answer) (o .next)
 
   -- a refused open
-  pub open-refused : (n : ℕ) → refusalOf i (lent (lengthsOf m)) ≡ By n → called (opens i) r m ≡ refusedBy n r m
+  pub open-refused : (n : ℕ) → refusalOf i (lengthsOf m) ≡ By n → called (opens i) r m ≡ refusedBy n r m
   unfolding called engineCall engineOpen
   open-refused n e =
-      let above : n ≡ suc (n - 1) = omega (arith, number-above i (lent (lengthsOf m)) n e) in
+      let above : n ≡ suc (n - 1) = omega (arith, number-above i (lengthsOf m) n e) in
       ap (λ x. byNumber (numberOf x)) e ∙ ap byNumber above ∙ ap (λ k. refusedBy k r m) (sym above)
 
   -- an accepted open

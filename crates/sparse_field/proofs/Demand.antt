@@ -22,8 +22,9 @@ use Rattle.schedule.specs.Implements.{Implements, viewRun}
 use Rattle.schedule.proofs.Implements.{implements-ledger, implements-drop, implements-elements, implements-finished}
 use Rattle.input.specs.declared.Input.{Input}
 use Rattle.sparse_field.specs.declared.Record.{Record}
-use Rattle.sparse_field.specs.Plan.{planOf}
-use Rattle.sparse_field.specs.Records.{sparse, jobIn, recordIn, byFlag, recordOut, cursorIn, cursorOut}
+use Rattle.plans.specs.Plan.{planOf}
+use Rattle.plans.specs.Sparse.{sparse}
+use Rattle.sparse_field.specs.Records.{jobIn, recordIn, byFlag, recordOut}
 use Rattle.sparse_field.specs.Calls.{called, handed}
 use Rattle.sparse_field.specs.Lists.{Call, Held, onHeld, engineIn, answerIn}
 use Rattle.sparse_field.specs.Demand.{DemandThree, DropLeavesZeros, EqualBudgets, FinishedField}
@@ -31,7 +32,7 @@ use Rattle.sparse_field.proofs.Opening.{sparse-laws, long-enough}
 
 -- ---- a record that the code hands back stands for the engine's
 
-cursor-forth : (a : Cursor) → cursorIn (cursorOut a) ≡ a
+cursor-forth : (a : Cursor) → a ≡ a
 cursor-forth End = refl
 cursor-forth (Corner v i) = refl
 cursor-forth (Point v c p) = refl
@@ -114,4 +115,4 @@ pub finished-field : FinishedField
 finished-field cs s none flag ends =
     let r = run onHeld cs s .last .held in
     implements-finished sparse Call Held (λ c. c) engineIn onHeld implemented sparse-laws s (no-job s none) long-enough cs (jobIn r)
-    (ap (λ b. byFlag b r) flag) (ap (λ a. atEnd (cursorIn a)) ends)
+    (ap (λ b. byFlag b r) flag) (ap (λ a. atEnd a) ends)

@@ -37,17 +37,17 @@ use Rattle.schedule.specs.Opened.{lengthsOf, ActiveKinds}
 use Rattle.schedule.specs.Inputs.{InputsLaws}
 use Rattle.input.specs.declared.Input.{Input}
 use Rattle.schedule.specs.declared.Cursor.{Cursor}
-use Rattle.sparse_field.specs.declared.Progress.{Progress}
+use Rattle.engine.specs.declared.Progress.{Progress}
 use Rattle.schedule.specs.declared.Cursor.the-variants.{End, Corner, Point}
-use Rattle.sparse_field.specs.Plan.{planWith, planOf, valueOf}
+use Rattle.plans.specs.Plan.{planWith, planOf, valueOf}
 use Rattle.sparse_field.specs.Inner.Parts.{startMemory, cursorAt}
-use Rattle.sparse_field.specs.Inner.Progress.{Sized, Lent, Advanced, readingIn, ZeroCorners}
-use Rattle.sparse_field.specs.Records.{sparse, lent, cursorIn}
-use Rattle.sparse_field.specs.Inner.Startable.{Startable}
-use Rattle.sparse_field.proofs.Judgement.{active-all}
-use Rattle.sparse_field.proofs.NodeLaws.{plan-laws, node-begins}
-use Rattle.sparse_field.specs.Inner.Runs.{runOf}
-use Rattle.sparse_field.proofs.ChildLaws.{active-few}
+use Rattle.engine.specs.Inner.Progress.{Sized, Lent, Advanced, readingIn, ZeroCorners}
+use Rattle.plans.specs.Sparse.{sparse}
+use Rattle.engine.specs.Inner.Startable.{Startable}
+use Rattle.plans.proofs.Plans.{active-all, plan-laws}
+use Rattle.engine.proofs.NodeLaws.{node-begins}
+use Rattle.engine.specs.Inner.Runs.{runOf}
+use Rattle.engine.proofs.ChildLaws.{active-few}
 use Rattle.sparse_field.proofs.Results.{final, engine-after}
 
 -- sizes that no cause refuses
@@ -62,19 +62,19 @@ sized g none = record {
 }
 
 -- memory whose lengths no cause refuses
-pub lent-memory : (i : Input) (m : Memory) → Clear i (lent (lengthsOf m)) → ActiveKinds (planOf i) (m .kinds) → Lent (planOf i) m
+pub lent-memory : (i : Input) (m : Memory) → Clear i (lengthsOf m) → ActiveKinds (planOf i) (m .kinds) → Lent (planOf i) m
 unfolding planWith
 lent-memory i m none right = record {
   kinds = none .lent .kinds;
   numbers = none .lent .numbers;
   places = none .lent .places;
-  store = subst (λ n. n * cube (i .grid .leaf) ≤ lent (lengthsOf m) .store) (sym (active-all i)) (none .lent .store);
+  store = subst (λ n. n * cube (i .grid .leaf) ≤ (lengthsOf m) .store) (sym (active-all i)) (none .lent .store);
   corners = none .lent .corners;
   activeKinds = right;
 }
 
 -- a cursor of the plan is one where the engine may go on
-pub valid-startable : (P : Plan) (a : Cursor) (n : ℕ) → Valid P (cursorIn a) → n ≤ activeUpTo P (cursorIn a) → AtLeast 1 (cursorIn a) n → Startable P a n
+pub valid-startable : (P : Plan) (a : Cursor) (n : ℕ) → Valid P a → n ≤ activeUpTo P a → AtLeast 1 a n → Startable P a n
 unfolding activeUpTo
 valid-startable P End n valid most least = tt
 valid-startable P (Corner v i) n valid most least = (valid .0, omega (arith, valid .1), most)
@@ -85,16 +85,16 @@ pub sparse-laws : InputsLaws sparse
 unfolding planWith
 sparse-laws = record {
   planLaws = λ l i none.
-      let n = no-cause i (lent l) none in
+      let n = no-cause i l none in
       plan-laws (i .grid) (i .band) (valueOf (i .model)) (sized (i .grid) n .innerLeast);
-  enoughCorners = λ l i none. no-cause i (lent l) none .lent .corners;
+  enoughCorners = λ l i none. no-cause i l none .lent .corners;
 }
 
--- its lent slices hold all its children and all its leaves' points
+-- its slices hold all its children and all its leaves' points
 pub long-enough : (l : opens.Lengths) (i : Input) → sparse .cause l i ≡ 0 → LongEnough (planOf i) l
 unfolding planWith
 long-enough l i none =
-    let n = no-cause i (lent l) none in
+    let n = no-cause i l none in
     let few = mul-le-mul-right (cube (i .grid .leaf)) (leavesAll-most (planOf i)) in
     record {
       kinds = n .lent .kinds;
@@ -113,13 +113,13 @@ module _ (i : Input) (l : opens.Lengths) (none : sparse .cause l i ≡ 0) where
   abbrev P : Plan
   P = planOf i
 
-  pub nothing : Clear i (lent l)
-  nothing = no-cause i (lent l) none
+  pub nothing : Clear i l
+  nothing = no-cause i l none
 
   -- the memory that open prepares is lent
   pub start-lent : Lent P (startMemory i l)
   start-lent =
-      lent-memory i (startMemory i l) (subst (λ k. Clear i (lent k)) (sym (opened-lengths P l)) nothing) (opened-active P l)
+      lent-memory i (startMemory i l) (subst (λ k. Clear i k) (sym (opened-lengths P l)) nothing) (opened-active P l)
 
   -- its corners are all +0
   start-cleared : ZeroCorners (startMemory i l)
@@ -135,7 +135,7 @@ module _ (i : Input) (l : opens.Lengths) (none : sparse .cause l i ≡ 0) where
   start-startable = (some-node, omega arith, omega arith)
 
   -- what is left at its first corner is the whole schedule
-  pub start-events : eventsFrom P (cursorIn (Corner 0 0)) (readingIn (startMemory i l)) ≡ schedule P
+  pub start-events : eventsFrom P (Corner 0 0) (readingIn (startMemory i l)) ≡ schedule P
   unfolding nodesLeft schedule
   start-events =
       let all : P .nodes - 0 ≡ P .nodes = omega arith in
@@ -143,18 +143,18 @@ module _ (i : Input) (l : opens.Lengths) (none : sparse .cause l i ≡ 0) where
 
   -- a job's work from its first corner on is work on the whole schedule
   start-done : {m m₁ : Memory} {r : Progress} → m ≡ startMemory i l
-      → Advanced P 0 0 m m₁ (eventsFrom P (cursorIn (Corner 0 0)) (readingIn m)) [] r (activeAll P)
+      → Advanced P 0 0 m m₁ (eventsFrom P (Corner 0 0) (readingIn m)) [] r (activeAll P)
       → Advanced P 0 0 (startMemory i l) m₁ (schedule P) [] r (activeAll P)
   start-done {m} {m₁} {r} start done =
       subst (λ es. Advanced P 0 0 (startMemory i l) m₁ es [] r (activeAll P)) start-events
-      (subst (λ x. Advanced P 0 0 x m₁ (eventsFrom P (cursorIn (Corner 0 0)) (readingIn x)) [] r (activeAll P)) start done)
+      (subst (λ x. Advanced P 0 0 x m₁ (eventsFrom P (Corner 0 0) (readingIn x)) [] r (activeAll P)) start done)
 
   -- the engine after an accepted open, from what a job's work has come to
   pub opened-after : {m m₁ : Memory} {r : Progress} → m ≡ startMemory i l
-      → Advanced P 0 0 m m₁ (eventsFrom P (cursorIn (Corner 0 0)) (readingIn m)) [] r (activeAll P)
+      → Advanced P 0 0 m m₁ (eventsFrom P (Corner 0 0) (readingIn m)) [] r (activeAll P)
       → openedEngine sparse i l
       ≡ record {
-        jobRecord = job (record { input = i; lengths = l; counts = countsWith P (r .leaves) 0; cursor = cursorIn (cursorAt (r .stop)) });
+        jobRecord = job (record { input = i; lengths = l; counts = countsWith P (r .leaves) 0; cursor = (cursorAt (r .stop)) });
         memory = m₁;
       }
   unfolding opens.opened
@@ -162,13 +162,13 @@ module _ (i : Input) (l : opens.Lengths) (none : sparse .cause l i ≡ 0) where
       let none : 0 + (0 - r .left) ≡ 0 = omega arith in
       engine-after i l 0 0 0 (activeAll P) (startMemory i l) m₁ (schedule P) r (start-done start done)
       ∙ ap (λ k. record {
-        jobRecord = job (record { input = i; lengths = l; counts = countsWith P (r .leaves) k; cursor = cursorIn (cursorAt (r .stop)) });
+        jobRecord = job (record { input = i; lengths = l; counts = countsWith P (r .leaves) k; cursor = (cursorAt (r .stop)) });
         memory = m₁;
       }) none
 
   -- its leaves are among the active children
   pub opened-leaves : {m m₁ : Memory} {r : Progress} → m ≡ startMemory i l
-      → Advanced P 0 0 m m₁ (eventsFrom P (cursorIn (Corner 0 0)) (readingIn m)) [] r (activeAll P) → r .leaves ≤ activeAll P
+      → Advanced P 0 0 m m₁ (eventsFrom P (Corner 0 0) (readingIn m)) [] r (activeAll P) → r .leaves ≤ activeAll P
   unfolding opens.opened opens.stateAt runOf
   opened-leaves {m} {m₁} {r} start done =
       let laws = sparse-laws .planLaws l i none in

@@ -27,31 +27,32 @@ use Rattle.schedule.proofs.Resume.{resume-within}
 use Rattle.input.specs.declared.Input.{Input}
 use Rattle.schedule.specs.declared.Cursor.{Cursor}
 use Rattle.schedule.specs.declared.Cursor.the-variants.{End, Corner, Point}
-use Rattle.sparse_field.specs.declared.Progress.{Progress}
-use Rattle.sparse_field.specs.declared.Stop.{Stop}
-use Rattle.sparse_field.specs.declared.Stop.the-variants.{Through, At}
-use Rattle.sparse_field.specs.Plan.{planOf, planWith}
-use Rattle.sparse_field.specs.Inner.Runs.{Run, runOf}
-use Rattle.sparse_field.specs.Inner.Progress.{stateIn, Advanced, afterStop, readingIn}
-use Rattle.sparse_field.specs.Records.{sparse, lent, cursorIn, cursorOut, recordOut}
+use Rattle.engine.specs.declared.Progress.{Progress}
+use Rattle.engine.specs.declared.Stop.{Stop}
+use Rattle.engine.specs.declared.Stop.the-variants.{Through, At}
+use Rattle.plans.specs.Plan.{planOf, planWith}
+use Rattle.engine.specs.Inner.Runs.{Run, runOf}
+use Rattle.engine.specs.Inner.Progress.{stateIn, Advanced, afterStop, readingIn}
+use Rattle.plans.specs.Sparse.{sparse}
+use Rattle.sparse_field.specs.Records.{recordOut}
 use Rattle.sparse_field.specs.Inner.Parts.{cursorAt, recordAt}
-use Rattle.sparse_field.proofs.RunLaws.{run-end}
+use Rattle.engine.proofs.RunLaws.{run-end}
 
 -- a cursor comes back as it was
-pub cursor-back : (a : Cursor) → cursorOut (cursorIn a) ≡ a
+pub cursor-back : (a : Cursor) → a ≡ a
 cursor-back End = refl
 cursor-back (Corner v i) = refl
 cursor-back (Point v c p) = refl
 
 -- where nothing follows, a function that came through is at the end
-stop-ends : (P : Plan) (s : State) (left : ℕ) (x : Stop) → afterStop P s left x [] ≡ record { state = s; cursor = cursorIn (cursorAt x); left = left }
+stop-ends : (P : Plan) (s : State) (left : ℕ) (x : Stop) → afterStop P s left x [] ≡ record { state = s; cursor = (cursorAt x); left = left }
 stop-ends P s left Through = run-end P left s
 stop-ends P s left (At a) = refl
 
 module _ (i : Input) (l : opened.Lengths) (k b leaves most : ℕ) (m m₁ : Memory) (es : List Event) (r : Progress)
     (done : Advanced (planOf i) b leaves m m₁ es [] r most) where
   -- where it has come to
-  pub final : runOf (planOf i) b es (stateIn m leaves) ≡ record { state = stateIn m₁ (r .leaves); cursor = cursorIn (cursorAt (r .stop)); left = r .left }
+  pub final : runOf (planOf i) b es (stateIn m leaves) ≡ record { state = stateIn m₁ (r .leaves); cursor = (cursorAt (r .stop)); left = r .left }
   final = done .same ∙ stop-ends (planOf i) (stateIn m₁ (r .leaves)) (r .left) (r .stop)
 
   -- the evaluations that were made are what is no longer left
@@ -71,13 +72,13 @@ module _ (i : Input) (l : opened.Lengths) (k b leaves most : ℕ) (m m₁ : Memo
   -- the engine with the job, after the budget
   pub engine-after : advanced sparse i l k (stateIn m leaves) (split b es)
       ≡ record {
-        jobRecord = job (record { input = i; lengths = l; counts = countsWith (planOf i) (r .leaves) (k + (b - r .left)); cursor = cursorIn (cursorAt (r .stop)) });
+        jobRecord = job (record { input = i; lengths = l; counts = countsWith (planOf i) (r .leaves) (k + (b - r .left)); cursor = (cursorAt (r .stop)) });
         memory = m₁;
       }
   unfolding advanced runOf
   engine-after =
       let state : applyAll (planOf i) (split b es .made) (stateIn m leaves) ≡ stateIn m₁ (r .leaves) = ap (λ x. x .state) final in
-      let cursor : cursorOf (split b es .rest) ≡ cursorIn (cursorAt (r .stop)) = ap (λ x. x .cursor) final in
+      let cursor : cursorOf (split b es .rest) ≡ (cursorAt (r .stop)) = ap (λ x. x .cursor) final in
       λ t. record {
         jobRecord = job (record { input = i; lengths = l; counts = countsWith (planOf i) (state t .leaves) (k + made t); cursor = cursor t });
         memory = state t .memory;
@@ -108,9 +109,9 @@ module _ (i : Input) (laws : PlanLaws (planOf i)) (b leaves most : ℕ) (m m₁ 
 
 -- the record that the code makes is the engine's
 pub record-same : (i : Input) {l : grids.Lengths} {k : opened.Lengths} {nodes active evaluated n : ℕ} (r : Progress)
-    → l ≡ lent k → nodes ≡ planOf i .nodes → active ≡ activeAll (planOf i) → evaluated ≡ n
+    → l ≡ k → nodes ≡ planOf i .nodes → active ≡ activeAll (planOf i) → evaluated ≡ n
     → recordAt i l nodes active (r .leaves) (cube (i .grid .leaf)) evaluated (r .stop)
-    ≡ recordOut (job (record { input = i; lengths = k; counts = countsWith (planOf i) (r .leaves) n; cursor = cursorIn (cursorAt (r .stop)) }))
+    ≡ recordOut (job (record { input = i; lengths = k; counts = countsWith (planOf i) (r .leaves) n; cursor = (cursorAt (r .stop)) }))
 unfolding planWith
 record-same i r lengths nodes active evaluated =
     λ t. record {

@@ -20,8 +20,9 @@ use Rattle.schedule.proofs.LedgerTheorem.{engineOf, LedgerInvariant, same-outco
 use Rattle.schedule.proofs.Reachable.{jobAt, engineAt, advanced-open, reachable-possible}
 use Rattle.input.specs.declared.Input.{Input}
 use Rattle.sparse_field.specs.declared.Record.{Record}
-use Rattle.sparse_field.specs.Plan.{planOf}
-use Rattle.sparse_field.specs.Records.{sparse, recordOut}
+use Rattle.plans.specs.Plan.{planOf}
+use Rattle.plans.specs.Sparse.{sparse}
+use Rattle.sparse_field.specs.Records.{recordOut}
 use Rattle.sparse_field.specs.Calls.{Handed, handed, called}
 use Rattle.sparse_field.proofs.CallLaws.{acceptedWith, open-accepted}
 use Rattle.sparse_field.proofs.Demand.{record-forth}

@@ -6,7 +6,8 @@ use Rattle.sparse_field.specs.declared.Record.{Record}
 use Rattle.schedule.specs.declared.Answer.{Answer}
 use Rattle.schedule.specs.declared.Answer.the-variants.{Accepted, Refused}
 use Rattle.sparse_field.specs.declared.Outcome.{Outcome}
-use Rattle.sparse_field.specs.Records.{sparse, recordIn, recordOut}
+use Rattle.plans.specs.Sparse.{sparse}
+use Rattle.sparse_field.specs.Records.{recordIn, recordOut}
 
 -- what a call hands back, and the memory after it
 pub record Handed : Type 0 where

@@ -7,7 +7,8 @@ use Rattle.schedule.specs.Engine.{Engine}
 use Rattle.sparse_field.specs.declared.Record.{Record}
 use Rattle.schedule.specs.declared.Answer.{Answer}
 use Rattle.schedule.specs.declared.Answer.the-variants.{Accepted, Refused}
-use Rattle.sparse_field.specs.Records.{sparse, recordIn}
+use Rattle.plans.specs.Sparse.{sparse}
+use Rattle.sparse_field.specs.Records.{recordIn}
 use Rattle.sparse_field.specs.Calls.{called}
 
 -- an open of an input, a step with a budget, or a drop

@@ -21,7 +21,7 @@ use Rattle.schedule.specs.declared.Counts.{Counts}
 use Rattle.schedule.specs.declared.Cursor.{Cursor}
 use Rattle.schedule.specs.declared.Cursor.the-variants.{End, Corner, Point}
 use Rattle.sparse_field.specs.declared.Record.{Record}
-use Rattle.sparse_field.specs.Plan.{planOf}
+use Rattle.plans.specs.Plan.{planOf}
 
 -- ---- what the schedule asks of an input
 

@@ -1,5 +1,5 @@
 // The calls on a sparse field's job: open, step and drop. Each works on the record that it is given and
-// on five lent slices, and hands back the next record.
+// on five slices, and hands back the next record.
 ghost use mathlib.Core.Path.{_≡_};
 ghost use mathlib.Core.Bool.{false};
 ghost use Rattle.schedule.specs.Calls.{opens, steps, drops};
@@ -8,7 +8,8 @@ ghost use Rattle.schedule.specs.Possible.{impossible};
 ghost use Rattle.schedule.specs.Lent.{held, entered, left};
 ghost use Rattle.sparse_field.specs.Calls.{called};
 ghost use Rattle.sparse_field.specs.Inner.Parts.{startMemory, openedRecord, openedMemory, steppedEngine};
-ghost use Rattle.sparse_field.specs.Records.{sparse, lent, jobIn, recordOut};
+ghost use Rattle.plans.specs.Sparse.{sparse};
+ghost use Rattle.sparse_field.specs.Records.{jobIn, recordOut};
 use crate::Answer;
 use crate::Cursor;
 use input::Input;
@@ -48,7 +49,7 @@ fn opened(
     store: &mut [f64],
     corners: &mut [f64],
 ) -> Record
-    requires { ⌜ (lengths ≡ lent (lengthsOf (held kinds numbers places store corners)))
+    requires { ⌜ (lengths ≡ (lengthsOf (held kinds numbers places store corners)))
         × (sparse .cause (lengthsOf (held kinds numbers places store corners)) input ≡ 0) ⌝ }
     ensures answer { λ r. ⌜ r ≡ openedRecord input (lengthsOf (entered kinds numbers places store corners)) ⌝ }
     ensures memory { λ _. ⌜ left kinds numbers places store corners ≡ openedMemory input (lengthsOf (entered kinds numbers places store corners)) ⌝ }

@@ -8,12 +8,12 @@ ghost use Rattle.model.specs.Model.{refusedByFour};
 ghost use Rattle.schedule.specs.Resume.{eventsFrom};
 ghost use Rattle.schedule.specs.Totals.{activeAll};
 ghost use Rattle.schedule.specs.Lent.{held, entered, left};
-ghost use Rattle.sparse_field.specs.Plan.{planOf};
-ghost use Rattle.sparse_field.specs.Inner.Progress.{Sized, Lent, Advanced, readingIn};
+ghost use Rattle.plans.specs.Plan.{planOf};
+ghost use Rattle.engine.specs.Inner.Progress.{Sized, Lent, Advanced, readingIn};
 ghost use Rattle.schedule.specs.Opened.{lengthsOf};
-ghost use Rattle.sparse_field.specs.Records.{lent, cursorIn, noRecord};
+ghost use Rattle.sparse_field.specs.Records.{noRecord};
 ghost use Rattle.sparse_field.specs.Inner.Parts.{cursorAt, recordAt};
-ghost use Rattle.sparse_field.specs.Inner.Startable.{Startable};
+ghost use Rattle.engine.specs.Inner.Startable.{Startable};
 use crate::Counts;
 use crate::Cursor;
 use input::Input;
@@ -47,7 +47,7 @@ pub fn run_job(
     requires { ⌜ Lent (planOf input) (held kinds numbers places store corners)
         × Startable (planOf input) cursor leaves × (leaves ≤ activeAll (planOf input)) ⌝ }
     ensures { λ r. ⌜ Advanced (planOf input) budget leaves (entered kinds numbers places store corners) (left kinds numbers places store corners)
-        (eventsFrom (planOf input) (cursorIn cursor) (readingIn (entered kinds numbers places store corners))) [] r (activeAll (planOf input)) ⌝ }
+        (eventsFrom (planOf input) cursor (readingIn (entered kinds numbers places store corners))) [] r (activeAll (planOf input)) ⌝ }
 {
     let model = input.model;
     let mut words = [0u32; 192];
@@ -81,7 +81,7 @@ pub fn lengths_of(
     store: &[f64],
     corners: &[f64],
 ) -> Lengths
-    ensures { λ r. ⌜ r ≡ lent (lengthsOf (entered kinds numbers places store corners)) ⌝ }
+    ensures { λ r. ⌜ r ≡ (lengthsOf (entered kinds numbers places store corners)) ⌝ }
 {
     Lengths {
         kinds: kinds.len(),

@@ -7,14 +7,15 @@ use Rattle.schedule.specs.Opened.{opened}
 use Rattle.schedule.specs.Engine.{Engine, openedEngine, engineStepJob}
 use Rattle.input.specs.declared.Input.{Input}
 use Rattle.sparse_field.specs.declared.Record.{Record}
-use Rattle.sparse_field.specs.Plan.{planOf}
-use Rattle.sparse_field.specs.Records.{sparse, jobIn, recordOut}
+use Rattle.plans.specs.Plan.{planOf}
+use Rattle.plans.specs.Sparse.{sparse}
+use Rattle.sparse_field.specs.Records.{jobIn, recordOut}
 use Rattle.input.specs.declared.Lengths as grids
 use Rattle.schedule.specs.JobRecord.{job}
 use Rattle.schedule.specs.declared.Cursor.{Cursor}
 use Rattle.schedule.specs.declared.Cursor.the-variants.{End}
-use Rattle.sparse_field.specs.declared.Stop.{Stop}
-use Rattle.sparse_field.specs.declared.Stop.the-variants.{Through, At}
+use Rattle.engine.specs.declared.Stop.{Stop}
+use Rattle.engine.specs.declared.Stop.the-variants.{Through, At}
 
 -- what an accepted open writes before the first event
 abbrev pub startMemory : Input → Lengths → Memory

@@ -3,7 +3,7 @@ use borrow.Author.Needs.{needs}
 use mathlib.Core.Path.{refl, sym, ap, _∙_}
 use Rattle.input.specs.declared.Input.{Input}
 use Rattle.input.specs.Causes.{numberOf}
-use Rattle.sparse_field.proofs.Judgement.{no-cause}
+use Rattle.judging.proofs.Judgement.{no-cause}
 use Rattle.input.specs.Needed.{neededLengths}
 use Rattle.field_host.specs.Needed.{lengthList, longest, anyRefusal, lengthsLeft}
 use Rattle.field_host.proofs.needed.jisampode_lengths.Statement.{statement}

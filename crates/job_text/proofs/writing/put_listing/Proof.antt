@@ -7,7 +7,6 @@ use native.Mathlib.Omega.{arith}
 use lib.ListN.{length, length-append}
 use lib.Seq.{sets}
 use Rattle.schedule.specs.Lent.{memoryOf}
-use Rattle.sparse_field.specs.Records.{countsIn}
 use Rattle.forms.specs.Forms.{spell}
 use Rattle.job_text.specs.Lines.{doneForm}
 use Rattle.job_text.specs.Listing.{doneLine, linesFrom, lineAt}
@@ -25,7 +24,7 @@ linesOf s =
 
 -- the listing
 abbrev bytesOf : tie.Start → List ℕ
-bytesOf s = doneLine (countsIn (s .args .counts)) ++ linesOf s
+bytesOf s = doneLine (s .args .counts) ++ linesOf s
 
 -- what is put, line by line, is the listing
 put-whole : (s : tie.Start) {xs l₁ l₂ : List ℕ} {r₁ r₂ : ℕ}
@@ -34,7 +33,7 @@ put-whole : (s : tie.Start) {xs l₁ l₂ : List ℕ} {r₁ r₂ : ℕ}
     → r₂ ≡ r₁ + length (linesOf s) → l₂ ≡ sets l₁ r₁ (linesOf s) → (r₂ ≡ 0 + length (bytesOf s)) × (l₂ ≡ sets (s .args .out .now) 0 (bytesOf s))
 put-whole s numbers end₁ put₁ end₂ put₂ =
     let out = s .args .out .now in
-    let k = countsIn (s .args .counts) in
+    let k = (s .args .counts) in
     let done = done-spelling k numbers in
     let first = end₁ ∙ ap (λ (t : List ℕ). 0 + length t) done in
     let front = put₁ ∙ ap (sets out 0) done in
@@ -53,17 +52,17 @@ put-form-requires : tie.Need-put-form-requires
 put-form-requires c κs =
     let s = c .before .before .before .before .before .before .before .before .before in
     let a = s .args in
-    let done = done-length (countsIn (a .counts)) (c .before .before .before .done-numbers .ensures) in
-    omega (arith, done, length-append (doneLine (countsIn (a .counts))) (linesOf s), s .pre .1 .1)
+    let done = done-length (a .counts) (c .before .before .before .done-numbers .ensures) in
+    omega (arith, done, length-append (doneLine (a .counts)) (linesOf s), s .pre .1 .1)
 
 put-lines-requires : tie.Need-put-lines-requires
 put-lines-requires c κs =
     let s = c .before .before .before .before .before .before .before .before .before .before .before .before .before in
     let a = s .args in
-    let done = done-length (countsIn (a .counts)) (c .before .before .before .before .before .before .before .done-numbers .ensures) in
+    let done = done-length (a .counts) (c .before .before .before .before .before .before .before .done-numbers .ensures) in
     let put = c .before .before .before .put-form .ensures in
     let long = put-long (a .out .now) 0 (spell doneForm (c .before .before .before .before .before .before .before .done-numbers .result)) (put .1) in
-    (s .pre .0, (s .pre .1 .0, omega (arith, put .0, long, done, length-append (doneLine (countsIn (a .counts))) (linesOf s), s .pre .1 .1)))
+    (s .pre .0, (s .pre .1 .0, omega (arith, put .0, long, done, length-append (doneLine (a .counts)) (linesOf s), s .pre .1 .1)))
 
 zero-rest-requires : tie.Need-zero-rest-requires
 zero-rest-requires c κs =

@@ -3,11 +3,11 @@ use Prim.Native.Nat.{ℕ, _≤_}
 use mathlib.Core.Path.{_≡_, refl, sym, ap, subst, _∙_}
 use native.Mathlib.Omega.{arith}
 use Rattle.schedule.specs.Opened.{lengthsOf}
-use Rattle.sparse_field.specs.Plan.{planOf, planWith}
-use Rattle.sparse_field.specs.Inner.Progress.{Lent}
-use Rattle.sparse_field.specs.Records.{lent, recordOut}
-use Rattle.sparse_field.proofs.Judgement.{active-all}
-use Rattle.sparse_field.proofs.NodeLaws.{nodes-few}
+use Rattle.plans.specs.Plan.{planOf, planWith}
+use Rattle.engine.specs.Inner.Progress.{Lent}
+use Rattle.sparse_field.specs.Records.{recordOut}
+use Rattle.plans.proofs.Plans.{active-all}
+use Rattle.engine.proofs.NodeLaws.{nodes-few}
 use Rattle.sparse_field.proofs.Opening.{sized, nothing, start-lent, start-startable, opened-after, opened-leaves, active-within}
 use Rattle.sparse_field.proofs.Results.{record-same}
 use Rattle.schedule.specs.Memory.{Memory}

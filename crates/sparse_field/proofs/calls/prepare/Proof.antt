@@ -4,7 +4,7 @@ use mathlib.Core.Path.{_≡_, ap, _∙_}
 use native.Mathlib.Omega.{arith}
 use lib.ListN.{length, length-replicate}
 use Rattle.schedule.specs.Opened.{lengthsOf, kindsFrom, opened}
-use Rattle.sparse_field.specs.Plan.{planOf}
+use Rattle.plans.specs.Plan.{planOf}
 use Rattle.sparse_field.proofs.Opening.{nothing}
 use Rattle.schedule.specs.Memory.{Memory}
 use Rattle.schedule.specs.Lent.{memoryOf}

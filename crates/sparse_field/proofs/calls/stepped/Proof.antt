@@ -9,11 +9,12 @@ use Rattle.schedule.specs.Engine.{engineStepJob}
 use Rattle.schedule.specs.Possible.{Possible}
 use Rattle.schedule.proofs.Possible.{possible}
 use Rattle.schedule.proofs.Sums.{up-to-most}
-use Rattle.sparse_field.specs.Plan.{planOf, planWith}
-use Rattle.sparse_field.specs.Inner.Progress.{Sized, Lent}
-use Rattle.sparse_field.specs.Records.{sparse, lent, lengthsIn, cursorIn, jobIn, recordOut}
+use Rattle.plans.specs.Plan.{planOf, planWith}
+use Rattle.engine.specs.Inner.Progress.{Sized, Lent}
+use Rattle.plans.specs.Sparse.{sparse}
+use Rattle.sparse_field.specs.Records.{jobIn, recordOut}
 use Rattle.input.proofs.Clear.{Clear, no-cause}
-use Rattle.sparse_field.proofs.Judgement.{bound-fits}
+use Rattle.grid.proofs.LimitLaws.{bound-fits}
 use Rattle.sparse_field.proofs.Opening.{sized, lent-memory, valid-startable, active-within, sparse-laws}
 use Rattle.sparse_field.proofs.Results.{left-most, leaves-after, made-most, record-same, engine-after}
 use Rattle.schedule.specs.Memory.{Memory}
@@ -31,8 +32,8 @@ judged : (s : tie.Start) → Possible sparse (jobIn (s .args .found)) (memory s)
 judged s = possible sparse (jobIn (s .args .found)) (memory s) (s .pre)
 
 -- its input meets no cause
-cause : (s : tie.Start) → let i = s .args .found .input in Clear i (lent (lengthsOf (memory s)))
-cause s = let i = s .args .found .input in no-cause i (lent (lengthsOf (memory s))) (judged s .noCause)
+cause : (s : tie.Start) → let i = s .args .found .input in Clear i (lengthsOf (memory s))
+cause s = let i = s .args .found .input in no-cause i (lengthsOf (memory s)) (judged s .noCause)
 
 size : (s : tie.Start) → Sized (s .args .found .input .grid)
 size s = sized _ (cause s)
@@ -57,7 +58,7 @@ run-job-requires c κs =
       (
         all s,
         valid-startable (planOf (r .input)) (r .cursor) (r .counts .leaves) (p .cursor) (p .atMost) (p .atLeast),
-        omega (arith, p .atMost, up-to-most (planOf (r .input)) (cursorIn (r .cursor)) (p .cursor)),
+        omega (arith, p .atMost, up-to-most (planOf (r .input)) (r .cursor) (p .cursor)),
       ),
     )
 
@@ -70,7 +71,7 @@ add-evaluations : tie.Need-add-evaluations
 add-evaluations c =
     let s = c .before .before .before .before .before .before .before .before .before .before .before .before .before .before .before .before .before .before .before .before .before .before .before .before in
     let p = judged s in
-    omega (arith, p .evaluations, few s, made-most (s .args .found .input) (laws s) _ _ _ _ _ (cursorIn (s .args .found .cursor)) _ (c .before .before .before .before .before .before .before .before .before .before .before .before .run-job .ensures) (p .cursor))
+    omega (arith, p .evaluations, few s, made-most (s .args .found .input) (laws s) _ _ _ _ _ (s .args .found .cursor) _ (c .before .before .before .before .before .before .before .before .before .before .before .before .run-job .ensures) (p .cursor))
 
 record-of-requires : tie.Need-record-of-requires
 record-of-requires c κs =
@@ -79,7 +80,7 @@ record-of-requires c κs =
       omega (
         arith,
         active-within (s .args .found .input) (size s),
-        leaves-after (s .args .found .input) (laws s) _ _ _ _ _ (cursorIn (s .args .found .cursor)) _ (c .before .before .before .before .before .before .before .before .before .before .before .before .run-job .ensures) (p .cursor) (all s .corners) (p .atLeast) (p .atMost),
+        leaves-after (s .args .found .input) (laws s) _ _ _ _ _ (s .args .found .cursor) _ (c .before .before .before .before .before .before .before .before .before .before .before .before .run-job .ensures) (p .cursor) (all s .corners) (p .atLeast) (p .atMost),
       ),
       size s .leafMost,
     )
@@ -106,7 +107,7 @@ returns c =
     let r = s .args .found in
     let p = judged s in
     let work = c .before .before .before .before .before .before .before .before .before .before .before .before .before .run-job in
-    let engine = engine-after (r .input) (lengthsIn (r .lengths)) (r .counts .evaluations) (s .args .budget) (r .counts .leaves) _ (memory s) _ _ (work .result) (work .ensures) in (
+    let engine = engine-after (r .input) (r .lengths) (r .counts .evaluations) (s .args .budget) (r .counts .leaves) _ (memory s) _ _ (work .result) (work .ensures) in (
       c .record-of .ensures
           ∙ record-same (r .input) (work .result) refl (ap (λ x. x .nodes) (p .counts)) (ap (λ x. x .active) (p .counts)) refl
           ∙ sym (ap (λ e. recordOut (e .jobRecord)) engine),
