@@ -33,8 +33,9 @@ use Rattle.sparse_field.specs.declared.Progress.{Progress}
 use Rattle.sparse_field.specs.declared.Cursor.the-variants.{Point}
 use Rattle.sparse_field.specs.declared.Stop.the-variants.{Through, At}
 use Rattle.schedule.specs.Lent.{memoryOf}
-use Rattle.sparse_field.specs.Inner.FlatValue.{flatValue}
-use Rattle.sparse_field.specs.Plan.{decisionOf, decideOf, at, boxOf, planWith}
+use Rattle.rows.specs.Inner.FlatValue.{flatValue}
+use Rattle.sparse_field.specs.Plan.{decisionOf, decideOf, boxOf, planWith}
+use Rattle.geometry.specs.Values.{at}
 use Rattle.sparse_field.specs.Inner.Progress.{plan, Sized, Ready, readingIn, ChildrenAdvanced, leafProgress}
 use Rattle.sparse_field.proofs.Turns.{progress, turn-active, turn-skip, turn-constant, turn-leaf, filledStore}
 

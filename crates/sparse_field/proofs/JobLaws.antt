@@ -16,7 +16,7 @@ use Rattle.schedule.specs.Memory.{Memory}
 use Rattle.schedule.specs.Totals.{activeAll}
 use Rattle.sparse_field.specs.declared.Input.{Input}
 use Rattle.sparse_field.specs.declared.Progress.{Progress}
-use Rattle.sparse_field.specs.Inner.FlatValue.{flatValue}
+use Rattle.rows.specs.Inner.FlatValue.{flatValue}
 use Rattle.sparse_field.specs.Plan.{planWith, planOf, valueOf}
 use Rattle.sparse_field.specs.Inner.Progress.{plan, Advanced, readingIn}
 

@@ -14,9 +14,3 @@ pub mod Opening
 pub mod CallLaws
 pub mod Demand
 pub mod WholeJob
-pub mod AroundLaws
-pub mod Searching
-pub mod Writing
-pub mod Running
-pub mod RowValues
-pub mod AxesLaws

@@ -37,11 +37,11 @@ use Rattle.sparse_field.specs.declared.Cursor.the-variants.{End, Corner}
 use Rattle.sparse_field.specs.Records.{cursorIn}
 use Rattle.sparse_field.specs.declared.Stop.the-variants.{Through, At}
 use Rattle.schedule.specs.Lent.{memoryOf}
-use Rattle.sparse_field.specs.Inner.CornerRun.{CornerRun, neededFrom, evaluatedFrom}
-use Rattle.sparse_field.specs.Plan as plans
+use Rattle.rows.specs.Inner.CornerRun.{CornerRun, neededFrom, evaluatedFrom}
+use Rattle.geometry.specs.Values as values
 use Rattle.sparse_field.specs.Plan.{planWith, boxOf}
 use Rattle.sparse_field.specs.Inner.Runs.{runOf}
-use Rattle.sparse_field.specs.Inner.FlatValue.{flatValue}
+use Rattle.rows.specs.Inner.FlatValue.{flatValue}
 use Rattle.sparse_field.specs.Inner.Progress.{plan, Sized, Lent, afterStop, IfThrough, stateIn, Advanced, Ready, readingIn, ZeroCorners, NodeAdvanced, Turned, Onward, leafProgress}
 use Rattle.sparse_field.proofs.Decisions.{decide-kind}
 use Rattle.sparse_field.proofs.NodeKinds.{part-needed}
@@ -64,13 +64,13 @@ module _ (g : Grid) (band : Band) (value : Float → Float → Float → Float) 
     (long : nodesOf g * cube (g .inner) ≤ length l) (v : ℕ) (below : v < nodesOf g) {first d : ℕ} (from : first ≡ v * cube (g .inner)) (size : d ≡ cube (g .inner)) where
   -- the run over the corners that one node's part needs is the plan's
   pub plan-corners : {box : BoundingBox} {i b next left : ℕ} {before after : List Float} → box ≡ nodeBox g v
-      → CornerRun (corners.needed (g .inner) (kinds.nonzero (take d (drop first l)))) (λ i. plans.at value (corners.cornerPoint box (g .inner) i))
+      → CornerRun (corners.needed (g .inner) (kinds.nonzero (take d (drop first l)))) (λ i. values.at value (corners.cornerPoint box (g .inner) i))
       (cube (g .inner + 1)) i b next left before after
       → CornerRun (planWith g band value .needed v) (planWith g band value .cornerValue v) (planWith g band value .corners) i b next left before after
   unfolding planWith
   plan-corners {box} {i} {b} {next} {left} {before} {after} boxed run =
       subst (λ test. CornerRun test (planWith g band value .cornerValue v) (cube (g .inner + 1)) i b next left before after) (fun-ext (part-needed g band value l right long v below from size))
-      (subst (λ x. CornerRun (corners.needed (g .inner) (kinds.nonzero (take d (drop first l)))) (λ i. plans.at value (corners.cornerPoint x (g .inner) i))
+      (subst (λ x. CornerRun (corners.needed (g .inner) (kinds.nonzero (take d (drop first l)))) (λ i. values.at value (corners.cornerPoint x (g .inner) i))
       (cube (g .inner + 1)) i b next left before after) boxed run)
 
 -- ---- a run over a node's corners
@@ -215,7 +215,7 @@ module _ (g : Grid) (band : Band) (words : List ℕ) (reals : List Float) (parts
     (ready : Ready (plan g band words reals parts) v 0 leaves m) (n : ℕ) (cubed : n ≡ cube (g .inner))
     {box : BoundingBox} {next left : ℕ} {after : List Float} (boxed : box ≡ nodeBox g v)
     (run : CornerRun (corners.needed (g .inner) (kinds.nonzero (take (v * n + n - v * n) (drop (v * n) (m .kinds)))))
-    (λ i. plans.at (flatValue words reals parts) (corners.cornerPoint box (g .inner) i)) (cube (g .inner + 1)) i b next left (m .corners) after) where
+    (λ i. values.at (flatValue words reals parts) (corners.cornerPoint box (g .inner) i)) (cube (g .inner + 1)) i b next left (m .corners) after) where
   abbrev P : Plan
   P = plan g band words reals parts
 
@@ -256,7 +256,7 @@ module _ (g : Grid) (band : Band) (words : List ℕ) (reals : List Float) (parts
   pub node-points : {box child : BoundingBox} {store : List Float} {turn : Progress} → p ≤ cube (g .leaf) → box ≡ nodeBox g v → child ≡ childBox box (g .inner) c
       → turn ≡ leafProgress leaves b v c p (cube (g .leaf))
       → store ≡ filled ((leaves - 1) * cube (g .leaf) + p) (min b (cube (g .leaf) - p))
-      (λ q. plans.at (flatValue words reals parts) (leafPoint child (g .leaf) (q - (leaves - 1) * cube (g .leaf)))) (m .store)
+      (λ q. values.at (flatValue words reals parts) (leafPoint child (g .leaf) (q - (leaves - 1) * cube (g .leaf)))) (m .store)
       → Advanced Q b leaves m (memoryOf (m .kinds) (m .numbers) (m .places) store (m .corners)) (eventsFrom Q (at (point v c p)) (readingIn m))
       (childrenLeft Q v (suc c) (readingIn m)) turn (activeBefore Q v (suc c))
   unfolding planWith boxOf
@@ -264,7 +264,7 @@ module _ (g : Grid) (band : Band) (words : List ℕ) (reals : List Float) (parts
       let lies′ : child ≡ childBox (nodeBox g v) (g .inner) c = lies ∙ ap (λ x. childBox x (g .inner) c) boxed in
       let stored′ : store ≡ filledStore Q v c p b leaves (m .store) =
       stored ∙ ap (λ x. filled ((leaves - 1) * cube (g .leaf) + p) (min b (cube (g .leaf) - p))
-      (λ q. plans.at (flatValue words reals parts) (leafPoint x (g .leaf) (q - (leaves - 1) * cube (g .leaf)))) (m .store)) lies′ in
+      (λ q. values.at (flatValue words reals parts) (leafPoint x (g .leaf) (q - (leaves - 1) * cube (g .leaf)))) (m .store)) lies′ in
       subst (λ l. Advanced Q b leaves m (memoryOf (m .kinds) (m .numbers) (m .places) l (m .corners)) (eventsFrom Q (at (point v c p)) (readingIn m))
       (childrenLeft Q v (suc c) (readingIn m)) turn (activeBefore Q v (suc c))) (sym stored′)
       (subst (λ t. Advanced Q b leaves m (memoryOf (m .kinds) (m .numbers) (m .places) (filledStore Q v c p b leaves (m .store)) (m .corners))

@@ -14,7 +14,7 @@ use Rattle.schedule.specs.Memory.{State, state, apply, applyAll}
 use Rattle.lists.specs.Sums.{sumFrom, bit}
 use Rattle.schedule.proofs.Next.{corner-evaluate, corner-skip, point-evaluate}
 use Rattle.sparse_field.specs.Inner.Runs.{Run, runOf}
-use Rattle.sparse_field.specs.Inner.CornerRun.{neededFrom, evaluatedFrom}
+use Rattle.rows.specs.Inner.CornerRun.{neededFrom, evaluatedFrom}
 use Rattle.lists.specs.Filled.{filled}
 
 module _ (P : Plan) where

@@ -31,7 +31,7 @@ use Rattle.sparse_field.specs.declared.Cursor.the-variants.{Corner, Poin
 use Rattle.sparse_field.specs.declared.Stop.{Stop}
 use Rattle.sparse_field.specs.declared.Stop.the-variants.{Through, At}
 use Rattle.schedule.specs.Lent.{memoryOf}
-use Rattle.sparse_field.specs.Inner.CornerRun.{CornerRun, neededFrom, evaluatedFrom}
+use Rattle.rows.specs.Inner.CornerRun.{CornerRun, neededFrom, evaluatedFrom}
 use Rattle.sparse_field.specs.Inner.Runs.{Run, runOf}
 use Rattle.sparse_field.specs.Inner.Progress.{Lent, afterStop, IfThrough, stateIn, Advanced, Ready, readingIn, ChildrenAdvanced, ZeroCorners, NodeAdvanced, leafProgress}
 use Rattle.sparse_field.proofs.RunLaws.{run-work, run-stop, run-corners, run-points, pointsRun, cornersRun}

@@ -2,7 +2,7 @@
 use Prim.Native.Nat.{ℕ, _+_}
 use mathlib.Core.List.{List, map}
 use lib.Ieee.{Float}
-use Rattle.geometry.specs.declared.Vec3.{Vec3}
+use Rattle.geometry.specs.Values.{at}
 use Rattle.geometry.specs.declared.BoundingBox.{BoundingBox}
 use Rattle.model.specs.declared.ImplicitModel.{ImplicitModel}
 use Rattle.model.specs.Part.{partIn}
@@ -28,10 +28,6 @@ decisionOf Leaf = leaf
 -- what a child becomes, by its box and its octet's values (rules G13, G14 and S7)
 unfoldable pub decideOf : Band → BoundingBox → List Float → Decision
 decideOf band b octet = decisionOf (verdictOf (band .min) (band .max) b octet)
-
--- a function's value at a point
-abbrev pub at : (Float → Float → Float → Float) → Vec3 → Float
-at value p = value (p .x) (p .y) (p .z)
 
 -- the box of child c of node v (rules G5 and G6)
 unfoldable pub boxOf : Grid → (v c : ℕ) → BoundingBox

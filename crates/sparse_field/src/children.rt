@@ -8,13 +8,12 @@ ghost use Rattle.grid.specs.Blocks.{cube};
 ghost use Rattle.grid.specs.Boxes.{nodeBox};
 ghost use Rattle.grid.specs.Leaves.{leafPoint};
 ghost use Rattle.schedule.specs.Lent.{held, entered, left};
-ghost use Rattle.sparse_field.specs.Inner.FlatValue.{valueIn};
-ghost use Rattle.sparse_field.specs.Plan.{at};
+ghost use Rattle.rows.specs.Inner.FlatValue.{valueIn};
+ghost use Rattle.geometry.specs.Values.{at};
 ghost use Rattle.sparse_field.specs.Inner.Progress.{planIn, planNow, Sized, Ready, ChildrenAdvanced, leafProgress};
 use crate::Cursor;
 use crate::Progress;
 use crate::Stop;
-use crate::points;
 use geometry::BoundingBox;
 use grid::Band;
 use grid::Grid;
@@ -41,7 +40,7 @@ pub fn fill_leaf(
         (now (store .entry)) ⌝ }
 {
     let points = grid::cube_of(l as usize);
-    points::fill_points(
+    rows::fill_points(
         words,
         reals,
         parts,

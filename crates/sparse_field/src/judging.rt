@@ -20,7 +20,6 @@ use crate::Counts;
 use crate::Cursor;
 use crate::Input;
 use crate::Record;
-use crate::corners::is_needed;
 use crate::kinds::cube_of;
 use crate::kinds::kinds_right;
 use grid::Lengths;
@@ -112,7 +111,7 @@ fn corner_right(input: Input, kinds: &[u8], v: usize, i: usize) -> bool
     let children = cube_of(n);
     let from = v * children;
     let to = from + children;
-    is_needed(n, &kinds[from..to], i)
+    rows::is_needed(n, &kinds[from..to], i)
 }
 
 // Whether a cursor at a point is at one of an active child.

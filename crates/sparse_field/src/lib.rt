@@ -6,12 +6,10 @@ use model::ImplicitModel;
 
 mod calls; // calls.rt: open, step and drop
 mod children; // children.rt: a node's children, decided in order
-mod corners; // corners.rt: a node's needed corners, evaluated in rows
 mod jobs; // jobs.rt: a job's work, and records
 mod judging; // judging.rt: which records are impossible
 mod kinds; // kinds.rt: the kinds of all children, set and compared
 mod nodes; // nodes.rt: node after node, from a cursor on
-mod points; // points.rt: a leaf's points, evaluated in rows
 mod zeroing; // zeroing.rt: slices set to zero
 
 pub use calls::drop;

@@ -17,7 +17,6 @@ use crate::Cursor;
 use crate::Progress;
 use crate::Stop;
 use crate::children;
-use crate::corners;
 use crate::zeroing;
 use geometry::BoundingBox;
 use grid::Band;
@@ -102,7 +101,7 @@ fn node_from_corner(
     let b = grid::node_box(g, v);
     let children = grid::cube_of(n);
     let first = v * children;
-    let end = corners::run_corners(
+    let end = rows::run_corners(
         words,
         reals,
         parts,

@@ -24,7 +24,7 @@ use Rattle.sparse_field.specs.declared.Stop.{Stop}
 use Rattle.sparse_field.specs.declared.Stop.the-variants.{Through, At}
 use Rattle.sparse_field.specs.declared.Cursor.the-variants.{Point}
 use Rattle.sparse_field.specs.Plan.{planWith}
-use Rattle.sparse_field.specs.Inner.FlatValue.{flatValue}
+use Rattle.rows.specs.Inner.FlatValue.{flatValue}
 use Rattle.sparse_field.specs.Inner.Runs.{Run, runOf}
 use Rattle.sparse_field.specs.Records.{cursorIn}
 
