@@ -135,6 +135,17 @@ steps s at =
     record { x = true; y = true; z = true; is = refl }
     record { x = false; y = true; z = true; is = refl }
 
+-- ---- rows and slabs lie within the children
+
+pub row-within : (n j : ℕ) → j < n → j * n + n ≤ n * n
+row-within n j h = omega (arith, mul-le-mul-right n h)
+
+pub slab-within : (n k : ℕ) → k < n → k * n * n + n * n ≤ n * n * n
+slab-within n k h = omega (arith, mul-le-mul-right (n * n) h, mul-assoc k n n, mul-assoc n n n)
+
+pub rows-small : (n k : ℕ) → n ≤ 64 → k ≤ 64 → k * n ≤ 4096
+rows-small n k hn hk = omega (arith, mul-le-mul hk hn)
+
 -- ---- the children around a corner
 
 module _ (n : ℕ) (act : ℕ → Bool) (above : 0 < n) where
@@ -148,7 +159,8 @@ module _ (n : ℕ) (act : ℕ → Bool) (above : 0 < n) where
       let q = c .has in
       let s = steps (n + 1) at (q .at) (omega (arith, q .below, octet-length n (c .child))) in
       let there : indicesOf corner (n + 1) (n + 1) ≡ vec3i (at .i + bit (s .x)) (at .j + bit (s .y)) (at .k + bit (s .z)) =
-      ap (λ m. indicesOf m (n + 1) (n + 1)) (sym (q .is) ∙ s .is) ∙ indices-of-place (n + 1) (n + 1) _ _ _ (step-below (s .x) (w .i-below)) (step-below (s .y) (w .j-below)) in
+      ap (λ m. indicesOf m (n + 1) (n + 1)) (sym (q .is) ∙ s .is)
+      ∙ indices-of-place (n + 1) (n + 1) _ _ _ (step-below (s .x) (w .i-below)) (step-below (s .y) (w .j-below)) in
       subst (λ v. around n act v ≡ true) (sym there)
       (either-at n (λ k. slabHas n act (k * n * n) (at .i + bit (s .x)) (at .j + bit (s .y))) (at .k) (s .z) (w .k-below)
       (either-at n (λ j. rowHas n act (at .k * n * n + j * n) (at .i + bit (s .x))) (at .j) (s .y) (w .j-below)
@@ -160,7 +172,8 @@ module _ (n : ℕ) (act : ℕ → Bool) (above : 0 < n) where
       step-below false h = omega arith
 
   -- and a corner beside an active child is needed
-  around-needed : (v : Vec3i) → v .i ≤ n → v .j ≤ n → v .k ≤ n → around n act v ≡ true → needed n act (placeOf (v .i) (v .j) (v .k) (n + 1) (n + 1)) ≡ true
+  around-needed : (v : Vec3i) → v .i ≤ n → v .j ≤ n → v .k ≤ n → around n act v ≡ true
+      → needed n act (placeOf (v .i) (v .j) (v .k) (n + 1) (n + 1)) ≡ true
   unfolding octet placeOf
   around-needed v hi hj hk e =
       let z = beside n (λ k. slabHas n act (k * n * n) (v .i) (v .j)) (v .k) hk e in
@@ -168,7 +181,8 @@ module _ (n : ℕ) (act : ℕ → Bool) (above : 0 < n) where
       let x = beside n (λ i. act (z .child * n * n + y .child * n + i)) (v .i) hi (y .passes) in
       let at = vec3i (x .child) (y .child) (z .child) in
       let c = placeOf (x .child) (y .child) (z .child) n n in
-      let below : c < cube n = omega (arith, x .below, mul-le-mul-right n (y .below), mul-le-mul-right (n * n) (z .below), mul-assoc (z .child) n n, mul-assoc n n n) in
+      let slabs = slab-within n (z .child) (z .below) in
+      let below : c < cube n = omega (arith, x .below, row-within n (y .child) (y .below), slabs) in
       let number = octetNumber (x .step) (y .step) (z .step) in
       let same : getD (octet n c) number 0 ≡ placeOf (v .i) (v .j) (v .k) (n + 1) (n + 1) =
       ap (λ u. getD (octetPlaces (n + 1) (n + 1) u) number 0) (indices-of-place n n (x .child) (y .child) (z .child) (x .below) (y .below))
@@ -190,14 +204,3 @@ module _ (n : ℕ) (act : ℕ → Bool) (above : 0 < n) where
       agree true b f g = sym (f refl)
       agree false true f g = g refl
       agree false false f g = refl
-
--- ---- rows and slabs lie within the children
-
-pub row-within : (n j : ℕ) → j < n → j * n + n ≤ n * n
-row-within n j h = omega (arith, mul-le-mul-right n h)
-
-pub slab-within : (n k : ℕ) → k < n → k * n * n + n * n ≤ n * n * n
-slab-within n k h = omega (arith, mul-le-mul-right (n * n) h, mul-assoc k n n, mul-assoc n n n)
-
-pub rows-small : (n k : ℕ) → n ≤ 64 → k ≤ 64 → k * n ≤ 4096
-rows-small n k hn hk = omega (arith, mul-le-mul hk hn)

@@ -65,7 +65,8 @@ module _ (value : ℕ → Float) where
   evaluated-written test (suc r) i l = by (test i) (evaluated-written test r (suc i))
     where
       by : (b : Bool) → ((l : List Float) → evaluatedFrom test value r (suc i) l ≡ written value (neededList test r (suc i)) l)
-          → evaluatedFrom test value r (suc i) (cond b (set l i (value i)) l) ≡ written value (cond b (i ∷ neededList test r (suc i)) (neededList test r (suc i))) l
+          → evaluatedFrom test value r (suc i) (cond b (set l i (value i)) l)
+          ≡ written value (cond b (i ∷ neededList test r (suc i)) (neededList test r (suc i))) l
       by true rest = rest (set l i (value i))
       by false rest = rest l
 

@@ -4,5 +4,4 @@ pub mod Axes
 pub mod CornerRun
 pub mod FlatValue
 pub mod Gathered
-pub mod RowLent
 pub mod Written

@@ -1,6 +1,6 @@
 // The corners that a node's active children need, found in ascending order and evaluated in rows.
 ghost use mathlib.Core.Path.{_≡_};
-ghost use Prim.Native.Nat.{ℕ, min, _+_, _*_, _<_, _≤_};
+ghost use Prim.Native.Nat.{ℕ, _+_, _*_, _<_, _≤_};
 ghost use lib.ListN.{length, getD};
 ghost use Rattle.geometry.specs.Values.{vec3i, at};
 ghost use Rattle.grid.specs.Blocks.{cube};
@@ -10,8 +10,8 @@ ghost use Rattle.rows.specs.Inner.Around.{rowHas, slabHas, around};
 ghost use Rattle.rows.specs.Inner.CornerRun.{CornerRun};
 ghost use Rattle.rows.specs.Inner.FlatValue.{valueIn};
 ghost use Rattle.rows.specs.Inner.Gathered.{Gathered};
-ghost use Rattle.rows.specs.Inner.RowLent.{RowLent};
-ghost use Rattle.rows.specs.Inner.Written.{written, scattered};
+ghost use Rattle.rows.specs.Inner.Written.{scattered};
+use crate::budget::allowed;
 use geometry::BoundingBox;
 
 // How many needed corners a search found, and where it ended.
@@ -84,29 +84,14 @@ pub fn is_needed(n: u32, kinds: &[u8], corner: usize) -> bool
     has_child(side, kinds, at.i, at.j, at.k)
 }
 
-// How many evaluations the next row makes of so many that are left.
-pub fn row_length(left: u64) -> usize
-    ensures { λ r. ⌜ r ≡ min left 64 ⌝ }
-{
-    if left < 64 { left as usize } else { 64 }
-}
-
-// How many corners a node of n children along an axis has.
-fn corner_total(n: usize) -> usize
-    requires { ⌜ n ≤ 64 ⌝ }
-    ensures { λ r. ⌜ r ≡ cube (n + 1) ⌝ }
-{
-    (n + 1) * (n + 1) * (n + 1)
-}
-
 // Lists the needed corners from corner i on, at most `most` of them, and runs on to the next needed
 // corner or past the last. The indices go along, so that no corner needs a division.
 fn gather(n: usize, kinds: &[u8], i: usize, most: usize, list: &mut [u32]) -> Found
     requires { ⌜ (0 < n) × (n ≤ 64) × (length (now kinds) ≡ cube n) × (i ≤ cube (n + 1)) × (most ≤ length (now list)) ⌝ }
     ensures { λ r. ⌜ Gathered (needed n (nonzero (now (kinds .entry)))) (cube (n + 1)) i most (r .count) (r .next) (now (list .exit)) ⌝ }
 {
-    let total = corner_total(n);
     let side = n + 1;
+    let total = grid::cube_of(side);
     let mut at = grid::indices(i, side, side);
     let mut corner = i;
     let mut count: usize = 0;
@@ -114,7 +99,7 @@ fn gather(n: usize, kinds: &[u8], i: usize, most: usize, list: &mut [u32]) -> Fo
         if has_child(n, kinds, at.i, at.j, at.k) {
             if count == most {
                 return Found {
-                    count: count,
+                    count,
                     next: corner,
                 };
             }
@@ -125,7 +110,7 @@ fn gather(n: usize, kinds: &[u8], i: usize, most: usize, list: &mut [u32]) -> Fo
         corner += 1;
     }
     Found {
-        count: count,
+        count,
         next: corner,
     }
 }
@@ -144,35 +129,8 @@ fn scatter(places: &[u32], values: &[f64; 64], corners: &mut [f64])
     }
 }
 
-// Evaluates the listed corners of a node, at most 64, and stores each value at its corner. The rows
-// are lent: nothing is made anew for each.
-fn corner_row(
-    words: &[u32; 192],
-    reals: &[f64; 256],
-    parts: usize,
-    b: BoundingBox,
-    n: u32,
-    list: &[u32],
-    xs: &mut [f64; 64],
-    ys: &mut [f64; 64],
-    zs: &mut [f64; 64],
-    values: &mut [f64; 64],
-    scratch: &mut [f64; 4096],
-    corners: &mut [f64],
-)
-    requires { ⌜ (parts ≤ 64) × (length (now list) ≤ 64) × RowLent (now xs) (now ys) (now zs) (now values) ⌝ }
-    requires { ⌜ ((q : ℕ) → q < length (now list) → getD (now list) q 0 < length (now corners)) ⌝ }
-    ensures { λ _. ⌜ RowLent (now (xs .exit)) (now (ys .exit)) (now (zs .exit)) (now (values .exit)) ⌝ }
-    ensures corners { λ _. ⌜ now (corners .exit)
-        ≡ written (λ c. at (valueIn words reals parts) (cornerPoint b n c)) (now (list .entry)) (now (corners .entry)) ⌝ }
-{
-    grid::corner_points(b, n, list, xs, ys, zs);
-    model::evaluate_row_into(words, reals, parts, xs, ys, zs, list.len(), scratch, values);
-    scatter(list, values, corners);
-}
-
 // Evaluates a node's needed corners from corner i on, in ascending order and in rows, while the budget
-// lasts, and runs on to the next needed corner or past the last.
+// lasts, and runs on to the next needed corner or past the last. The rows are made once.
 pub fn run_corners(
     words: &[u32; 192],
     reals: &[f64; 256],
@@ -190,7 +148,7 @@ pub fn run_corners(
         (r .next) (r .left) (now (corners .entry)) (now (corners .exit)) ⌝ }
 {
     let side = n as usize;
-    let total = corner_total(side);
+    let total = grid::cube_of(side + 1);
     let mut list = [0u32; 64];
     let mut xs = [0.0; 64];
     let mut ys = [0.0; 64];
@@ -199,35 +157,28 @@ pub fn run_corners(
     let mut next = i;
     let mut left = budget;
     loop {
-        let found = gather(side, kinds, next, row_length(left), &mut list);
+        let found = gather(side, kinds, next, allowed(left, 64), &mut list);
         let count = found.count;
-        corner_row(
+        grid::corner_points(b, n, &list[..count], &mut xs, &mut ys, &mut zs);
+        model::evaluate_row_into(
             words,
             reals,
             parts,
-            b,
-            n,
-            &list[..count],
-            &mut xs,
-            &mut ys,
-            &mut zs,
-            &mut values,
+            &xs,
+            &ys,
+            &zs,
+            count,
             scratch,
-            corners,
+            &mut values,
         );
+        scatter(&list[..count], &values, corners);
         next = found.next;
         left -= count as u64;
         if next == total {
-            return CornersEnd {
-                next: next,
-                left: left,
-            };
+            return CornersEnd { next, left };
         }
         if left == 0 {
-            return CornersEnd {
-                next: next,
-                left: left,
-            };
+            return CornersEnd { next, left };
         }
     }
 }

@@ -3,38 +3,25 @@ ghost use mathlib.Core.Path.{_≡_};
 ghost use Prim.Native.Nat.{min, _+_, _-_, _<_, _≤_};
 ghost use lib.ListN.{length, getD};
 ghost use Rattle.lists.specs.Filled.{filled};
-ghost use Rattle.geometry.specs.Axis.{along};
 ghost use Rattle.model.specs.Part.{past};
 ghost use Rattle.grid.specs.Blocks.{cube};
 ghost use Rattle.grid.specs.Leaves.{leafPoint};
-ghost use Rattle.rows.specs.Inner.Axes.{axesPoint};
+ghost use Rattle.rows.specs.Inner.Axes.{withAxis, axesPoint};
 ghost use Rattle.rows.specs.Inner.FlatValue.{valueIn};
 ghost use Rattle.geometry.specs.Values.{at};
-ghost use Rattle.rows.specs.Inner.RowLent.{RowLent};
-use crate::corners::row_length;
+use crate::budget::allowed;
 use geometry::BoundingBox;
 
-// How many of a leaf's points a budget makes, where so many are left.
-fn points_made(budget: u64, left: usize) -> usize
-    ensures { λ r. ⌜ r ≡ min budget left ⌝ }
-{
-    if budget < left as u64 {
-        budget as usize
-    } else {
-        left
-    }
-}
-
-// Where the l points of an axis from `least` to `most` stand.
-fn axis_points(least: f64, most: f64, l: u32, places: &mut [f64; 64])
-    requires { ⌜ l ≤ 64 ⌝ }
-    ensures { λ _. ⌜ now (places .exit) ≡ filled 0 l (along least most (l - 1)) (now (places .entry)) ⌝ }
+// Writes where the l points of an axis from `least` to `most` stand, from place `first` on.
+fn axis_points(least: f64, most: f64, l: u32, first: usize, axes: &mut [f64; 192])
+    requires { ⌜ (l ≤ 64) × (first ≤ 128) ⌝ }
+    ensures { λ _. ⌜ now (axes .exit) ≡ withAxis least most l first (now (axes .entry)) ⌝ }
 {
     let step = geometry::step_along(least, most, grid::steps_between(l));
     let count = l as usize;
     let mut i: usize = 0;
     while i < count {
-        places[i] = float::computed(least + float::from_count(i as u64) * step);
+        axes[first + i] = float::computed(least + float::from_count(i as u64) * step);
         i += 1;
     }
 }
@@ -45,20 +32,15 @@ fn place_points(
     l: u32,
     p: usize,
     count: usize,
-    ax: &[f64; 64],
-    ay: &[f64; 64],
-    az: &[f64; 64],
+    axes: &[f64; 192],
     xs: &mut [f64; 64],
     ys: &mut [f64; 64],
     zs: &mut [f64; 64],
 )
     requires { ⌜ (0 < l) × (l ≤ 64) × (count ≤ 64) × (p + count ≤ cube l) ⌝ }
-    ensures xs { λ _. ⌜ now (xs .exit)
-        ≡ filled 0 count (λ q. axesPoint l (now (ax .entry)) (now (ay .entry)) (now (az .entry)) (p + q) .x) (now (xs .entry)) ⌝ }
-    ensures ys { λ _. ⌜ now (ys .exit)
-        ≡ filled 0 count (λ q. axesPoint l (now (ax .entry)) (now (ay .entry)) (now (az .entry)) (p + q) .y) (now (ys .entry)) ⌝ }
-    ensures zs { λ _. ⌜ now (zs .exit)
-        ≡ filled 0 count (λ q. axesPoint l (now (ax .entry)) (now (ay .entry)) (now (az .entry)) (p + q) .z) (now (zs .entry)) ⌝ }
+    ensures xs { λ _. ⌜ now (xs .exit) ≡ filled 0 count (λ q. axesPoint l (now (axes .entry)) (p + q) .x) (now (xs .entry)) ⌝ }
+    ensures ys { λ _. ⌜ now (ys .exit) ≡ filled 0 count (λ q. axesPoint l (now (axes .entry)) (p + q) .y) (now (ys .entry)) ⌝ }
+    ensures zs { λ _. ⌜ now (zs .exit) ≡ filled 0 count (λ q. axesPoint l (now (axes .entry)) (p + q) .z) (now (zs .entry)) ⌝ }
 {
     let side = l as usize;
     let mut at = grid::indices(p, side, side);
@@ -67,9 +49,9 @@ fn place_points(
         let i = at.i;
         let j = at.j;
         let k = at.k;
-        xs[q] = ax[i];
-        ys[q] = ay[j];
-        zs[q] = az[k];
+        xs[q] = axes[i];
+        ys[q] = axes[64 + j];
+        zs[q] = axes[128 + k];
         at = geometry::next_indices(at, side, side);
         q += 1;
     }
@@ -87,87 +69,9 @@ fn copy_row(values: &[f64; 64], count: usize, p: usize, stretch: &mut [f64])
     }
 }
 
-// Evaluates `count` points of a leaf, at most 64, from point p on. The rows are lent: nothing is made
-// anew for each.
-fn point_row(
-    words: &[u32; 192],
-    reals: &[f64; 256],
-    parts: usize,
-    l: u32,
-    p: usize,
-    count: usize,
-    ax: &[f64; 64],
-    ay: &[f64; 64],
-    az: &[f64; 64],
-    xs: &mut [f64; 64],
-    ys: &mut [f64; 64],
-    zs: &mut [f64; 64],
-    values: &mut [f64; 64],
-    scratch: &mut [f64; 4096],
-    stretch: &mut [f64],
-)
-    requires { ⌜ (parts ≤ 64) × (0 < l) × (l ≤ 64) × (count ≤ 64) × (p + count ≤ cube l) × (cube l ≤ length (now stretch))
-        × RowLent (now xs) (now ys) (now zs) (now values) ⌝ }
-    ensures { λ _. ⌜ RowLent (now (xs .exit)) (now (ys .exit)) (now (zs .exit)) (now (values .exit)) ⌝ }
-    ensures stretch { λ _. ⌜ now (stretch .exit)
-        ≡ filled p count (λ q. at (valueIn words reals parts) (axesPoint l (now (ax .entry)) (now (ay .entry)) (now (az .entry)) q))
-        (now (stretch .entry)) ⌝ }
-{
-    place_points(l, p, count, ax, ay, az, xs, ys, zs);
-    model::evaluate_row_into(words, reals, parts, xs, ys, zs, count, scratch, values);
-    copy_row(values, count, p, stretch);
-}
-
-// Evaluates `made` points of a leaf, from point p on, in rows.
-fn fill_rows(
-    words: &[u32; 192],
-    reals: &[f64; 256],
-    parts: usize,
-    l: u32,
-    p: usize,
-    made: usize,
-    ax: &[f64; 64],
-    ay: &[f64; 64],
-    az: &[f64; 64],
-    scratch: &mut [f64; 4096],
-    stretch: &mut [f64],
-)
-    requires { ⌜ (parts ≤ 64) × (0 < l) × (l ≤ 64) × (p + made ≤ cube l) × (cube l ≤ length (now stretch)) ⌝ }
-    ensures { λ _. ⌜ now (stretch .exit)
-        ≡ filled p made (λ q. at (valueIn words reals parts) (axesPoint l (now (ax .entry)) (now (ay .entry)) (now (az .entry)) q))
-        (now (stretch .entry)) ⌝ }
-{
-    let mut xs = [0.0; 64];
-    let mut ys = [0.0; 64];
-    let mut zs = [0.0; 64];
-    let mut values = [0.0; 64];
-    let mut t = 0;
-    while t < made {
-        let count = row_length((made - t) as u64);
-        point_row(
-            words,
-            reals,
-            parts,
-            l,
-            p + t,
-            count,
-            ax,
-            ay,
-            az,
-            &mut xs,
-            &mut ys,
-            &mut zs,
-            &mut values,
-            scratch,
-            stretch,
-        );
-        t += count;
-    }
-}
-
 // Evaluates a leaf's points from point p on, while the budget lasts, into its stretch of the store. The
 // answer is the next point, or how many a leaf has. Where the points of each axis stand is worked out
-// once.
+// once, and the rows are made once.
 pub fn fill_points(
     words: &[u32; 192],
     reals: &[f64; 256],
@@ -184,26 +88,33 @@ pub fn fill_points(
     ensures stretch { λ _. ⌜ now (stretch .exit)
         ≡ filled p (min budget (cube l - p)) (λ q. at (valueIn words reals parts) (leafPoint b l q)) (now (stretch .entry)) ⌝ }
 {
-    let side = l as usize;
-    let made = points_made(budget, side * side * side - p);
-    let mut ax = [0.0; 64];
-    let mut ay = [0.0; 64];
-    let mut az = [0.0; 64];
-    axis_points(b.min.x, b.max.x, l, &mut ax);
-    axis_points(b.min.y, b.max.y, l, &mut ay);
-    axis_points(b.min.z, b.max.z, l, &mut az);
-    fill_rows(
-        words,
-        reals,
-        parts,
-        l,
-        p,
-        made,
-        &ax,
-        &ay,
-        &az,
-        scratch,
-        stretch,
-    );
+    let made = allowed(budget, grid::cube_of(l as usize) - p);
+    let mut axes = [0.0; 192];
+    axis_points(b.min.x, b.max.x, l, 0, &mut axes);
+    axis_points(b.min.y, b.max.y, l, 64, &mut axes);
+    axis_points(b.min.z, b.max.z, l, 128, &mut axes);
+    let mut xs = [0.0; 64];
+    let mut ys = [0.0; 64];
+    let mut zs = [0.0; 64];
+    let mut values = [0.0; 64];
+    let mut t = 0;
+    while t < made {
+        let first = p + t;
+        let count = allowed((made - t) as u64, 64);
+        place_points(l, first, count, &axes, &mut xs, &mut ys, &mut zs);
+        model::evaluate_row_into(
+            words,
+            reals,
+            parts,
+            &xs,
+            &ys,
+            &zs,
+            count,
+            scratch,
+            &mut values,
+        );
+        copy_row(&values, count, first, stretch);
+        t += count;
+    }
     p + made
 }

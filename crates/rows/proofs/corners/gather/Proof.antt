@@ -20,7 +20,7 @@ use Rattle.rows.proofs.corners.gather.Statement.{statement}
 use Rattle.rows.proofs.corners.gather.Tie as tie
 
 abbrev Inv-loop : tie.InvT-loop
-Inv-loop n kinds i most list₀ total side at₀ corner₀ count₀ list at corner count =
+Inv-loop n kinds i most list₀ side total at₀ corner₀ count₀ list at corner count =
     (corner ≤ total)
     × (count ≤ most)
     × (length list ≡ length list₀)
@@ -28,41 +28,44 @@ Inv-loop n kinds i most list₀ total side at₀ corner₀ count₀ list at corn
     × Gathering (needed n (nonzero kinds)) i corner count list
 
 abbrev μ-loop : tie.MeasureT-loop
-μ-loop n kinds i most list₀ total side at₀ corner₀ count₀ list at corner count = total - corner
+μ-loop n kinds i most list₀ side total at₀ corner₀ count₀ list at corner count = total - corner
+
+abbrev start : tie.In-loop Inv-loop μ-loop → tie.Start Inv-loop μ-loop
+start c = c .before .before .before .before .before .before
 
 -- the corner is one of the node's, and its indices are the corner's
-below : (c : tie.In-loop Inv-loop μ-loop) → c .before .loop .corner < cube (c .before .before .before .before .before .before .args .n + 1)
-below c = omega (arith, c .before .before .before .corner-total .ensures)
+below : (c : tie.In-loop Inv-loop μ-loop) → c .before .loop .corner < cube (start c .args .n + 1)
+below c = omega (arith, c .before .before .before .cube-of .ensures)
 
-inside : (c : tie.In-loop Inv-loop μ-loop) → Within (c .before .before .before .before .before .before .args .n + 1) (c .before .loop .at)
+inside : (c : tie.In-loop Inv-loop μ-loop) → Within (start c .args .n + 1) (c .before .loop .at)
 inside c =
     let l = c .before .loop in
-    let side = c .before .before .before .before .before .before .args .n + 1 in
+    let side = start c .args .n + 1 in
     subst (Within side) (sym (l .inv .3)) (within side (l .corner) (omega arith) (below c))
 
 -- what the code tells of a corner is whether it is needed
 tells : (c : tie.After-has-child Inv-loop μ-loop)
-    → c .has-child .result ≡ needed (c .before .before .before .before .before .before .before .args .n) (nonzero (c .before .before .before .before .before .before .before .args .kinds .now)) (c .before .before .loop .corner)
+    → c .has-child .result ≡ needed (start (c .before) .args .n) (nonzero (start (c .before) .args .kinds .now)) (c .before .before .loop .corner)
 tells c =
     let l = c .before .before .loop in
-    let start = c .before .before .before .before .before .before .before in
-    let a = start .args in
+    let s = start (c .before) in
+    let a = s .args in
     c .has-child .ensures
     ∙ ap (around (a .n) (nonzero (a .kinds .now))) (l .inv .3)
-    ∙ needed-is (a .n) (nonzero (a .kinds .now)) (start .pre .0) (l .corner) (below (c .before))
-
-corner-total-requires : tie.Need-corner-total-requires Inv-loop μ-loop
-corner-total-requires c κs = search needs
+    ∙ needed-is (a .n) (nonzero (a .kinds .now)) (s .pre .0) (l .corner) (below (c .before))
 
 add-side : tie.Need-add-side Inv-loop μ-loop
 add-side c = search needs
+
+cube-of-requires : tie.Need-cube-of-requires Inv-loop μ-loop
+cube-of-requires c κs = search needs
 
 indices-requires : tie.Need-indices-requires Inv-loop μ-loop
 indices-requires c κs = search needs
 
 loop-holds : tie.Need-loop-holds Inv-loop μ-loop
 loop-holds c =
-    let total = c .before .corner-total .ensures in
+    let total = c .before .cube-of .ensures in
     (omega arith, omega arith, refl, c .indices .ensures, gathering-none _ _ _)
 
 has-child-requires : tie.Need-has-child-requires Inv-loop μ-loop
@@ -86,8 +89,9 @@ returns c =
 
 cast-list : tie.Need-cast-list Inv-loop μ-loop
 cast-list c =
-    let side : c .before .before .before .before .before .before .before .before .before .args .n + 1 ≤ 65 = omega arith in
-    omega (arith, below (c .before .before .before), mul-le-mul (mul-le-mul side side) side)
+    let t = c .before .before .before in
+    let side : start t .args .n + 1 ≤ 65 = omega arith in
+    omega (arith, below t, mul-le-mul (mul-le-mul side side) side)
 
 mul-list : tie.Need-mul-list Inv-loop μ-loop
 mul-list c = search needs
@@ -115,8 +119,7 @@ loop-again : tie.Need-loop-again Inv-loop μ-loop
 loop-again c =
     let h = c .before .before in
     let l = h .before .before .loop in
-    let start = h .before .before .before .before .before .before .before in
-    let a = start .args in
+    let a = start (h .before) .args in
     let side = a .n + 1 in
     let next =
     c .next-indices .ensures
@@ -145,7 +148,7 @@ same-length-2 c = c .before .loop .inv .2
 returns-2 : tie.Need-returns-2 Inv-loop μ-loop
 returns-2 c =
     let l = c .before .loop in
-    let total = c .before .before .before .corner-total .ensures in
+    let total = c .before .before .before .cube-of .ensures in
     record {
       found = l .inv .4;
       within = omega arith;
@@ -159,8 +162,8 @@ gather-spec =
     (tie.spec
     Inv-loop
     μ-loop
-    corner-total-requires
     add-side
+    cube-of-requires
     indices-requires
     loop-holds
     has-child-requires

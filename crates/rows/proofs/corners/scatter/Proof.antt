@@ -10,7 +10,8 @@ use Rattle.rows.proofs.corners.scatter.Statement.{statement}
 use Rattle.rows.proofs.corners.scatter.Tie as tie
 
 abbrev Inv-loop : tie.InvT-loop
-Inv-loop places values corners₀ q₀ corners q = (q ≤ length places) × (length corners ≡ length corners₀) × (corners ≡ scattered q places values corners₀)
+Inv-loop places values corners₀ q₀ corners q =
+    (q ≤ length places) × (length corners ≡ length corners₀) × (corners ≡ scattered q places values corners₀)
 
 abbrev μ-loop : tie.MeasureT-loop
 μ-loop places values corners₀ q₀ corners q = length places - q

@@ -11,7 +11,8 @@ use Rattle.rows.proofs.points.copy_row.Statement.{statement}
 use Rattle.rows.proofs.points.copy_row.Tie as tie
 
 abbrev Inv-loop : tie.InvT-loop
-Inv-loop values count p stretch₀ t₀ stretch t = (t ≤ count) × (length stretch ≡ length stretch₀) × (stretch ≡ filled p t (λ q. getD values (q - p) past) stretch₀)
+Inv-loop values count p stretch₀ t₀ stretch t =
+    (t ≤ count) × (length stretch ≡ length stretch₀) × (stretch ≡ filled p t (λ q. getD values (q - p) past) stretch₀)
 
 abbrev μ-loop : tie.MeasureT-loop
 μ-loop values count p stretch₀ t₀ stretch t = count - t
@@ -45,7 +46,9 @@ loop-again c =
     let s = c .before .before .loop in
     let a = c .before .before .before .args in
     let here : s .t ≡ a .p + s .t - a .p = omega arith in
-    let next = filled-store (a .p) (s .t) (λ q. getD (a .values .now) (q - a .p) past) (a .stretch .now) (s .inv .2) (ap (λ m. getD (a .values .now) m past) here) in
+    let next =
+    filled-store (a .p) (s .t) (λ q. getD (a .values .now) (q - a .p) past) (a .stretch .now) (s .inv .2)
+    (ap (λ m. getD (a .values .now) m past) here) in
     (search needs, ap length next ∙ filled-length _ _ _ _, next)
 
 same-length : tie.Need-same-length Inv-loop μ-loop

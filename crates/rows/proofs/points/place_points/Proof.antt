@@ -1,9 +1,10 @@
 -- `place_points` meets its contract: the places passed hold their points, and the indices are those of the next one.
 use mathlib.Core.Path.{_≡_, sym, ap, _∙_, subst}
-use Prim.Native.Nat.{_+_, _-_, _≤_}
+use Prim.Native.Nat.{ℕ, _+_, _-_, _≤_}
 use native.Mathlib.Nat.{add-zero, add-assoc}
 use native.Mathlib.Omega.{arith}
 use lib.ListN.{getD}
+use Rattle.geometry.specs.declared.Vec3.{Vec3}
 use Rattle.geometry.specs.Index.{indicesOf, nextIndices}
 use Rattle.lists.specs.Filled.{filled}
 use Rattle.lists.proofs.Filling.{filled-none, front-store, filled-done}
@@ -16,15 +17,15 @@ use Rattle.rows.proofs.points.place_points.Statement.{statement}
 use Rattle.rows.proofs.points.place_points.Tie as tie
 
 abbrev Inv-loop : tie.InvT-loop
-Inv-loop l p count ax ay az xs₀ ys₀ zs₀ side at₀ q₀ xs ys zs at q =
+Inv-loop l p count axes xs₀ ys₀ zs₀ side at₀ q₀ xs ys zs at q =
     (q ≤ count)
     × (at ≡ indicesOf (p + q) side side)
-    × (xs ≡ filled 0 q (λ q. axesPoint l ax ay az (p + q) .x) xs₀)
-    × (ys ≡ filled 0 q (λ q. axesPoint l ax ay az (p + q) .y) ys₀)
-    × (zs ≡ filled 0 q (λ q. axesPoint l ax ay az (p + q) .z) zs₀)
+    × (xs ≡ filled 0 q (λ q. axesPoint l axes (p + q) .x) xs₀)
+    × (ys ≡ filled 0 q (λ q. axesPoint l axes (p + q) .y) ys₀)
+    × (zs ≡ filled 0 q (λ q. axesPoint l axes (p + q) .z) zs₀)
 
 abbrev μ-loop : tie.MeasureT-loop
-μ-loop l p count ax ay az xs₀ ys₀ zs₀ side at₀ q₀ xs ys zs at q = count - q
+μ-loop l p count axes xs₀ ys₀ zs₀ side at₀ q₀ xs ys zs at q = count - q
 
 -- the indices are a point's of the leaf
 inside : (c : tie.In-loop Inv-loop μ-loop) → Within (c .before .before .before .args .l) (c .before .loop .at)
@@ -40,7 +41,8 @@ indices-requires c κs = search needs
 loop-holds : tie.Need-loop-holds Inv-loop μ-loop
 loop-holds c =
     let a = c .before .args in
-    (search needs, c .indices .ensures ∙ ap (λ m. indicesOf m (a .l) (a .l)) (sym (add-zero _)), sym (filled-none _ _ _), sym (filled-none _ _ _), sym (filled-none _ _ _))
+    let at-first = c .indices .ensures ∙ ap (λ m. indicesOf m (a .l) (a .l)) (sym (add-zero _)) in
+    (search needs, at-first, sym (filled-none _ _ _), sym (filled-none _ _ _), sym (filled-none _ _ _))
 
 mul-xs : tie.Need-mul-xs Inv-loop μ-loop
 mul-xs c = omega (arith, inside c .i-below, c .before .before .before .pre .1)
@@ -54,6 +56,9 @@ mul-xs-2 c = search needs
 element-write-xs : tie.Need-element-write-xs Inv-loop μ-loop
 element-write-xs c = search needs
 
+add-ys : tie.Need-add-ys Inv-loop μ-loop
+add-ys c = omega (arith, inside (c .before) .j-below, c .before .before .before .before .pre .1)
+
 mul-ys : tie.Need-mul-ys Inv-loop μ-loop
 mul-ys c = omega (arith, inside (c .before) .j-below, c .before .before .before .before .pre .1)
 
@@ -65,6 +70,9 @@ mul-ys-2 c = search needs
 
 element-write-ys : tie.Need-element-write-ys Inv-loop μ-loop
 element-write-ys c = search needs
+
+add-zs : tie.Need-add-zs Inv-loop μ-loop
+add-zs c = omega (arith, inside (c .before .before) .k-below, c .before .before .before .before .before .pre .1)
 
 mul-zs : tie.Need-mul-zs Inv-loop μ-loop
 mul-zs c = omega (arith, inside (c .before .before) .k-below, c .before .before .before .before .before .pre .1)
@@ -98,15 +106,16 @@ loop-again c =
     let start = t .before .before .before in
     let a = start .args in
     let q = l .q in
-    let inv = l .inv in (
+    let inv = l .inv in
+    let point : ℕ → Vec3 = λ q. axesPoint (a .l) (a .axes .now) (a .p + q) in (
       omega (arith, t .loop-test .taken),
       c .next-indices .ensures
           ∙ ap (λ v. nextIndices v (a .l) (a .l)) (inv .1)
           ∙ next-of (a .l) (a .l) (start .pre .0) (start .pre .0) (a .p + q)
           ∙ ap (λ m. indicesOf m (a .l) (a .l)) (add-assoc (a .p) q 1),
-      front-store q (λ q. axesPoint (a .l) (a .ax .now) (a .ay .now) (a .az .now) (a .p + q) .x) (a .xs .now) (inv .2) (ap (λ v. getD (a .ax .now) (v .i) past) (inv .1)),
-      front-store q (λ q. axesPoint (a .l) (a .ax .now) (a .ay .now) (a .az .now) (a .p + q) .y) (a .ys .now) (inv .3) (ap (λ v. getD (a .ay .now) (v .j) past) (inv .1)),
-      front-store q (λ q. axesPoint (a .l) (a .ax .now) (a .ay .now) (a .az .now) (a .p + q) .z) (a .zs .now) (inv .4) (ap (λ v. getD (a .az .now) (v .k) past) (inv .1)),
+      front-store q (λ q. point q .x) (a .xs .now) (inv .2) (ap (λ v. getD (a .axes .now) (v .i) past) (inv .1)),
+      front-store q (λ q. point q .y) (a .ys .now) (inv .3) (ap (λ v. getD (a .axes .now) (64 + v .j) past) (inv .1)),
+      front-store q (λ q. point q .z) (a .zs .now) (inv .4) (ap (λ v. getD (a .axes .now) (128 + v .k) past) (inv .1)),
     )
 
 returns : tie.Need-returns Inv-loop μ-loop
@@ -126,10 +135,12 @@ place-points-spec =
     element-copy-out-xs
     mul-xs-2
     element-write-xs
+    add-ys
     mul-ys
     element-copy-out-ys
     mul-ys-2
     element-write-ys
+    add-zs
     mul-zs
     element-copy-out-zs
     mul-zs-2
