@@ -34,7 +34,7 @@ use Rattle.schedule.specs.declared.Cursor.the-variants.{Point}
 use Rattle.engine.specs.declared.Stop.the-variants.{Through, At}
 use Rattle.schedule.specs.Lent.{memoryOf}
 use Rattle.rows.specs.Inner.FlatValue.{flatValue}
-use Rattle.plans.specs.Plan.{decideOf, boxOf, planWith}
+use Rattle.plans.specs.Plan.{decideBy, boxOf, planWith}
 use Rattle.geometry.specs.Values.{at}
 use Rattle.engine.specs.Inner.Progress.{plan, Sized, Ready, readingIn, ChildrenAdvanced, leafProgress}
 use Rattle.engine.proofs.Turns.{progress, turn-active, turn-skip, turn-constant, turn-leaf, filledStore}
@@ -71,10 +71,10 @@ pub place-few : (g : Grid) (v c : ℕ) → Sized g → v < nodesOf g → c < cub
 place-few g v c sized hv hc = omega (arith, mul-le-mul-right (cube (g .inner)) hv, sized .children)
 
 -- there are few active children
-pub active-few : (g : Grid) (band : Band) (value : Float → Float → Float → Float) → Sized g → activeAll (planWith g band value) ≤ 16777216
+pub active-few : (g : Grid) (band : Band) (value : Float → Float → Float → Float) → Sized g → activeAll (planWith g (decideBy band) value) ≤ 16777216
 unfolding planWith countAll
 active-few g band value sized =
-    let P : Plan = planWith g band value in
+    let P : Plan = planWith g (decideBy band) value in
     omega (
       arith,
       sized .children,
@@ -123,7 +123,7 @@ module _ (g : Grid) (band : Band) (words : List ℕ) (reals : List Float) (parts
 
     -- the plan's decision is the verdict
     decided : P .decide v c (readingIn m) ≡ verdict
-    unfolding planWith decideOf boxOf octetValues
+    unfolding planWith decideBy boxOf octetValues
     decided = ap (sym (judged ∙ ap₂ (verdictOf (band .min) (band .max)) lies-in read))
 
     -- a child that becomes a constant

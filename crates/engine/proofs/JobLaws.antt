@@ -18,7 +18,7 @@ use Rattle.schedule.specs.Totals.{activeAll}
 use Rattle.input.specs.declared.Input.{Input}
 use Rattle.engine.specs.declared.Progress.{Progress}
 use Rattle.rows.specs.Inner.FlatValue.{flatValue}
-use Rattle.plans.specs.Plan.{planWith, planOf, valueOf}
+use Rattle.plans.specs.Plan.{planWith, planOf, valueOf, decideBy}
 use Rattle.engine.specs.Inner.Progress.{plan, Advanced, readingIn}
 
 module _ (i : Input) (words : List ℕ) (reals : List Float) (passed : refusedByFour (i .model) ≡ false) (long : length (i .model .parts) ≡ 64)
@@ -32,7 +32,7 @@ module _ (i : Input) (words : List ℕ) (reals : List Float) (passed : refusedBy
 
   -- so they give the input's plan
   pub same-plan : planOf i ≡ plan (i .grid) (i .band) words reals (i .model .count)
-  same-plan = ap (planWith (i .grid) (i .band)) (fun-ext (λ x. fun-ext (λ y. fun-ext (λ z. same-value x y z))))
+  same-plan = ap (planWith (i .grid) (decideBy (i .band))) (fun-ext (λ x. fun-ext (λ y. fun-ext (λ z. same-value x y z))))
 
 -- what a plan comes to is what the same plan comes to
 pub with-plan : (P Q : Plan) (b leaves : ℕ) (a : Cursor) (m : Memory) {m₁ : Memory} {r : Progress} → P ≡ Q

@@ -19,13 +19,12 @@ use Rattle.grid.specs.Boxes.{active, nodeBox, childBox}
 use Rattle.grid.specs.Leaves.{leafPoint}
 use Rattle.grid.specs.Corners as corners
 use Rattle.grid.specs.CornerList as kinds
-use Rattle.grid.proofs.Needing.{needed-below}
 use Rattle.grid.proofs.BlockLaws.{cube-le}
 use Rattle.lists.specs.Filled.{filled}
-use Rattle.schedule.specs.Schedule.{Event, corner, point, evaluate, zeros}
+use Rattle.schedule.specs.Schedule.{Event, corner}
 use Rattle.schedule.specs.Plan.{Plan}
-use Rattle.schedule.specs.Resume.{at, eventsFrom, childrenLeft, nodesLeft}
-use Rattle.schedule.specs.Memory.{Memory, State}
+use Rattle.schedule.specs.Resume.{eventsFrom, childrenLeft, nodesLeft}
+use Rattle.schedule.specs.Memory.{Memory}
 use Rattle.schedule.specs.Totals.{activeBefore, activeAll}
 use Rattle.schedule.specs.PlanLaws.{PlanLaws}
 use Rattle.schedule.specs.Opened.{ActiveKinds}
@@ -38,7 +37,7 @@ use Rattle.engine.specs.declared.Stop.the-variants.{Through, At}
 use Rattle.schedule.specs.Lent.{memoryOf}
 use Rattle.rows.specs.Inner.CornerRun.{CornerRun, neededFrom, evaluatedFrom}
 use Rattle.geometry.specs.Values as values
-use Rattle.plans.specs.Plan.{planWith, boxOf}
+use Rattle.plans.specs.Plan.{planWith, boxOf, decideBy}
 use Rattle.engine.specs.Inner.Runs.{runOf}
 use Rattle.rows.specs.Inner.FlatValue.{flatValue}
 use Rattle.engine.specs.Inner.Progress.{plan, Sized, Lent, afterStop, IfThrough, stateIn, Advanced, Ready, readingIn, ZeroCorners, NodeAdvanced, Turned, Onward, leafProgress}
@@ -48,16 +47,16 @@ use Rattle.engine.proofs.Turns.{progress, stopped, advanced-start, adva
 
 -- ---- the kinds of one node
 
-module _ (g : Grid) (band : Band) (value : Float → Float → Float → Float) (l : List ℕ) (right : ActiveKinds (planWith g band value) l)
+module _ (g : Grid) (band : Band) (value : Float → Float → Float → Float) (l : List ℕ) (right : ActiveKinds (planWith g (decideBy band) value) l)
     (long : nodesOf g * cube (g .inner) ≤ length l) (v : ℕ) (below : v < nodesOf g) {first d : ℕ} (from : first ≡ v * cube (g .inner)) (size : d ≡ cube (g .inner)) where
   -- the run over the corners that one node's part needs is the plan's
   pub plan-corners : {box : BoundingBox} {i b next left : ℕ} {before after : List Float} → box ≡ nodeBox g v
       → CornerRun (corners.needed (g .inner) (kinds.nonzero (take d (drop first l)))) (λ i. values.at value (corners.cornerPoint box (g .inner) i))
       (cube (g .inner + 1)) i b next left before after
-      → CornerRun (planWith g band value .needed v) (planWith g band value .cornerValue v) (planWith g band value .corners) i b next left before after
+      → CornerRun (planWith g (decideBy band) value .needed v) (planWith g (decideBy band) value .cornerValue v) (planWith g (decideBy band) value .corners) i b next left before after
   unfolding planWith
   plan-corners {box} {i} {b} {next} {left} {before} {after} boxed run =
-      subst (λ test. CornerRun test (planWith g band value .cornerValue v) (cube (g .inner + 1)) i b next left before after) (fun-ext (part-needed g band value l right long v below from size))
+      subst (λ test. CornerRun test (planWith g (decideBy band) value .cornerValue v) (cube (g .inner + 1)) i b next left before after) (fun-ext (part-needed g (decideBy band) value l right long v below from size))
       (subst (λ x. CornerRun (corners.needed (g .inner) (kinds.nonzero (take d (drop first l)))) (λ i. values.at value (corners.cornerPoint x (g .inner) i))
       (cube (g .inner + 1)) i b next left before after) boxed run)
 

@@ -8,9 +8,8 @@ use lib.ListN.{set, length, length-set}
 use lib.Ieee.{Float}
 use Rattle.schedule.specs.Schedule.{Event, Work, Site, corner, point, evaluate, work}
 use Rattle.schedule.specs.Plan.{Plan}
-use Rattle.schedule.specs.declared.Cursor.{Cursor}
 use Rattle.schedule.specs.declared.Cursor.the-variants.{End, Corner, Point}
-use Rattle.schedule.specs.Resume.{at, cursorOf, eventsFrom, reading}
+use Rattle.schedule.specs.Resume.{cursorOf, eventsFrom, reading}
 use Rattle.schedule.specs.Split.{split, evaluations}
 use Rattle.schedule.specs.Memory.{State, state, apply, applyAll}
 use Rattle.lists.specs.Sums.{sumFrom, bit}

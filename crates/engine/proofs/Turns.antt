@@ -13,30 +13,27 @@ use borrow.Author.Tests.{ltb-true, ltb-false}
 use Rattle.float.specs.Zero.{plusZero}
 use Rattle.lists.specs.Filled.{filled}
 use Rattle.lists.proofs.Filling.{filled-length}
-use Rattle.schedule.specs.Schedule.{Site, Event, corner, point, evaluate, work, makeConstant, makeLeaf, clearCorners, zeros}
+use Rattle.schedule.specs.Schedule.{Site, Event, point, evaluate, makeConstant, makeLeaf, clearCorners}
 use Rattle.schedule.specs.Plan.{Plan}
 use Rattle.grid.specs.declared.Verdict.the-variants.{Constant, Leaf}
-use Rattle.schedule.specs.Resume.{at, eventsFrom, childrenLeft, nodesLeft}
+use Rattle.schedule.specs.Resume.{eventsFrom, childrenLeft, nodesLeft}
 use Rattle.schedule.specs.Memory.{Memory, State, apply}
-use Rattle.schedule.specs.Totals.{activeBefore, activeAll}
+use Rattle.schedule.specs.Totals.{activeBefore}
 use Rattle.lists.specs.Sums.{bit}
-use Rattle.schedule.specs.PlanLaws.{PlanLaws}
 use Rattle.lists.specs.Flags.{nonzero}
-use Rattle.schedule.specs.Opened.{activeAt}
 use Rattle.schedule.proofs.Sums.{before-next, before-node}
-use Rattle.schedule.proofs.Next.{corner-evaluate, corner-last, child-skip, child-constant, child-leaf, child-last, point-evaluate, point-last}
+use Rattle.schedule.proofs.Next.{child-skip, child-constant, child-leaf, child-last, point-evaluate, point-last}
 use Rattle.schedule.proofs.Activity.{active-at, set-active}
 use Rattle.schedule.proofs.StopFacts.{getD-equal}
 use Rattle.engine.specs.declared.Progress.{Progress}
 use Rattle.schedule.specs.declared.Cursor.{Cursor}
-use Rattle.schedule.specs.declared.Cursor.the-variants.{Corner, Point}
+use Rattle.schedule.specs.declared.Cursor.the-variants.{Point}
 use Rattle.engine.specs.declared.Stop.{Stop}
 use Rattle.engine.specs.declared.Stop.the-variants.{Through, At}
 use Rattle.schedule.specs.Lent.{memoryOf}
-use Rattle.rows.specs.Inner.CornerRun.{CornerRun, neededFrom, evaluatedFrom}
-use Rattle.engine.specs.Inner.Runs.{Run, runOf}
-use Rattle.engine.specs.Inner.Progress.{Lent, afterStop, IfThrough, stateIn, Advanced, Ready, readingIn, ChildrenAdvanced, ZeroCorners, NodeAdvanced, leafProgress}
-use Rattle.engine.proofs.RunLaws.{run-work, run-stop, run-corners, run-points, pointsRun, cornersRun}
+use Rattle.engine.specs.Inner.Runs.{runOf}
+use Rattle.engine.specs.Inner.Progress.{Lent, afterStop, IfThrough, stateIn, Advanced, Ready, readingIn, ChildrenAdvanced, NodeAdvanced, leafProgress}
+use Rattle.engine.proofs.RunLaws.{run-work, run-stop, run-points}
 
 -- progress by its parts
 abbrev pub progress : ℕ → ℕ → Stop → Progress

@@ -11,11 +11,11 @@ ghost use Rattle.schedule.specs.Lent.{held, entered, left};
 ghost use Rattle.rows.specs.Inner.FlatValue.{valueIn};
 ghost use Rattle.geometry.specs.Values.{at};
 ghost use Rattle.engine.specs.Inner.Progress.{planIn, planNow, Sized, Ready, ChildrenAdvanced, leafProgress};
-use crate::Cursor;
 use crate::Progress;
 use crate::Stop;
 use geometry::BoundingBox;
 use input::Band;
+use schedule::Cursor;
 use grid::Grid;
 use grid::Verdict;
 

@@ -6,19 +6,17 @@ ghost use Prim.Native.Nat.{_+_, suc, _≤_, _<_};
 ghost use Rattle.grid.specs.Blocks.{cube};
 ghost use Rattle.grid.specs.Boxes.{nodeBox};
 ghost use Rattle.grid.specs.Nodes.{nodesOf};
-ghost use Rattle.schedule.specs.Schedule.{corner, point};
-ghost use Rattle.schedule.specs.Resume.{eventsFrom, childrenLeft, nodesLeft, at};
+ghost use Rattle.schedule.specs.Resume.{eventsFrom, childrenLeft, nodesLeft};
 ghost use Rattle.schedule.specs.Totals.{activeBefore, activeAll};
 ghost use Rattle.schedule.specs.Lent.{held, entered, left};
 ghost use Rattle.engine.specs.Inner.Startable.{Startable};
 ghost use Rattle.engine.specs.Inner.Progress.{planIn, planNow, Sized, Lent, Ready, Advanced, NodeAdvanced, Turned, Onward, ZeroCorners, readingIn};
-use crate::Cursor;
 use crate::Progress;
 use crate::Stop;
 use crate::children;
-use crate::zeroing;
 use geometry::BoundingBox;
 use input::Band;
+use schedule::Cursor;
 use grid::Grid;
 
 // The rest of node v, which has the box b, from child `first` on. Its corners are cleared at its end.
@@ -68,7 +66,7 @@ fn rest_of_node(
     if let Stop::At(_) = stop {
         return turn;
     }
-    zeroing::zero_floats(corners);
+    slices::zero_floats(corners);
     turn
 }
 

@@ -12,44 +12,26 @@ use lib.Seq.{getD-take, length-take-le}
 use lib.Ieee.{Float}
 use borrow.Author.Tests.{eq-eqb, ne-eqb, eqb-true, eqb-false, lt-ltb, le-ltb, ltb-true, ltb-false, not-false}
 use Rattle.schedule.specs.declared.Cursor.the-variants.{Corner, Point}
-use Rattle.lists.proofs.Tests.{or-left, or-right, and-left, and-right}
-use Rattle.model.specs.declared.ImplicitModel.{ImplicitModel}
+use Rattle.lists.proofs.Tests.{and-left, and-right}
 use Rattle.grid.specs.declared.Grid.{Grid}
-use Rattle.input.specs.declared.Band.{Band}
-use Rattle.input.specs.declared.Lengths.{Lengths}
-use Rattle.input.specs.declared.Refusal.{Refusal}
-use Rattle.input.specs.declared.Refusal.the-variants.{None, By}
-use Rattle.grid.specs.Ranges.{countBelow}
 use Rattle.grid.specs.Blocks.{cube}
 use Rattle.grid.specs.Nodes.{nodesOf}
 use Rattle.grid.specs.Boxes.{active}
 use Rattle.grid.specs.Counting as counting
-use Rattle.grid.specs.Limits.{refusedByTwo, refusedByFive, childrenOf}
-use Rattle.input.specs.Causes.{refusalOf, numberOf}
-use Rattle.grid.proofs.BlockLaws.{cube-le}
-use Rattle.input.proofs.Clear.{Clear, clear, number-above}
-use Rattle.grid.proofs.LimitLaws.{inner-block, leaf-block, few-children}
-use Rattle.schedule.specs.Schedule.{corner, point}
 use Rattle.schedule.specs.Plan.{Plan}
 use Rattle.schedule.specs.declared.Cursor.{Cursor}
-use Rattle.schedule.specs.Resume.{at}
 use Rattle.lists.specs.Sums.{sumFrom, sumBelow, bit}
-use Rattle.schedule.specs.Totals.{countOf, countBefore, countAll, activeBefore, activeAll, activeUpTo, evaluationsBound}
+use Rattle.schedule.specs.Totals.{countBefore, activeBefore, activeAll, activeUpTo}
 use Rattle.schedule.specs.Opened.{activeAt, ActiveKinds}
 use Rattle.lists.specs.Flags.{nonzero}
 use Rattle.schedule.specs.Counts.{countsWith, sameCounts}
-use Rattle.schedule.specs.Possible.{sameLengths, sameActive, validCursor, insideChild, impossible}
+use Rattle.schedule.specs.Possible.{validCursor}
 use Rattle.lists.proofs.Sums.{sumBelow-snoc}
 use Rattle.schedule.proofs.Sums.{before-next, before-node}
 use Rattle.schedule.proofs.Activity.{active-at}
-use Rattle.input.specs.declared.Input.{Input}
 use Rattle.schedule.specs.declared.Counts.{Counts}
-use Rattle.sparse_field.specs.declared.Record.{Record}
-use Rattle.plans.specs.Plan.{planWith, planOf}
-use Rattle.sparse_field.specs.Records.{jobIn}
-use Rattle.plans.specs.Sparse.{sparse}
-use Rattle.schedule.specs.Lent.{memoryOf}
-use Rattle.judging.specs.Inner.Judged.{countNonzero, RightKinds, wrongProgress}
+use Rattle.plans.specs.Plan.{planWith}
+use Rattle.judging.specs.Inner.Judged.{countNonzero, RightKinds}
 use Rattle.lists.proofs.Flags.{nonzero-true}
 
 -- ---- products and quotients

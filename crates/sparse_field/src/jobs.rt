@@ -30,49 +30,6 @@ use model::ImplicitModel;
 use model::ModelComponent;
 use model::Part;
 
-// What is left of an input's job from a cursor on, while the budget lasts. The model's parts are laid
-// out once.
-pub fn run_job(
-    input: Input,
-    cursor: Cursor,
-    leaves: u64,
-    budget: u64,
-    kinds: &mut [u8],
-    numbers: &mut [f64],
-    places: &mut [u32],
-    store: &mut [f64],
-    corners: &mut [f64],
-) -> Progress
-    requires { ⌜ Sized (input .grid) × (refusedByFour (input .model) ≡ false) ⌝ }
-    requires { ⌜ Lent (planOf input) (held kinds numbers places store corners)
-        × Startable (planOf input) cursor leaves × (leaves ≤ activeAll (planOf input)) ⌝ }
-    ensures { λ r. ⌜ Advanced (planOf input) budget leaves (entered kinds numbers places store corners) (left kinds numbers places store corners)
-        (eventsFrom (planOf input) cursor (readingIn (entered kinds numbers places store corners))) [] r (activeAll (planOf input)) ⌝ }
-{
-    let model = input.model;
-    let mut words = [0u32; 192];
-    let mut reals = [0.0; 256];
-    let mut scratch = [0.0; 4096];
-    model::lay_out(model, &mut words, &mut reals);
-    let parts = model.count as usize;
-    nodes::run_from(
-        input.grid,
-        input.band,
-        &words,
-        &reals,
-        parts,
-        cursor,
-        leaves,
-        budget,
-        &mut scratch,
-        kinds,
-        numbers,
-        places,
-        store,
-        corners,
-    )
-}
-
 // The lengths of five slices.
 pub fn lengths_of(
     kinds: &[u8],

@@ -23,13 +23,13 @@ use Rattle.engine.specs.declared.Progress.{Progress}
 use Rattle.engine.specs.declared.Stop.{Stop}
 use Rattle.engine.specs.declared.Stop.the-variants.{Through, At}
 use Rattle.schedule.specs.declared.Cursor.the-variants.{Point}
-use Rattle.plans.specs.Plan.{planWith}
+use Rattle.plans.specs.Plan.{planWith, decideBy}
 use Rattle.rows.specs.Inner.FlatValue.{flatValue}
 use Rattle.engine.specs.Inner.Runs.{Run, runOf}
 
 -- the plan that the engine's functions work on: a grid, a band, and the flat arrays of a model
 abbrev pub plan : Grid → Band → (words : List ℕ) (reals : List Float) (parts : ℕ) → Plan
-plan g band words reals parts = planWith g band (flatValue words reals parts)
+plan g band words reals parts = planWith g (decideBy band) (flatValue words reals parts)
 
 -- the same of arrays that are lent: in what a function requires, and in what it ensures
 abbrev pub planNow : Grid → Band → Slice ℕ → Slice Float → (parts : ℕ) → Plan

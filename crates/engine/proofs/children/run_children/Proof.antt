@@ -6,9 +6,8 @@ use native.Mathlib.Omega.{arith}
 use lib.ListN.{length}
 use borrow.Author.Needs.{needs}
 use Rattle.grid.specs.Blocks.{cube}
-use Rattle.engine.specs.declared.Stop.the-variants.{Through, At}
+use Rattle.engine.specs.declared.Stop.the-variants.{Through}
 use Rattle.schedule.specs.Lent.{memoryOf}
-use Rattle.plans.specs.Plan.{planWith}
 use Rattle.engine.specs.Inner.Progress.{plan, ChildrenAdvanced}
 use Rattle.engine.proofs.Turns.{progress, advanced-start, advanced-through, advanced-then, advanced-stopped, children-upto}
 use Rattle.engine.proofs.children.run_children.Statement.{statement}

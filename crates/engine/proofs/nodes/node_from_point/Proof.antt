@@ -4,7 +4,6 @@ use mathlib.Core.Path.{_≡_, refl, sym, ap, subst, _∙_}
 use native.Mathlib.Numerals.{add-one}
 use native.Mathlib.Omega.{arith}
 use lib.ListN.{length}
-use Rattle.grid.specs.Blocks.{cube}
 use Rattle.grid.specs.Nodes.{nodesOf}
 use Rattle.grid.proofs.BlockLaws.{cube-le}
 use mathlib.Core.List.{List}
@@ -17,7 +16,7 @@ use Rattle.engine.specs.declared.Progress.{Progress}
 use Rattle.schedule.specs.Totals.{activeBefore}
 use Rattle.schedule.specs.Lent.{memoryOf}
 use Rattle.plans.specs.Plan.{planWith}
-use Rattle.engine.specs.Inner.Progress.{plan, Advanced, readingIn}
+use Rattle.engine.specs.Inner.Progress.{plan, Advanced}
 use Rattle.engine.proofs.Turns.{advanced-then, came-through, node-stopped}
 use Rattle.engine.proofs.NodeLaws.{leaves-inside, node-points}
 use borrow.Author.Needs.{needs}

@@ -7,11 +7,9 @@ use native.Mathlib.Omega.{arith}
 use lib.ListN.{length}
 use borrow.Author.Needs.{needs}
 use Rattle.grid.specs.Nodes.{nodesOf}
-use Rattle.schedule.specs.Plan.{Plan}
 use Rattle.schedule.specs.Resume.{nodesLeft}
-use Rattle.schedule.specs.Memory.{Memory}
 use Rattle.schedule.specs.Totals.{activeBefore}
-use Rattle.engine.specs.declared.Stop.the-variants.{Through, At}
+use Rattle.engine.specs.declared.Stop.the-variants.{Through}
 use Rattle.schedule.specs.Lent.{memoryOf}
 use Rattle.plans.specs.Plan.{planWith}
 use Rattle.engine.specs.Inner.Progress.{plan, Advanced, ZeroCorners}

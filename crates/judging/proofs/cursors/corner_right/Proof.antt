@@ -6,7 +6,6 @@ use lib.ListN.{length, take, drop, length-take, length-drop}
 use Rattle.grid.specs.Blocks.{cube}
 use Rattle.grid.specs.Nodes.{nodesOf}
 use Rattle.grid.proofs.LimitLaws.{inner-block, few-nodes, nodes-few}
-use Rattle.lists.specs.Flags.{nonzero}
 use Rattle.lists.proofs.Flags.{row-below}
 use Rattle.plans.proofs.NodeKinds.{part-needed}
 use Rattle.judging.proofs.Judgement.{corner-node, corner-place, corner-needed}

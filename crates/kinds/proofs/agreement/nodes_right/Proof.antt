@@ -28,13 +28,13 @@ cube-of-requires c κs = search needs
 
 loop-holds : tie.Need-loop-holds Inv-loop μ-loop
 loop-holds c =
-    let a = c .before .before .args in
+    let a = c .before .before .before .args in
     (search needs, rw (zero-mul (c .cube-of .result)) (agrees-none (inRows (c .cube-of .result) (active (a .g))) (a .kinds .now)))
 
 mul-from : tie.Need-mul-from Inv-loop μ-loop
 mul-from c =
     let b = c .before in
-    let a = b .before .before .before .args in
+    let a = b .before .before .before .before .args in
     let l = b .loop in
     let n = b .before .cube-of .result in
     let below : l .v * n + n ≤ a .nodes * n = row-below n (l .v) (a .nodes) (omega arith) in
@@ -45,7 +45,7 @@ mul-from c =
 add-to : tie.Need-add-to Inv-loop μ-loop
 add-to c =
     let b = c .before in
-    let a = b .before .before .before .args in
+    let a = b .before .before .before .before .args in
     let l = b .loop in
     let n = b .before .cube-of .result in
     let below : l .v * n + n ≤ a .nodes * n = row-below n (l .v) (a .nodes) (omega arith) in
@@ -62,7 +62,7 @@ part-node-right-start c = search needs
 part-node-right-end : tie.Need-part-node-right-end Inv-loop μ-loop
 part-node-right-end c =
     let b = c .before in
-    let a = b .before .before .before .args in
+    let a = b .before .before .before .before .args in
     let l = b .loop in
     let n = b .before .cube-of .result in
     let below : l .v * n + n ≤ a .nodes * n = row-below n (l .v) (a .nodes) (omega arith) in
@@ -74,19 +74,19 @@ part-node-right-end c =
 node-right-requires : tie.Need-node-right-requires Inv-loop μ-loop
 node-right-requires c κs =
     let b = c .before .before in
-    let a = b .before .before .before .args in
+    let a = b .before .before .before .before .args in
     let l = b .loop in
     let n = b .before .cube-of .result in
     let below : l .v * n + n ≤ a .nodes * n = row-below n (l .v) (a .nodes) (omega arith) in
     let size : l .v * n + n - l .v * n ≡ n = omega arith in
     let cubed : n ≡ cube (a .g .inner) = b .before .cube-of .ensures in
     let whole : a .nodes * n ≡ a .nodes * cube (a .g .inner) = ap (λ (x : ℕ). a .nodes * x) cubed in
-    (b .before .before .before .pre .0, simp (length-take, length-drop) (omega arith))
+    (b .before .before .before .before .pre .0, simp (length-take, length-drop) (omega arith))
 
 returns : tie.Need-returns Inv-loop μ-loop
 returns c =
     let b = c .before .before .before .before in
-    let a = b .before .before .before .args in
+    let a = b .before .before .before .before .args in
     let l = b .loop in
     let n = b .before .cube-of .result in
     let f : ℕ → ℕ → Bool = active (a .g) in
@@ -106,7 +106,7 @@ loop-less c = search needs
 loop-again : tie.Need-loop-again Inv-loop μ-loop
 loop-again c =
     let b = c .before .before .before .before in
-    let a = b .before .before .before .args in
+    let a = b .before .before .before .before .args in
     let l = b .loop in
     let n = b .before .cube-of .result in
     let f : ℕ → ℕ → Bool = active (a .g) in
@@ -120,7 +120,7 @@ loop-again c =
 returns-2 : tie.Need-returns-2 Inv-loop μ-loop
 returns-2 c =
     let b = c .before in
-    let a = b .before .before .before .args in
+    let a = b .before .before .before .before .args in
     let l = b .loop in
     let n = b .before .cube-of .result in
     let f : ℕ → ℕ → Bool = active (a .g) in

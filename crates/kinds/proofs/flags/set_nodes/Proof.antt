@@ -27,13 +27,13 @@ cube-of-requires c κs = search needs
 
 loop-holds : tie.Need-loop-holds Inv-loop μ-loop
 loop-holds c =
-    let a = c .before .before .args in
+    let a = c .before .before .before .args in
     (search needs, rw (zero-mul (c .cube-of .result)) (flagged-none (inRows (c .cube-of .result) (active (a .g))) (a .kinds .now)))
 
 mul-from : tie.Need-mul-from Inv-loop μ-loop
 mul-from c =
     let b = c .before in
-    let a = b .before .before .before .args in
+    let a = b .before .before .before .before .args in
     let l = b .loop in
     let n = b .before .cube-of .result in
     let below : l .v * n + n ≤ a .nodes * n = row-below n (l .v) (a .nodes) (omega arith) in
@@ -44,7 +44,7 @@ mul-from c =
 add-to : tie.Need-add-to Inv-loop μ-loop
 add-to c =
     let b = c .before in
-    let a = b .before .before .before .args in
+    let a = b .before .before .before .before .args in
     let l = b .loop in
     let n = b .before .cube-of .result in
     let below : l .v * n + n ≤ a .nodes * n = row-below n (l .v) (a .nodes) (omega arith) in
@@ -61,7 +61,7 @@ part-set-node-start c = search needs
 part-set-node-end : tie.Need-part-set-node-end Inv-loop μ-loop
 part-set-node-end c =
     let b = c .before in
-    let a = b .before .before .before .args in
+    let a = b .before .before .before .before .args in
     let l = b .loop in
     let n = b .before .cube-of .result in
     let f : ℕ → ℕ → Bool = active (a .g) in
@@ -75,7 +75,7 @@ part-set-node-end c =
 set-node-requires : tie.Need-set-node-requires Inv-loop μ-loop
 set-node-requires c κs =
     let b = c .before .before in
-    let a = b .before .before .before .args in
+    let a = b .before .before .before .before .args in
     let l = b .loop in
     let n = b .before .cube-of .result in
     let f : ℕ → ℕ → Bool = active (a .g) in
@@ -83,7 +83,7 @@ set-node-requires c κs =
     let size : l .v * n + n - l .v * n ≡ n = omega arith in
     let cubed : n ≡ cube (a .g .inner) = b .before .cube-of .ensures in
     let whole : a .nodes * n ≡ a .nodes * cube (a .g .inner) = ap (λ (x : ℕ). a .nodes * x) cubed in
-    (b .before .before .before .pre .0, row-length n f (a .kinds .now) (l .v) (omega arith) size (l .inv .1) ∙ cubed)
+    (b .before .before .before .before .pre .0, row-length n f (a .kinds .now) (l .v) (omega arith) size (l .inv .1) ∙ cubed)
 
 add-v : tie.Need-add-v Inv-loop μ-loop
 add-v c = search needs
@@ -94,7 +94,7 @@ loop-less c = search needs
 loop-again : tie.Need-loop-again Inv-loop μ-loop
 loop-again c =
     let b = c .before .before .before .before .before in
-    let a = b .before .before .before .args in
+    let a = b .before .before .before .before .args in
     let l = b .loop in
     let n = b .before .cube-of .result in
     let f : ℕ → ℕ → Bool = active (a .g) in
@@ -107,7 +107,7 @@ loop-again c =
 same-length : tie.Need-same-length Inv-loop μ-loop
 same-length c =
     let b = c .before in
-    let a = b .before .before .before .args in
+    let a = b .before .before .before .before .args in
     let l = b .loop in
     let n = b .before .cube-of .result in
     let f : ℕ → ℕ → Bool = active (a .g) in
@@ -121,7 +121,7 @@ same-length c =
 returns : tie.Need-returns Inv-loop μ-loop
 returns c =
     let b = c .before in
-    let a = b .before .before .before .args in
+    let a = b .before .before .before .before .args in
     let l = b .loop in
     let n = b .before .cube-of .result in
     let f : ℕ → ℕ → Bool = active (a .g) in
@@ -130,7 +130,7 @@ returns c =
     let cubed : n ≡ cube (a .g .inner) = b .before .cube-of .ensures in
     let whole : a .nodes * n ≡ a .nodes * cube (a .g .inner) = ap (λ (x : ℕ). a .nodes * x) cubed in
     l .inv .1
-    ∙ flagged-all (inRows n f) (a .kinds .now) (l .v * n) (a .nodes * n) all (b .before .before .before .pre .1 ∙ sym whole) (omega arith)
+    ∙ flagged-all (inRows n f) (a .kinds .now) (l .v * n) (a .nodes * n) all (b .before .before .before .before .pre .1 ∙ sym whole) (omega arith)
     ∙ (λ t. flagsFrom (inRows (cubed t) f) (a .nodes * cubed t) 0)
 
 pub set-nodes-spec : {M : Type 1} → statement M
