@@ -123,8 +123,8 @@ module _ (g : Grid) (band : Band) (words : List ℕ) (reals : List Float) (parts
 
     -- the plan's decision is the verdict
     decided : P .decide v c (readingIn m) ≡ verdict
-    unfolding planWith decideBy boxOf octetValues
-    decided = ap (sym (judged ∙ ap₂ (verdictOf (band .min) (band .max)) lies-in read))
+    unfolding planWith boxOf octetValues
+    decided = sym (judged ∙ ap₂ (verdictOf (band .min) (band .max)) lies-in read)
 
     -- a child that becomes a constant
     pub constant-turn : {k : ℕ} {x : Float} → verdict ≡ Constant k x
@@ -133,7 +133,7 @@ module _ (g : Grid) (band : Band) (words : List ℕ) (reals : List Float) (parts
     unfolding planWith
     constant-turn {k} {x} is =
         let kind : 0 < k = pos-of-ne-zero (verdict-kind (band .min) (band .max) child octet (sym judged ∙ is) .0) in
-        let turn = turn-constant P v c b leaves m ready below is-active k x kind (decided ∙ ap is) in
+        let turn = turn-constant P v c b leaves m ready below is-active k x kind (decided ∙ is) in
         subst (λ n. ChildrenAdvanced P v c (suc c) b leaves m
         (memoryOf (set (m .kinds) (v * n + c) k) (set (m .numbers) (v * n + c) x) (m .places) (m .store) (m .corners)) (progress leaves b Through)) (sym cubed)
         turn
@@ -161,7 +161,7 @@ module _ (g : Grid) (band : Band) (words : List ℕ) (reals : List Float) (parts
         ∙ ap (λ x. filled ((suc leaves - 1) * cube (g .leaf) + 0) (min b (cube (g .leaf) - 0))
         (λ q. at (flatValue words reals parts) (leafPoint x (g .leaf) (q - (suc leaves - 1) * cube (g .leaf)))) (m .store)) lies-in in
         let goes′ : turn ≡ leafProgress (suc leaves) b v c 0 (cube (g .leaf)) = goes ∙ ap (λ n. leafProgress n b v c 0 (cube (g .leaf))) one in
-        let whole = turn-leaf P v c b leaves m ready below is-active (decided ∙ ap is) in
+        let whole = turn-leaf P v c b leaves m ready below is-active (decided ∙ is) in
         subst (λ n. ChildrenAdvanced P v c (suc c) b leaves m
         (memoryOf (set (m .kinds) (v * n + c) 2) (m .numbers) (set (m .places) (v * n + c) leaves) store (m .corners)) turn) (sym cubed)
         (subst (λ l. ChildrenAdvanced P v c (suc c) b leaves m

@@ -42,6 +42,7 @@ use Rattle.engine.specs.Inner.Runs.{runOf}
 use Rattle.rows.specs.Inner.FlatValue.{flatValue}
 use Rattle.engine.specs.Inner.Progress.{plan, Sized, Lent, afterStop, IfThrough, stateIn, Advanced, Ready, readingIn, ZeroCorners, NodeAdvanced, Turned, Onward, leafProgress}
 use Rattle.plans.proofs.NodeKinds.{part-needed}
+use Rattle.plans.proofs.Plans.{plan-laws}
 use Rattle.engine.proofs.RunLaws.{run-corners}
 use Rattle.engine.proofs.Turns.{progress, stopped, advanced-start, advanced-then, filledStore, turn-points}
 

@@ -9,7 +9,7 @@ use lib.Ieee.{Float}
 use Rattle.schedule.specs.Schedule.{Event, Work, Site, corner, point, evaluate, work}
 use Rattle.schedule.specs.Plan.{Plan}
 use Rattle.schedule.specs.declared.Cursor.the-variants.{End, Corner, Point}
-use Rattle.schedule.specs.Resume.{cursorOf, eventsFrom, reading}
+use Rattle.schedule.specs.Resume.{atSite, cursorOf, eventsFrom, reading}
 use Rattle.schedule.specs.Split.{split, evaluations}
 use Rattle.schedule.specs.Memory.{State, state, apply, applyAll}
 use Rattle.lists.specs.Sums.{sumFrom, bit}
@@ -38,7 +38,7 @@ module _ (P : Plan) where
 
   -- without a budget it stops before an evaluation
   pub run-stop : (t : Site) (x : Float) (es : List Event) (s : State)
-      → runOf P 0 (evaluate t x ∷ es) s ≡ record { state = s; cursor = at t; left = 0 }
+      → runOf P 0 (evaluate t x ∷ es) s ≡ record { state = s; cursor = atSite t; left = 0 }
   unfolding runOf split applyAll evaluations cursorOf
   run-stop t x es s = refl
 
@@ -122,7 +122,7 @@ module _ (P : Plan) where
           let which : p + r ≡ stretch s + p + r - stretch s = omega arith in
           run-points r p b s l (omega arith) (omega arith)
           ∙ ap (λ es. runOf P (b - r) es (withStore s before)) (point-evaluate P v c (p + r) (omega arith) read)
-          ∙ ap (λ b. runOf P b (evaluate (point v c (p + r)) (P .pointValue v c (p + r)) ∷ eventsFrom P (at (point v c (suc (p + r)))) read) (withStore s before)) more
+          ∙ ap (λ b. runOf P b (evaluate (point v c (p + r)) (P .pointValue v c (p + r)) ∷ eventsFrom P (Point v c (suc (p + r))) read) (withStore s before)) more
           ∙ run-evaluate (b - suc r) (point v c (p + r)) (P .pointValue v c (p + r)) _ (withStore s before)
           ∙ ap₂ (λ q x. pointsRun (b - suc r) (suc (p + r)) s (set before q x)) place (ap (P .pointValue v c) which)
           ∙ ap (λ p′. pointsRun (b - suc r) p′ s (set before (stretch s + p + r) (f (stretch s + p + r)))) next

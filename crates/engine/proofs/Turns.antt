@@ -16,7 +16,7 @@ use Rattle.lists.proofs.Filling.{filled-length}
 use Rattle.schedule.specs.Schedule.{Site, Event, point, evaluate, makeConstant, makeLeaf, clearCorners}
 use Rattle.schedule.specs.Plan.{Plan}
 use Rattle.grid.specs.declared.Verdict.the-variants.{Constant, Leaf}
-use Rattle.schedule.specs.Resume.{eventsFrom, childrenLeft, nodesLeft}
+use Rattle.schedule.specs.Resume.{atSite, eventsFrom, childrenLeft, nodesLeft}
 use Rattle.schedule.specs.Memory.{Memory, State, apply}
 use Rattle.schedule.specs.Totals.{activeBefore}
 use Rattle.lists.specs.Sums.{bit}
@@ -139,11 +139,11 @@ module _ (P : Plan) where
 
   -- a stop before an evaluation, at which no budget is left
   pub stopped : (k : ℕ) → k ≡ 0 → (t : Site) (x : Float) (es : List Event) (s : State)
-      → runOf P k (evaluate t x ∷ es) s ≡ record { state = s; cursor = at t; left = k }
+      → runOf P k (evaluate t x ∷ es) s ≡ record { state = s; cursor = atSite t; left = k }
   stopped k none t x es s =
       ap (λ k. runOf P k (evaluate t x ∷ es) s) none
       ∙ run-stop P t x es s
-      ∙ ap (λ k. record { state = s; cursor = at t; left = k }) (sym none)
+      ∙ ap (λ k. record { state = s; cursor = atSite t; left = k }) (sym none)
 
   -- a leaf's points from p on, while the budget lasts
   pub leaf-run : (v c p b n : ℕ) (m : Memory) → p ≤ P .leafPoints
@@ -156,7 +156,7 @@ module _ (P : Plan) where
       ∙ one (ltb (p + min b (P .leafPoints - p)) (P .leafPoints)) refl
     where
       one : (x : Bool) → ltb (p + min b (P .leafPoints - p)) (P .leafPoints) ≡ x
-          → runOf P (b - min b (P .leafPoints - p)) (eventsFrom P (at (point v c (p + min b (P .leafPoints - p)))) (readingIn m)) (leafState v c p b n m)
+          → runOf P (b - min b (P .leafPoints - p)) (eventsFrom P (Point v c (p + min b (P .leafPoints - p))) (readingIn m)) (leafState v c p b n m)
           ≡ afterStop P (leafState v c p b n m)
           (b - min b (P .leafPoints - p)) (cond x (At (Point v c (p + min b (P .leafPoints - p)))) Through) (childrenLeft P v (suc c) (readingIn m))
       one true e =

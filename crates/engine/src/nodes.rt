@@ -6,6 +6,7 @@ ghost use Prim.Native.Nat.{_+_, suc, _≤_, _<_};
 ghost use Rattle.grid.specs.Blocks.{cube};
 ghost use Rattle.grid.specs.Boxes.{nodeBox};
 ghost use Rattle.grid.specs.Nodes.{nodesOf};
+ghost use Rattle.schedule.specs.declared.Cursor.the-variants.{Corner, Point};
 ghost use Rattle.schedule.specs.Resume.{eventsFrom, childrenLeft, nodesLeft};
 ghost use Rattle.schedule.specs.Totals.{activeBefore, activeAll};
 ghost use Rattle.schedule.specs.Lent.{held, entered, left};

@@ -1,4 +1,4 @@
--- The laws behind the judgement of a record: what an input without a cause gives, products that fit, and active children by their kinds.
+-- The laws behind the judgement of a record: counts, cursors, and active children by their kinds.
 use mathlib.Core.Path.{_≡_, refl, sym, ap, _∙_}
 use mathlib.Core.Bool.{Bool, true, false, cond, not, _&&_, _||_, Bool·beq}
 use mathlib.Core.List.{List, [], _∷_}
@@ -17,20 +17,24 @@ use Rattle.grid.specs.declared.Grid.{Grid}
 use Rattle.grid.specs.Blocks.{cube}
 use Rattle.grid.specs.Nodes.{nodesOf}
 use Rattle.grid.specs.Boxes.{active}
-use Rattle.grid.specs.Counting as counting
+use Rattle.grid.specs.Counting.{countsOf, sameGrid}
 use Rattle.schedule.specs.Plan.{Plan}
 use Rattle.schedule.specs.declared.Cursor.{Cursor}
 use Rattle.lists.specs.Sums.{sumFrom, sumBelow, bit}
 use Rattle.schedule.specs.Totals.{countBefore, activeBefore, activeAll, activeUpTo}
 use Rattle.schedule.specs.Opened.{activeAt, ActiveKinds}
 use Rattle.lists.specs.Flags.{nonzero}
-use Rattle.schedule.specs.Counts.{countsWith, sameCounts}
+use Rattle.schedule.specs.Counts.{gridCounts, countsWith, sameCounts}
 use Rattle.schedule.specs.Possible.{validCursor}
 use Rattle.lists.proofs.Sums.{sumBelow-snoc}
 use Rattle.schedule.proofs.Sums.{before-next, before-node}
 use Rattle.schedule.proofs.Activity.{active-at}
 use Rattle.schedule.specs.declared.Counts.{Counts}
 use Rattle.plans.specs.Plan.{planWith}
+use Rattle.plans.specs.Inner.GridPlan.{gridPlan}
+use Rattle.plans.proofs.Plans.{sum-same, active-all}
+use Rattle.grid.specs.declared.Verdict.the-variants.{Leaf}
+use Rattle.float.specs.Zero.{plusZero}
 use Rattle.judging.specs.Inner.Judged.{countNonzero, RightKinds}
 use Rattle.lists.proofs.Flags.{nonzero-true}
 
@@ -108,18 +112,19 @@ module _ (g : Grid) (c : Counts) where
   abbrev counted : Bool
   counted = sameCounts c (countsWith (gridPlan g) (c .leaves) (c .evaluations))
 
-  pub counts-nodes : (c .nodes ≡ nodesOf g → ⊥) → false ≡ counted
-  unfolding sameCounts planWith
-  counts-nodes h = rw (ne-eqb (c .nodes) (nodesOf g) h) refl
+  -- the plan's counts are the grid's
+  counts-same : countsOf g ≡ gridCounts (gridPlan g)
+  unfolding planWith
+  counts-same = λ t. record { nodes = nodesOf g; active = sym (active-all g (λ b octet. Leaf) (λ x y z. plusZero)) t }
 
-  pub counts-active : c .nodes ≡ nodesOf g → (c .active ≡ counting.activeOf g → ⊥) → false ≡ counted
-  unfolding sameCounts planWith
-  counts-active e h = rw (eq-eqb (c .nodes) (nodesOf g) e, ne-eqb (c .active) (activeAll (gridPlan g)) (λ k. h (k ∙ active-all g _ _))) refl
+  pub counts-other : sameGrid (c .grid) (countsOf g) ≡ false → false ≡ counted
+  unfolding sameCounts
+  counts-other h = rw (sym (ap (sameGrid (c .grid)) counts-same) ∙ h) refl
 
-  pub counts-sampled : c .nodes ≡ nodesOf g → c .active ≡ counting.activeOf g → {b : Bool} → b ≡ eqb (c .sampled) (c .leaves * cube (g .leaf)) → b ≡ counted
+  pub counts-sampled : sameGrid (c .grid) (countsOf g) ≡ true → {b : Bool} → b ≡ eqb (c .sampled) (c .leaves * cube (g .leaf)) → b ≡ counted
   unfolding sameCounts planWith
-  counts-sampled e h k =
-      rw (eq-eqb (c .nodes) (nodesOf g) e, eq-eqb (c .active) (activeAll (gridPlan g)) (h ∙ sym (active-all g _ _)), eq-eqb (c .leaves) (c .leaves) refl, eq-eqb (c .evaluations) (c .evaluations) refl)
+  counts-sampled h k =
+      rw (sym (ap (sameGrid (c .grid)) counts-same) ∙ h, eq-eqb (c .leaves) (c .leaves) refl, eq-eqb (c .evaluations) (c .evaluations) refl)
       (k ∙ sym (and-yes (eqb (c .sampled) (c .leaves * cube (g .leaf)))))
 
 -- ---- the tests of cursors

@@ -24,7 +24,7 @@ fn corner_right(g: Grid, kinds: &[u8], v: usize, i: usize) -> bool
     let children = grid::cube_of(n as usize);
     let from = v * children;
     let to = from + children;
-    rows::rows::is_needed(n, &kinds[from..to], i)
+    rows::is_needed(n, &kinds[from..to], i)
 }
 
 // Whether a cursor at a point is at one of an active child.

@@ -18,7 +18,7 @@ pub fn wrong_progress(g: Grid, kinds: &[u8], counts: Counts, cursor: Cursor) -> 
     if !counts_right(g, counts) {
         return true;
     }
-    if counts.evaluations > evaluations_bound(input) {
+    if counts.evaluations > evaluations_bound(g) {
         return true;
     }
     if !cursor_right(g, kinds, cursor) {

@@ -1,53 +1,48 @@
--- `counts_right` meets its contract: one count after the other.
-use mathlib.Core.Path.{sym, _∙_}
+-- `counts_right` meets its contract: the grid's counts, then the sampled points.
+use mathlib.Core.Path.{_≡_, sym, ap, _∙_}
 use native.Mathlib.Omega.{arith}
-use Rattle.grid.proofs.LimitLaws.{leaf-block, few-nodes, nodes-few}
-use Rattle.judging.proofs.Judgement.{counts-nodes, counts-active, counts-sampled}
+use borrow.Author.Tests.{not-true, not-false}
+use Rattle.grid.specs.Counting.{countsOf, sameGrid}
+use Rattle.grid.proofs.LimitLaws.{leaf-block}
+use Rattle.judging.proofs.Judgement.{counts-other, counts-sampled}
+use borrow.Author.Needs.{needs}
 use Rattle.judging.proofs.counts.counts_right.Statement.{statement}
 use Rattle.judging.proofs.counts.counts_right.Tie as tie
 
-node-total-requires : tie.Need-node-total-requires
-node-total-requires c κs =
-    let s = c .before in
-    let g = s .args .g in
-    omega (arith, nodes-few g (few-nodes g (s .pre .1)))
+-- where the grid's counts are compared
+abbrev start : tie.After-same-grid → tie.Start
+start p = p .before .before .before
+
+compared : (p : tie.After-same-grid) → p .same-grid .result ≡ sameGrid (start p .args .counts .grid) (countsOf (start p .args .g))
+compared p = p .same-grid .ensures ∙ ap (sameGrid (start p .args .counts .grid)) (p .before .grid-counts .ensures)
+
+grid-counts-requires : tie.Need-grid-counts-requires
+grid-counts-requires c κs = c .before .pre
+
+same-grid-requires : tie.Need-same-grid-requires
+same-grid-requires c κs = search needs
 
 returns : tie.Need-returns
 returns c =
-    let s = c .before .before .before .before in
-    let g = s .args .g in
-    counts-nodes i (s .args .counts) (λ e. c .if1 .taken (e ∙ sym (c .before .before .node-total .ensures)))
+    let p = c .before in
+    let a = start p .args in
+    counts-other (a .g) (a .counts) (sym (compared p) ∙ not-true _ (c .if1 .taken))
 
-active-children-requires : tie.Need-active-children-requires
-active-children-requires c κs =
-    let s = c .before .before .before .before in
-    s .pre
+sampled-right-requires : tie.Need-sampled-right-requires
+sampled-right-requires c κs = let l = leaf-block _ (start (c .before) .pre .0) in (omega (arith, l .least), l .most)
 
 returns-2 : tie.Need-returns-2
 returns-2 c =
-    let s = c .before .before .before .before .before .before .before in
-    let g = s .args .g in
-    counts-active i (s .args .counts) (c .before .before .before .if1 .left ∙ c .before .before .before .before .before .node-total .ensures) (λ e. c .if2 .taken (e ∙ sym (c .before .before .active-children .ensures)))
-
-sampled-right-requires : tie.Need-sampled-right-requires
-sampled-right-requires c κs =
-    let s = c .before .before .before .before .before .before .before in
-    let g = s .args .g in
-    let l = leaf-block g (s .pre .0) in (omega (arith, l .least), l .most)
-
-returns-3 : tie.Need-returns-3
-returns-3 c =
-    let s = c .before .before .before .before .before .before .before .before in
-    let g = s .args .g in
-    counts-sampled i (s .args .counts) (c .before .before .before .before .if1 .left ∙ c .before .before .before .before .before .before .node-total .ensures) (c .before .if2 .left ∙ c .before .before .before .active-children .ensures) (c .sampled-right .ensures)
+    let p = c .before .before in
+    let a = start p .args in
+    counts-sampled (a .g) (a .counts) (sym (compared p) ∙ not-false _ (c .before .if1 .left)) (c .sampled-right .ensures)
 
 pub counts-right-spec : {M : Type 1} → statement M
 counts-right-spec =
     tie.close
     (tie.spec
-    node-total-requires
+    grid-counts-requires
+    same-grid-requires
     returns
-    active-children-requires
-    returns-2
     sampled-right-requires
-    returns-3)
+    returns-2)

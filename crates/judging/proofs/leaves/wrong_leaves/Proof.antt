@@ -18,7 +18,7 @@ returns : tie.Need-returns
 returns c =
     let s = c .before .before .before in
     let g = s .args .g in
-    let a = (s .args .cursor) in
+    let a = s .args .cursor in
     let n = s .args .leaves in
     leaves-many (ltb (activeUpTo (gridPlan g) a) n) (insideChild a) (eqb n 0) (lt-ltb (activeUpTo (gridPlan g) a) n (omega (arith, c .before .active-up-to .ensures)))
 
@@ -29,7 +29,7 @@ returns-2 : tie.Need-returns-2
 returns-2 c =
     let s = c .before .before .before .before .before in
     let g = s .args .g in
-    let a = (s .args .cursor) in
+    let a = s .args .cursor in
     let n = s .args .leaves in
     leaves-none (ltb (activeUpTo (gridPlan g) a) n) (insideChild a) (eqb n 0) (le-ltb (activeUpTo (gridPlan g) a) n (omega (arith, c .before .before .before .active-up-to .ensures))) (sym (c .before .inside-child .ensures) ∙ c .if2 .taken)
 
@@ -37,7 +37,7 @@ returns-3 : tie.Need-returns-3
 returns-3 c =
     let s = c .before .before .before .before .before in
     let g = s .args .g in
-    let a = (s .args .cursor) in
+    let a = s .args .cursor in
     let n = s .args .leaves in
     leaves-right (ltb (activeUpTo (gridPlan g) a) n) (insideChild a) (eqb n 0) (le-ltb (activeUpTo (gridPlan g) a) n (omega (arith, c .before .before .before .active-up-to .ensures))) (sym (c .before .inside-child .ensures) ∙ c .if2 .left)
 

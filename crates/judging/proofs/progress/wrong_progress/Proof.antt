@@ -20,7 +20,7 @@ returns c =
     let s = c .before .before .before in
     let g = s .args .g in
     let t = s .args .counts in
-    let a = (s .args .cursor) in
+    let a = s .args .cursor in
     let P = gridPlan g in
     let n = t .leaves in
     joined-first (not (sameCounts t (countsWith P n (t .evaluations)))) (ltb (evaluationsBound P) (t .evaluations)) (not (validCursor P a)) (ltb (activeUpTo P a) n) (insideChild a && eqb n 0) (ap not (sym (c .before .counts-right .ensures)) ∙ c .if1 .taken)
@@ -33,7 +33,7 @@ returns-2 c =
     let s = c .before .before .before .before .before .before in
     let g = s .args .g in
     let t = s .args .counts in
-    let a = (s .args .cursor) in
+    let a = s .args .cursor in
     let P = gridPlan g in
     let n = t .leaves in
     joined-second (not (sameCounts t (countsWith P n (t .evaluations)))) (ltb (evaluationsBound P) (t .evaluations)) (not (validCursor P a)) (ltb (activeUpTo P a) n) (insideChild a && eqb n 0) (ap not (sym (c .before .before .before .before .counts-right .ensures)) ∙ c .before .before .before .if1 .left) (lt-ltb (evaluationsBound P) (t .evaluations) (omega (arith, c .before .before .evaluations-bound .ensures)))
@@ -46,7 +46,7 @@ returns-3 c =
     let s = c .before .before .before .before .before .before .before .before in
     let g = s .args .g in
     let t = s .args .counts in
-    let a = (s .args .cursor) in
+    let a = s .args .cursor in
     let P = gridPlan g in
     let n = t .leaves in
     joined-third (not (sameCounts t (countsWith P n (t .evaluations)))) (ltb (evaluationsBound P) (t .evaluations)) (not (validCursor P a)) (ltb (activeUpTo P a) n) (insideChild a && eqb n 0) (ap not (sym (c .before .before .before .before .before .before .counts-right .ensures)) ∙ c .before .before .before .before .before .if1 .left) (le-ltb (evaluationsBound P) (t .evaluations) (omega (arith, c .before .before .before .before .evaluations-bound .ensures))) (ap not (sym (c .before .cursor-right .ensures)) ∙ c .if3 .taken)
@@ -59,7 +59,7 @@ returns-4 c =
     let s = c .before .before .before .before .before .before .before .before .before in
     let g = s .args .g in
     let t = s .args .counts in
-    let a = (s .args .cursor) in
+    let a = s .args .cursor in
     let P = gridPlan g in
     let n = t .leaves in
     joined-rest (not (sameCounts t (countsWith P n (t .evaluations)))) (ltb (evaluationsBound P) (t .evaluations)) (not (validCursor P a)) (ltb (activeUpTo P a) n) (insideChild a && eqb n 0) (ap not (sym (c .before .before .before .before .before .before .before .counts-right .ensures)) ∙ c .before .before .before .before .before .before .if1 .left) (le-ltb (evaluationsBound P) (t .evaluations) (omega (arith, c .before .before .before .before .before .evaluations-bound .ensures))) (ap not (sym (c .before .before .cursor-right .ensures)) ∙ c .before .if3 .left) (c .wrong-leaves .ensures)
