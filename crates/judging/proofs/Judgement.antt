@@ -21,7 +21,7 @@ use Rattle.grid.specs.Counting.{countsOf, sameGrid}
 use Rattle.schedule.specs.Plan.{Plan}
 use Rattle.schedule.specs.declared.Cursor.{Cursor}
 use Rattle.lists.specs.Sums.{sumFrom, sumBelow, bit}
-use Rattle.schedule.specs.Totals.{countBefore, activeBefore, activeAll, activeUpTo}
+use Rattle.schedule.specs.Totals.{countBefore, activeBefore, activeUpTo}
 use Rattle.schedule.specs.Opened.{activeAt, ActiveKinds}
 use Rattle.lists.specs.Flags.{nonzero}
 use Rattle.schedule.specs.Counts.{gridCounts, countsWith, sameCounts}
@@ -32,9 +32,9 @@ use Rattle.schedule.proofs.Activity.{active-at}
 use Rattle.schedule.specs.declared.Counts.{Counts}
 use Rattle.plans.specs.Plan.{planWith}
 use Rattle.plans.specs.Inner.GridPlan.{gridPlan}
-use Rattle.plans.proofs.Plans.{sum-same, active-all}
-use Rattle.grid.specs.declared.Verdict.the-variants.{Leaf}
+use Rattle.plans.proofs.Plans.{sum-same, counts-same}
 use Rattle.float.specs.Zero.{plusZero}
+use Rattle.grid.specs.declared.Verdict.the-variants.{Leaf}
 use Rattle.judging.specs.Inner.Judged.{countNonzero, RightKinds}
 use Rattle.lists.proofs.Flags.{nonzero-true}
 
@@ -112,19 +112,17 @@ module _ (g : Grid) (c : Counts) where
   abbrev counted : Bool
   counted = sameCounts c (countsWith (gridPlan g) (c .leaves) (c .evaluations))
 
-  -- the plan's counts are the grid's
-  counts-same : countsOf g ≡ gridCounts (gridPlan g)
-  unfolding planWith
-  counts-same = λ t. record { nodes = nodesOf g; active = sym (active-all g (λ b octet. Leaf) (λ x y z. plusZero)) t }
+  grid-same : countsOf g ≡ gridCounts (gridPlan g)
+  grid-same = counts-same g (λ b octet. Leaf) (λ x y z. plusZero)
 
   pub counts-other : sameGrid (c .grid) (countsOf g) ≡ false → false ≡ counted
   unfolding sameCounts
-  counts-other h = rw (sym (ap (sameGrid (c .grid)) counts-same) ∙ h) refl
+  counts-other h = rw (sym (ap (sameGrid (c .grid)) grid-same) ∙ h) refl
 
   pub counts-sampled : sameGrid (c .grid) (countsOf g) ≡ true → {b : Bool} → b ≡ eqb (c .sampled) (c .leaves * cube (g .leaf)) → b ≡ counted
   unfolding sameCounts planWith
   counts-sampled h k =
-      rw (sym (ap (sameGrid (c .grid)) counts-same) ∙ h, eq-eqb (c .leaves) (c .leaves) refl, eq-eqb (c .evaluations) (c .evaluations) refl)
+      rw (sym (ap (sameGrid (c .grid)) grid-same) ∙ h, eq-eqb (c .leaves) (c .leaves) refl, eq-eqb (c .evaluations) (c .evaluations) refl)
       (k ∙ sym (and-yes (eqb (c .sampled) (c .leaves * cube (g .leaf)))))
 
 -- ---- the tests of cursors

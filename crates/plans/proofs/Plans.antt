@@ -21,6 +21,7 @@ use Rattle.grid.proofs.Needing.{needed-below}
 use Rattle.grid.proofs.Verdicts.{verdict-kind}
 use Rattle.input.specs.declared.Band.{Band}
 use Rattle.schedule.specs.Totals.{countOf, countAll, activeAll}
+use Rattle.schedule.specs.Counts.{gridCounts}
 use Rattle.schedule.specs.PlanLaws.{PlanLaws}
 use Rattle.plans.specs.Plan.{boxOf, planWith, decideBy}
 
@@ -63,3 +64,9 @@ unfolding countAll planWith counting.activeOf counting.activeIn
 active-all g decide value =
     sum-same (λ v. countOf (active g) v (cube (g .inner))) (counting.activeIn g) (nodesOf g) (λ v below. count-is (active g v) (cube (g .inner)))
     ∙ sum-is (counting.activeIn g) (nodesOf g)
+
+-- so its counts are the grid's
+pub counts-same : (g : Grid) (decide : BoundingBox → List Float → Verdict) (value : Float → Float → Float → Float)
+    → counting.countsOf g ≡ gridCounts (planWith g decide value)
+unfolding planWith
+counts-same g decide value = λ t. record { nodes = nodesOf g; active = sym (active-all g decide value) t }

@@ -10,7 +10,7 @@ use Rattle.schedule.specs.Memory.{Memory}
 use Rattle.schedule.specs.Opened.{lengthsOf, zeroMemory}
 use Rattle.schedule.specs.Possible.{impossible}
 use Rattle.schedule.specs.Calls.{opens, steps, drops}
-use Rattle.schedule.specs.Engine.{Engine, engineCall, engineOpen, engineStep, engineStepJob}
+use Rattle.schedule.specs.Engine.{engineCall, engineOpen, engineStep, engineStepJob}
 use Rattle.input.specs.declared.Input.{Input}
 use Rattle.sparse_field.specs.declared.Record.{Record}
 use Rattle.schedule.specs.declared.Answer.the-variants.{Accepted, Refused}

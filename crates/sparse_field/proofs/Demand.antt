@@ -3,11 +3,6 @@ use Prim.Native.Nat.{ℕ, zero, suc}
 use mathlib.Core.Path.{_≡_, refl, sym, ap, subst, _∙_}
 use mathlib.Core.Bool.{Bool, true, false}
 use mathlib.Core.List.{List, [], _∷_, map}
-use Rattle.schedule.specs.Schedule.{corner, point}
-use Rattle.schedule.specs.declared.Cursor.{Cursor}
-use Rattle.schedule.specs.declared.Cursor.the-variants.{End, Corner, Point}
-use Rattle.schedule.specs.Resume.{at}
-use Rattle.schedule.specs.Memory.{Memory}
 use Rattle.schedule.specs.Opened.{lengthsOf, stateAt}
 use Rattle.schedule.specs.BudgetSum.{budgetSum}
 use Rattle.schedule.specs.JobRecord.{Job, JobRecord, noJob, job, atEnd}
@@ -26,20 +21,15 @@ use Rattle.plans.specs.Plan.{planOf}
 use Rattle.plans.specs.Sparse.{sparse}
 use Rattle.sparse_field.specs.Records.{jobIn, recordIn, byFlag, recordOut}
 use Rattle.sparse_field.specs.Calls.{called, handed}
-use Rattle.sparse_field.specs.Lists.{Call, Held, onHeld, engineIn, answerIn}
+use Rattle.sparse_field.specs.Lists.{Call, Held, onHeld, engineIn}
 use Rattle.sparse_field.specs.Demand.{DemandThree, DropLeavesZeros, EqualBudgets, FinishedField}
-use Rattle.sparse_field.proofs.Opening.{sparse-laws, long-enough}
+use Rattle.plans.proofs.Lawful.{sparse-laws, long-enough}
 
 -- ---- a record that the code hands back stands for the engine's
 
-cursor-forth : (a : Cursor) → a ≡ a
-cursor-forth End = refl
-cursor-forth (Corner v i) = refl
-cursor-forth (Point v c p) = refl
-
 pub record-forth : (r : JobRecord sparse) → recordIn (recordOut r) ≡ r
 record-forth noJob = refl
-record-forth (job j) = λ t. job (record { input = j .input; lengths = j .lengths; counts = j .counts; cursor = cursor-forth (j .cursor) t })
+record-forth (job j) = refl
 
 -- ---- a refused call leaves the engine as it was
 
@@ -68,7 +58,7 @@ refused-kept drops e = tt
 
 -- ---- the code's calls implement the engine
 
-answer-same : (r : Record) (a : Answer) (x : Engine sparse) → answerIn (handed r a x .outcome .answer) ≡ a
+answer-same : (r : Record) (a : Answer) (x : Engine sparse) → handed r a x .outcome .answer ≡ a
 answer-same r Accepted x = refl
 answer-same r (Refused n) x = refl
 
@@ -115,4 +105,4 @@ pub finished-field : FinishedField
 finished-field cs s none flag ends =
     let r = run onHeld cs s .last .held in
     implements-finished sparse Call Held (λ c. c) engineIn onHeld implemented sparse-laws s (no-job s none) long-enough cs (jobIn r)
-    (ap (λ b. byFlag b r) flag) (ap (λ a. atEnd a) ends)
+    (ap (λ b. byFlag b r) flag) (ap atEnd ends)

@@ -6,8 +6,6 @@ use mathlib.Core.List.{[]}
 use native.Mathlib.Nat.{mul-pos, mul-le-mul-right}
 use native.Mathlib.Omega.{arith}
 use Rattle.float.specs.Zero.{plusZero}
-use Rattle.grid.specs.declared.Grid.{Grid}
-use Rattle.input.specs.declared.Band.{Band}
 use Rattle.input.specs.declared.Lengths.{Lengths}
 use Rattle.grid.specs.Blocks.{cube}
 use Rattle.grid.specs.Nodes.{nodesOf}
@@ -15,51 +13,51 @@ use Rattle.grid.specs.Limits.{childrenOf}
 use Rattle.grid.proofs.Counts.{i-above, j-above, k-above}
 use Rattle.input.proofs.Clear.{Clear, no-cause}
 use Rattle.grid.proofs.LimitLaws.{inner-block, leaf-block, few-children}
-use Rattle.model.specs.declared.ImplicitModel.{ImplicitModel}
 use Rattle.schedule.specs.Schedule.{schedule, nodesFrom}
 use Rattle.schedule.specs.Plan.{Plan}
 use Rattle.schedule.specs.Resume.{cursorOf, nodesLeft, eventsFrom}
 use Rattle.schedule.specs.Split.{split}
 use Rattle.schedule.specs.Memory.{Memory}
 use Rattle.schedule.specs.Totals.{activeAll, activeUpTo}
-use Rattle.schedule.specs.Finished.{LongEnough}
 use Rattle.schedule.specs.Counts.{countsWith}
 use Rattle.schedule.specs.JobRecord.{job}
 use Rattle.schedule.specs.Engine.{openedEngine}
 use Rattle.schedule.proofs.Activity.{opened-active, opened-lengths}
-use Rattle.schedule.proofs.AfterFacts.{leavesAll-most, after}
+use Rattle.schedule.proofs.AfterFacts.{after}
 use Rattle.schedule.proofs.Sums.{up-to-most}
 use Rattle.schedule.proofs.StopFacts.{getD-equal}
 use Rattle.schedule.specs.PlanLaws.{Valid}
 use Rattle.schedule.specs.Stops.{AtLeast}
 use Rattle.schedule.specs.Opened as opens
 use Rattle.schedule.specs.Opened.{lengthsOf, ActiveKinds}
-use Rattle.schedule.specs.Inputs.{InputsLaws}
 use Rattle.input.specs.declared.Input.{Input}
 use Rattle.schedule.specs.declared.Cursor.{Cursor}
 use Rattle.engine.specs.declared.Progress.{Progress}
 use Rattle.schedule.specs.declared.Cursor.the-variants.{End, Corner, Point}
-use Rattle.plans.specs.Plan.{planWith, planOf, valueOf}
+use Rattle.plans.specs.Plan.{planWith, planOf, valueOf, decideBy}
 use Rattle.sparse_field.specs.Inner.Parts.{startMemory, cursorAt}
 use Rattle.engine.specs.Inner.Progress.{Sized, Lent, Advanced, readingIn, ZeroCorners}
 use Rattle.plans.specs.Sparse.{sparse}
 use Rattle.engine.specs.Inner.Startable.{Startable}
-use Rattle.plans.proofs.Plans.{active-all, plan-laws}
+use Rattle.plans.proofs.Plans.{active-all}
+use Rattle.plans.proofs.Lawful.{sparse-laws}
 use Rattle.engine.proofs.NodeLaws.{node-begins}
 use Rattle.engine.specs.Inner.Runs.{runOf}
 use Rattle.engine.proofs.ChildLaws.{active-few}
 use Rattle.sparse_field.proofs.Results.{final, engine-after}
 
 -- sizes that no cause refuses
-pub sized : (g : Grid) {band : Band} {m : ImplicitModel} {l : Lengths} → Clear g band m l → Sized g
+pub sized : (i : Input) {l : Lengths} → Clear i l → Sized (i .grid)
 unfolding childrenOf
-sized g none = record {
-  innerLeast = omega (arith, inner-block g (none .two) .least);
-  innerMost = inner-block g (none .two) .most;
-  leafLeast = omega (arith, leaf-block g (none .two) .least);
-  leafMost = leaf-block g (none .two) .most;
-  children = few-children g (none .five);
-}
+sized i none =
+    let g = i .grid in
+    record {
+      innerLeast = omega (arith, inner-block g (none .two) .least);
+      innerMost = inner-block g (none .two) .most;
+      leafLeast = omega (arith, leaf-block g (none .two) .least);
+      leafMost = leaf-block g (none .two) .most;
+      children = few-children g (none .five);
+    }
 
 -- memory whose lengths no cause refuses
 pub lent-memory : (i : Input) (m : Memory) → Clear i (lengthsOf m) → ActiveKinds (planOf i) (m .kinds) → Lent (planOf i) m
@@ -68,7 +66,7 @@ lent-memory i m none right = record {
   kinds = none .lent .kinds;
   numbers = none .lent .numbers;
   places = none .lent .places;
-  store = subst (λ n. n * cube (i .grid .leaf) ≤ (lengthsOf m) .store) (sym (active-all i)) (none .lent .store);
+  store = subst (λ n. n * cube (i .grid .leaf) ≤ lengthsOf m .store) (sym (active-all (i .grid) (decideBy (i .band)) (valueOf (i .model)))) (none .lent .store);
   corners = none .lent .corners;
   activeKinds = right;
 }
@@ -80,36 +78,13 @@ valid-startable P End n valid most least = tt
 valid-startable P (Corner v i) n valid most least = (valid .0, omega (arith, valid .1), most)
 valid-startable P (Point v c p) n valid most least = (valid .0, valid .1, omega (arith, valid .3), least, most)
 
--- an input without a cause has a lawful plan and enough corners
-pub sparse-laws : InputsLaws sparse
-unfolding planWith
-sparse-laws = record {
-  planLaws = λ l i none.
-      let n = no-cause i l none in
-      plan-laws (i .grid) (i .band) (valueOf (i .model)) (sized (i .grid) n .innerLeast);
-  enoughCorners = λ l i none. no-cause i l none .lent .corners;
-}
-
--- its slices hold all its children and all its leaves' points
-pub long-enough : (l : opens.Lengths) (i : Input) → sparse .cause l i ≡ 0 → LongEnough (planOf i) l
-unfolding planWith
-long-enough l i none =
-    let n = no-cause i l none in
-    let few = mul-le-mul-right (cube (i .grid .leaf)) (leavesAll-most (planOf i)) in
-    record {
-      kinds = n .lent .kinds;
-      numbers = n .lent .numbers;
-      places = n .lent .places;
-      store = omega (arith, n .lent .store, few, ap (λ k. k * cube (i .grid .leaf)) (active-all i));
-    }
-
 -- there are few active children
 pub active-within : (i : Input) → Sized (i .grid) → activeAll (planOf i) ≤ 16777216
 active-within i size = active-few (i .grid) (i .band) (valueOf (i .model)) size
 
 -- ---- the start of a job
 
-module _ (i : Input) (l : opens.Lengths) (none : sparse .cause l i ≡ 0) where
+module _ (i : Input) (l : Lengths) (none : sparse .cause l i ≡ 0) where
   abbrev P : Plan
   P = planOf i
 
@@ -119,7 +94,7 @@ module _ (i : Input) (l : opens.Lengths) (none : sparse .cause l i ≡ 0) where
   -- the memory that open prepares is lent
   pub start-lent : Lent P (startMemory i l)
   start-lent =
-      lent-memory i (startMemory i l) (subst (λ k. Clear i k) (sym (opened-lengths P l)) nothing) (opened-active P l)
+      lent-memory i (startMemory i l) (subst (Clear i) (sym (opened-lengths P l)) nothing) (opened-active P l)
 
   -- its corners are all +0
   start-cleared : ZeroCorners (startMemory i l)
@@ -154,7 +129,7 @@ module _ (i : Input) (l : opens.Lengths) (none : sparse .cause l i ≡ 0) where
       → Advanced P 0 0 m m₁ (eventsFrom P (Corner 0 0) (readingIn m)) [] r (activeAll P)
       → openedEngine sparse i l
       ≡ record {
-        jobRecord = job (record { input = i; lengths = l; counts = countsWith P (r .leaves) 0; cursor = (cursorAt (r .stop)) });
+        jobRecord = job (record { input = i; lengths = l; counts = countsWith P (r .leaves) 0; cursor = cursorAt (r .stop) });
         memory = m₁;
       }
   unfolding opens.opened
@@ -162,7 +137,7 @@ module _ (i : Input) (l : opens.Lengths) (none : sparse .cause l i ≡ 0) where
       let none : 0 + (0 - r .left) ≡ 0 = omega arith in
       engine-after i l 0 0 0 (activeAll P) (startMemory i l) m₁ (schedule P) r (start-done start done)
       ∙ ap (λ k. record {
-        jobRecord = job (record { input = i; lengths = l; counts = countsWith P (r .leaves) k; cursor = (cursorAt (r .stop)) });
+        jobRecord = job (record { input = i; lengths = l; counts = countsWith P (r .leaves) k; cursor = cursorAt (r .stop) });
         memory = m₁;
       }) none
 

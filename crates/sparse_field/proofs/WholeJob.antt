@@ -26,7 +26,7 @@ use Rattle.sparse_field.specs.Records.{recordOut}
 use Rattle.sparse_field.specs.Calls.{Handed, handed, called}
 use Rattle.sparse_field.proofs.CallLaws.{acceptedWith, open-accepted}
 use Rattle.sparse_field.proofs.Demand.{record-forth}
-use Rattle.sparse_field.proofs.Opening.{sparse-laws, long-enough}
+use Rattle.plans.proofs.Lawful.{sparse-laws, long-enough}
 
 -- the record of an input's job after k evaluations
 abbrev pub recordAfter : Lengths → Input → ℕ → Record

@@ -1,12 +1,8 @@
 -- Whole lists of calls, as the code makes them: each call with its input or budget, on a record and a memory (rules L1 and L3).
-use Prim.Native.Nat.{ℕ}
-use mathlib.Core.List.{List}
 use Rattle.schedule.specs.Memory.{Memory}
 use Rattle.schedule.specs.Calls as calls
 use Rattle.schedule.specs.Engine.{Engine}
 use Rattle.sparse_field.specs.declared.Record.{Record}
-use Rattle.schedule.specs.declared.Answer.{Answer}
-use Rattle.schedule.specs.declared.Answer.the-variants.{Accepted, Refused}
 use Rattle.plans.specs.Sparse.{sparse}
 use Rattle.sparse_field.specs.Records.{recordIn}
 use Rattle.sparse_field.specs.Calls.{called}
@@ -20,16 +16,11 @@ pub record Held : Type 0 where
   pub held : Record
   pub memory : Memory
 
--- the ledger's answer of the code's
-abbrev pub answerIn : Answer → calls.Answer
-answerIn Accepted = calls.accepted
-answerIn (Refused n) = calls.refused n
-
 -- one call: what the contracts of open, step and drop say
 abbrev pub onHeld : Call → Held → calls.Outcome Held
 onHeld c s =
     let h = called c (s .held) (s .memory) in
-    record { answer = answerIn (h .outcome .answer); next = record { held = h .outcome .next; memory = h .memory } }
+    record { answer = h .outcome .answer; next = record { held = h .outcome .next; memory = h .memory } }
 
 -- what the schedule's engine is, with that record and memory
 abbrev pub engineIn : Held → Engine sparse

@@ -8,7 +8,7 @@ ghost use Rattle.schedule.specs.Lent.{entered};
 ghost use Rattle.plans.specs.Sparse.{sparse};
 ghost use Rattle.sparse_field.specs.Records.{jobIn};
 use crate::Record;
-use crate::jobs::lengths_of;
+use crate::memory::lengths_of;
 use input::Input;
 use input::Lengths;
 use input::Refusal;

@@ -10,7 +10,7 @@ use Rattle.sparse_field.specs.declared.Record.{Record}
 use Rattle.plans.specs.Plan.{planOf}
 use Rattle.plans.specs.Sparse.{sparse}
 use Rattle.sparse_field.specs.Records.{jobIn, recordOut}
-use Rattle.input.specs.declared.Lengths as grids
+use Rattle.grid.specs.declared.GridCounts.{GridCounts}
 use Rattle.schedule.specs.JobRecord.{job}
 use Rattle.schedule.specs.declared.Cursor.{Cursor}
 use Rattle.schedule.specs.declared.Cursor.the-variants.{End}
@@ -38,11 +38,11 @@ cursorAt Through = End
 cursorAt (At a) = a
 
 -- the record of an input's job: its lengths, its counts, and where it has come to (rules R1 to R3)
-abbrev pub recordAt : Input → grids.Lengths → (nodes active leaves points evaluations : ℕ) → Stop → Record
-recordAt i l nodes active leaves points evaluations stop = record {
+abbrev pub recordAt : Input → Lengths → GridCounts → (leaves points evaluations : ℕ) → Stop → Record
+recordAt i l counted leaves points evaluations stop = record {
   job = true;
   input = i;
   lengths = l;
-  counts = record { nodes = nodes; active = active; leaves = leaves; sampled = leaves * points; evaluations = evaluations };
+  counts = record { grid = counted; leaves = leaves; sampled = leaves * points; evaluations = evaluations };
   cursor = cursorAt stop;
 }

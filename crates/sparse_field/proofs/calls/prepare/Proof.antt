@@ -3,8 +3,10 @@ use Prim.Native.Nat.{ℕ, _≤_}
 use mathlib.Core.Path.{_≡_, ap, _∙_}
 use native.Mathlib.Omega.{arith}
 use lib.ListN.{length, length-replicate}
-use Rattle.schedule.specs.Opened.{lengthsOf, kindsFrom, opened}
-use Rattle.plans.specs.Plan.{planOf}
+use Rattle.schedule.specs.Opened.{lengthsOf, opened}
+use Rattle.lists.specs.Flags.{flagsFrom}
+use Rattle.plans.specs.Plan.{planWith}
+use Rattle.kinds.specs.Inner.Tables.{activeChild}
 use Rattle.sparse_field.proofs.Opening.{nothing}
 use Rattle.schedule.specs.Memory.{Memory}
 use Rattle.schedule.specs.Lent.{memoryOf}
@@ -42,12 +44,12 @@ same-length-5 : tie.Need-same-length-5
 same-length-5 c = search needs
 
 returns : tie.Need-returns
-unfolding opened
+unfolding opened planWith
 returns c =
     let s = c .before .before .before .before .before .before .before .before .before .before .before .before .before .before .before .before .before .before .before .before .before .before .before .before .before in
     let zero = c .before .before .before .before .before .before .before .before .before .before .before .before .before .before .zero-all .ensures in
     let long = ap (λ m. length (m .kinds)) zero ∙ length-replicate (length (s .args .kinds .now)) 0 in
-    let kinds = c .before .before .set-kinds .ensures ∙ ap (λ n. kindsFrom (planOf (s .args .input)) n 0) long in
+    let kinds = c .before .before .set-kinds .ensures ∙ ap (λ n. flagsFrom (activeChild (s .args .input .grid)) n 0) long in
     λ t. memoryOf (kinds t) (zero t .numbers) (zero t .places) (zero t .store) (zero t .corners)
 
 pub prepare-spec : {M : Type 1} → statement M

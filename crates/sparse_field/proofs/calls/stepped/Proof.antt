@@ -15,7 +15,8 @@ use Rattle.plans.specs.Sparse.{sparse}
 use Rattle.sparse_field.specs.Records.{jobIn, recordOut}
 use Rattle.input.proofs.Clear.{Clear, no-cause}
 use Rattle.grid.proofs.LimitLaws.{bound-fits}
-use Rattle.sparse_field.proofs.Opening.{sized, lent-memory, valid-startable, active-within, sparse-laws}
+use Rattle.sparse_field.proofs.Opening.{sized, lent-memory, valid-startable, active-within}
+use Rattle.plans.proofs.Lawful.{sparse-laws}
 use Rattle.sparse_field.proofs.Results.{left-most, leaves-after, made-most, record-same, engine-after}
 use Rattle.schedule.specs.Memory.{Memory}
 use Rattle.schedule.specs.Lent.{memoryOf}
@@ -36,7 +37,7 @@ cause : (s : tie.Start) → let i = s .args .found .input in Clear i (lengthsOf 
 cause s = let i = s .args .found .input in no-cause i (lengthsOf (memory s)) (judged s .noCause)
 
 size : (s : tie.Start) → Sized (s .args .found .input .grid)
-size s = sized _ (cause s)
+size s = sized (s .args .found .input) (cause s)
 
 all : (s : tie.Start) → Lent (planOf (s .args .found .input)) (memory s)
 all s = lent-memory (s .args .found .input) (memory s) (cause s) (judged s .activeKinds)
@@ -109,7 +110,7 @@ returns c =
     let work = c .before .before .before .before .before .before .before .before .before .before .before .before .before .run-job in
     let engine = engine-after (r .input) (r .lengths) (r .counts .evaluations) (s .args .budget) (r .counts .leaves) _ (memory s) _ _ (work .result) (work .ensures) in (
       c .record-of .ensures
-          ∙ record-same (r .input) (work .result) refl (ap (λ x. x .nodes) (p .counts)) (ap (λ x. x .active) (p .counts)) refl
+          ∙ record-same (r .input) (work .result) refl (ap (λ x. x .grid) (p .counts)) refl
           ∙ sym (ap (λ e. recordOut (e .jobRecord)) engine),
       sym (ap (λ e. e .memory) engine),
     )

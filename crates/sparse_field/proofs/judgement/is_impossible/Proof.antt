@@ -1,7 +1,7 @@
 -- `is_impossible` meets its contract: the tests in turn, of which a later one may go by what the earlier ones have ruled out.
 use mathlib.Core.Path.{sym, ap, _∙_}
 use mathlib.Core.Bool.{not}
-use Rattle.judging.proofs.Judgement.{impossible-cause, impossible-lengths, impossible-kinds, impossible-progress, possible-input, possible-kinds}
+use Rattle.sparse_field.proofs.JudgedRecords.{impossible-cause, impossible-lengths, impossible-kinds, impossible-progress, possible-input, possible-kinds}
 use borrow.Author.Needs.{needs}
 use Rattle.sparse_field.proofs.judgement.is_impossible.Statement.{statement}
 use Rattle.sparse_field.proofs.judgement.is_impossible.Tie as tie

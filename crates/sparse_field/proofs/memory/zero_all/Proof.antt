@@ -1,8 +1,8 @@
--- `zeroing::zero_all` meets its contract, slice by slice.
+-- `zero_all` meets its contract, slice by slice.
 use Rattle.schedule.specs.Lent.{memoryOf}
 use borrow.Author.Needs.{needs}
-use Rattle.sparse_field.proofs.zeroing.zero_all.Statement.{statement}
-use Rattle.sparse_field.proofs.zeroing.zero_all.Tie as tie
+use Rattle.sparse_field.proofs.memory.zero_all.Statement.{statement}
+use Rattle.sparse_field.proofs.memory.zero_all.Tie as tie
 
 zero-bytes-requires : tie.Need-zero-bytes-requires
 zero-bytes-requires c κs = search needs

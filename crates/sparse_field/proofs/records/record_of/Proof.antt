@@ -1,12 +1,12 @@
--- `jobs::record_of` meets its contract: few leaves have few points.
+-- `record_of` meets its contract: few leaves have few points.
 use Prim.Native.Nat.{_*_, _≤_}
 use mathlib.Core.Bool.{true}
 use native.Mathlib.Omega.{arith}
 use borrow.Author.Needs.{needs}
 use Rattle.grid.proofs.BlockLaws.{cube-le}
 use Rattle.grid.proofs.LimitLaws.{store-few}
-use Rattle.sparse_field.proofs.jobs.record_of.Statement.{statement}
-use Rattle.sparse_field.proofs.jobs.record_of.Tie as tie
+use Rattle.sparse_field.proofs.records.record_of.Statement.{statement}
+use Rattle.sparse_field.proofs.records.record_of.Tie as tie
 
 cast-cube-of : tie.Need-cast-cube-of
 cast-cube-of c = search needs
@@ -31,8 +31,7 @@ returns c =
       input = a .input;
       lengths = a .lengths;
       counts = record {
-        nodes = a .nodes;
-        active = a .active;
+        grid = a .counted;
         leaves = a .turn .leaves;
         sampled = a .turn .leaves * c .before .cube-of .ensures t;
         evaluations = a .evaluations;

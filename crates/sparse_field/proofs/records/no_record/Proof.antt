@@ -1,4 +1,4 @@
--- `jobs::no_record` meets its contract.
+-- `no_record` meets its contract.
 use mathlib.Core.Path.{ap, _∙_}
 use Rattle.float.specs.Zero.{plusZero}
 use Rattle.geometry.specs.declared.BoundingBox.{BoundingBox}
@@ -7,8 +7,8 @@ use Rattle.sparse_field.specs.declared.Record.{Record}
 use Rattle.schedule.specs.declared.Cursor.the-variants.{End}
 use Rattle.sparse_field.specs.Records.{noRecord, noInput, noModel}
 use borrow.Author.Needs.{needs}
-use Rattle.sparse_field.proofs.jobs.no_record.Statement.{statement}
-use Rattle.sparse_field.proofs.jobs.no_record.Tie as tie
+use Rattle.sparse_field.proofs.records.no_record.Statement.{statement}
+use Rattle.sparse_field.proofs.records.no_record.Tie as tie
 
 -- the record, by its bounds
 abbrev withBounds : BoundingBox → Record

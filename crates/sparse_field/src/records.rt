@@ -1,53 +1,24 @@
-// A job's work on its own model, and the records that calls hand on.
+// The records that calls hand on.
 ghost use mathlib.Core.Path.{_≡_};
-ghost use mathlib.Core.Bool.{false};
-ghost use mathlib.Core.List.{[]};
 ghost use Prim.Native.Nat.{_≤_};
 ghost use Rattle.grid.specs.Blocks.{cube};
-ghost use Rattle.model.specs.Model.{refusedByFour};
-ghost use Rattle.schedule.specs.Resume.{eventsFrom};
-ghost use Rattle.schedule.specs.Totals.{activeAll};
-ghost use Rattle.schedule.specs.Lent.{held, entered, left};
-ghost use Rattle.plans.specs.Plan.{planOf};
-ghost use Rattle.engine.specs.Inner.Progress.{Sized, Lent, Advanced, readingIn};
-ghost use Rattle.schedule.specs.Opened.{lengthsOf};
 ghost use Rattle.sparse_field.specs.Records.{noRecord};
 ghost use Rattle.sparse_field.specs.Inner.Parts.{cursorAt, recordAt};
-ghost use Rattle.engine.specs.Inner.Startable.{Startable};
-use crate::Counts;
-use crate::Cursor;
-use input::Input;
-use crate::Progress;
 use crate::Record;
-use crate::Stop;
-use crate::nodes;
+use engine::Progress;
+use engine::Stop;
 use geometry::BoundingBox;
 use geometry::Vec3;
-use input::Band;
 use grid::Grid;
+use grid::GridCounts;
+use input::Band;
+use input::Input;
 use input::Lengths;
 use model::ImplicitModel;
 use model::ModelComponent;
 use model::Part;
-
-// The lengths of five slices.
-pub fn lengths_of(
-    kinds: &[u8],
-    numbers: &[f64],
-    places: &[u32],
-    store: &[f64],
-    corners: &[f64],
-) -> Lengths
-    ensures { λ r. ⌜ r ≡ (lengthsOf (entered kinds numbers places store corners)) ⌝ }
-{
-    Lengths {
-        kinds: kinds.len(),
-        numbers: numbers.len(),
-        places: places.len(),
-        store: store.len(),
-        corners: corners.len(),
-    }
-}
+use schedule::Counts;
+use schedule::Cursor;
 
 // The cursor where a function has stopped, or the end.
 pub fn cursor_of(stop: Stop) -> Cursor
@@ -93,8 +64,10 @@ pub fn no_record() -> Record
             corners: 0,
         },
         counts: Counts {
-            nodes: 0,
-            active: 0,
+            grid: GridCounts {
+                nodes: 0,
+                active: 0,
+            },
             leaves: 0,
             sampled: 0,
             evaluations: 0,
@@ -107,13 +80,12 @@ pub fn no_record() -> Record
 pub fn record_of(
     input: Input,
     lengths: Lengths,
-    nodes: u64,
-    active: u64,
+    counted: GridCounts,
     turn: Progress,
     evaluations: u64,
 ) -> Record
     requires { ⌜ (turn .leaves ≤ 16777216) × (input .grid .leaf ≤ 64) ⌝ }
-    ensures { λ r. ⌜ r ≡ recordAt input lengths nodes active (turn .leaves) (cube (input .grid .leaf)) evaluations (turn .stop) ⌝ }
+    ensures { λ r. ⌜ r ≡ recordAt input lengths counted (turn .leaves) (cube (input .grid .leaf)) evaluations (turn .stop) ⌝ }
 {
     let g = input.grid;
     let leaves = turn.leaves;
@@ -124,8 +96,7 @@ pub fn record_of(
         input,
         lengths,
         counts: Counts {
-            nodes,
-            active,
+            grid: counted,
             leaves,
             sampled,
             evaluations,
