@@ -50,6 +50,13 @@ few : (s : tie.Start) → evaluationsBound (planOf (s .args .found .input)) ≤ 
 unfolding evaluationsBound planWith
 few s = bound-fits (s .args .found .input .grid) (cause s .two) (cause s .five) .bound
 
+-- ---- where the job has run
+
+abbrev start : tie.After-run-job → tie.Start
+start r = r .before .before .before .before .before .before .before .before .before .before .before .before
+
+-- ---- what is left
+
 run-job-requires : tie.Need-run-job-requires
 run-job-requires c κs =
     let s = c .before .before .before .before .before .before .before .before .before .before .before in
@@ -65,29 +72,33 @@ run-job-requires c κs =
 
 sub-evaluations : tie.Need-sub-evaluations
 sub-evaluations c =
-    let s = c .before .before .before .before .before .before .before .before .before .before .before .before .before .before .before .before .before .before .before .before .before .before .before in
-    left-most (s .args .found .input) (lengthsOf (memory s)) 0 _ _ _ _ _ _ _ (c .before .before .before .before .before .before .before .before .before .before .before .run-job .ensures)
+    let r = c .before .before .before .before .before .before .before .before .before .before .before in
+    left-most (start r .args .found .input) (lengthsOf (memory (start r))) 0 _ _ _ _ _ _ _ (r .run-job .ensures)
 
 add-evaluations : tie.Need-add-evaluations
 add-evaluations c =
-    let s = c .before .before .before .before .before .before .before .before .before .before .before .before .before .before .before .before .before .before .before .before .before .before .before .before in
+    let r = c .before .before .before .before .before .before .before .before .before .before .before .before in
+    let s = start r in
+    let found = s .args .found in
     let p = judged s in
-    omega (arith, p .evaluations, few s, made-most (s .args .found .input) (laws s) _ _ _ _ _ (s .args .found .cursor) _ (c .before .before .before .before .before .before .before .before .before .before .before .before .run-job .ensures) (p .cursor))
+    omega (arith, p .evaluations, few s, made-most (found .input) (laws s) _ _ _ _ _ (found .cursor) _ (r .run-job .ensures) (p .cursor))
 
 record-of-requires : tie.Need-record-of-requires
 record-of-requires c κs =
-    let s = c .before .before .before .before .before .before .before .before .before .before .before .before .before .before .before .before .before .before .before .before .before .before .before .before in
+    let r = c .before .before .before .before .before .before .before .before .before .before .before .before .before in
+    let s = start r in
+    let found = s .args .found in
     let p = judged s in (
       omega (
         arith,
-        active-within (s .args .found .input) (size s),
-        leaves-after (s .args .found .input) (laws s) _ _ _ _ _ (s .args .found .cursor) _ (c .before .before .before .before .before .before .before .before .before .before .before .before .run-job .ensures) (p .cursor) (all s .corners) (p .atLeast) (p .atMost),
+        active-within (found .input) (size s),
+        leaves-after (found .input) (laws s) _ _ _ _ _ (found .cursor) _ (r .run-job .ensures) (p .cursor) (all s .corners) (p .atLeast) (p .atMost),
       ),
       size s .leafMost,
     )
 
 same-length : tie.Need-same-length
-same-length c = c .before .before .before .before .before .before .before .before .before .before .before .before .kinds .given
+same-length c = c .before .before .before .before .before .before .before .before .before .before .before .before .before .kinds .given
 
 same-length-2 : tie.Need-same-length-2
 same-length-2 c = search needs
@@ -104,13 +115,15 @@ same-length-5 c = search needs
 returns : tie.Need-returns
 unfolding engineStepJob
 returns c =
-    let s = c .before .before .before .before .before .before .before .before .before .before .before .before .before .before .before .before .before .before .before .before .before .before .before .before .before in
-    let r = s .args .found in
-    let p = judged s in
-    let work = c .before .before .before .before .before .before .before .before .before .before .before .before .before .run-job in
-    let engine = engine-after (r .input) (r .lengths) (r .counts .evaluations) (s .args .budget) (r .counts .leaves) _ (memory s) _ _ (work .result) (work .ensures) in (
+    let r = c .before .before .before .before .before .before .before .before .before .before .before .before .before .before in
+    let s = start r in
+    let found = s .args .found in
+    let work = r .run-job in
+    let engine =
+    engine-after (found .input) (found .lengths) (found .counts .evaluations) (s .args .budget) (found .counts .leaves) _ (memory s) _ _
+    (work .result) (work .ensures) in (
       c .record-of .ensures
-          ∙ record-same (r .input) (work .result) refl (ap (λ x. x .grid) (p .counts)) refl
+          ∙ record-same (found .input) (work .result) refl (ap (λ x. x .grid) (judged s .counts)) refl
           ∙ sym (ap (λ e. recordOut (e .jobRecord)) engine),
       sym (ap (λ e. e .memory) engine),
     )
