@@ -8,7 +8,8 @@ use Rattle.sparse_vectors.proofs.take_lines.Tie as tie
 
 abbrev Inv-loop : tie.InvT-loop
 Inv-loop text held₀ kinds₀ numbers₀ places₀ store₀ corners₀ at₀ held kinds numbers places store corners at =
-    (at ≤ length text) × (length kinds ≡ length kinds₀) × (length numbers ≡ length numbers₀) × (length places ≡ length places₀) × (length store ≡ length store₀) × (length corners ≡ length corners₀)
+    (at ≤ length text) × (length kinds ≡ length kinds₀) × (length numbers ≡ length numbers₀)
+    × (length places ≡ length places₀) × (length store ≡ length store₀) × (length corners ≡ length corners₀)
 
 abbrev μ-loop : tie.MeasureT-loop
 μ-loop text held₀ kinds₀ numbers₀ places₀ store₀ corners₀ at₀ held kinds numbers places store corners at =
