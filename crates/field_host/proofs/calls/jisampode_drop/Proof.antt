@@ -40,10 +40,12 @@ same-length-5 c = search needs
 
 returns : tie.Need-returns
 returns c =
-    let a = c .before .before .before .before .before .before .before .before .before .before .before .before .before .before .before .before .before .before .before .before .before .before .before .before .before .before .before .args in
+    let a =
+    c .before .before .before .before .before .before .before .before .before .before .before .before .before .before .before .before .before .before .before .before .before .before .before .before .before .before .before .args in
     let old : Carried = carriedOf (now (a .record-words)) (now (a .record-parts)) (now (a .record-settings)) (now (a .record-reals)) in
     let m : Memory = memoryOf (now (a .kinds)) (now (a .numbers)) (now (a .places)) (now (a .store)) (now (a .corners)) in
-    let none = c .before .before .before .before .before .before .before .before .before .before .before .before .before .before .before .before .before .before .before .before .before .no-record .ensures in
+    let none =
+    c .before .before .before .before .before .before .before .before .before .before .before .before .before .before .before .before .before .before .before .before .before .no-record .ensures in
     let dropped = c .before .before .before .before .before .before .before .before .before .before .before .before .before .before .before .drop .ensures in
     let whole = dropped .0 ∙ ap (λ (r : Record). called drops r m .outcome) none in
     let back = c .hand-back .ensures in

@@ -47,14 +47,23 @@ same-length-5 c = search needs
 
 returns : tie.Need-returns
 returns c =
-    let a = c .before .before .before .before .before .before .before .before .before .before .before .before .before .before .before .before .before .before .before .before .before .before .before .before .before .before .before .before .args in
+    let a =
+    c .before .before .before .before .before .before .before .before .before .before .before .before .before .before .before .before .before .before .before .before .before .before .before .before .before .before .before .before .args in
     let old : Carried = carriedOf (now (a .record-words)) (now (a .record-parts)) (now (a .record-settings)) (now (a .record-reals)) in
     let m : Memory = memoryOf (now (a .kinds)) (now (a .numbers)) (now (a .places)) (now (a .store)) (now (a .corners)) in
     let i : Input = inputGiven (now (a .settings)) (a .inner) (a .leaf) (flatOf (now (a .parts)) (now (a .reals))) (a .count) in
-    let none = c .before .before .before .before .before .before .before .before .before .before .before .before .before .before .before .before .before .before .before .before .before .no-record .ensures in
-    let given = c .before .before .before .before .before .before .before .before .before .before .before .before .before .before .before .before .before .before .before .before .before .before .input-given .ensures in
+    let none =
+    c .before .before .before .before .before .before .before .before .before .before .before .before .before .before .before .before .before .before .before .before .before .no-record .ensures in
+    let given =
+    c .before .before .before .before .before .before .before .before .before .before .before .before .before .before .before .before .before .before .before .before .before .before .input-given .ensures in
     let opened = c .before .before .before .before .before .before .before .before .before .before .before .before .before .before .before .«open» .ensures in
-    let from = ap (λ (r : Record). called (opens (c .before .before .before .before .before .before .before .before .before .before .before .before .before .before .before .before .before .before .before .before .before .before .input-given .result)) r m) none ∙ ap (λ (x : Input). called (opens x) noRecord m) given in
+    let from =
+    ap
+    (λ (r : Record). called
+    (opens
+    (c .before .before .before .before .before .before .before .before .before .before .before .before .before .before .before .before .before .before .before .before .before .before .input-given .result))
+    r m) none
+    ∙ ap (λ (x : Input). called (opens x) noRecord m) given in
     let whole = opened .0 ∙ ap (λ (h : Handed). h .outcome) from in
     let back = c .hand-back .ensures in
     let same = open-from-none old m i in (

@@ -38,7 +38,8 @@ mul-store : tie.Need-mul-store
 mul-store c =
     let g = c .before .before .before .before .before .before .args .g in
     let p = c .before .before .before .before .before .before .pre in
-    let active : c .before .before .active-children .result ≤ 16777216 = omega (arith, active-few g, few-children g (p .1), c .before .before .active-children .ensures) in
+    let active : c .before .before .active-children .result ≤ 16777216 =
+    omega (arith, active-few g, few-children g (p .1), c .before .before .active-children .ensures) in
     let points : c .cube-of2 .result ≤ 262144 = omega (arith, cube-le 64 (g .leaf) (leaf-block g (p .0) .most), c .cube-of2 .ensures) in
     omega (arith, store-few _ _ active points)
 
