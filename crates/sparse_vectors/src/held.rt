@@ -27,7 +27,9 @@ pub const WHOLE: usize = 685;
 
 // What is held before the first list.
 pub fn start() -> [u64; 686] {
-    [0; 686]
+    let mut held = [0; 686];
+    held[DIGEST] = vectors::digest_start();
+    held
 }
 
 // Copies so many numbers of a line to a place.

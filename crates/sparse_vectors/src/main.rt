@@ -2,7 +2,6 @@
 // list are what each call hands back and what the lent slices then hold. For each list a line is written:
 // their digest. Where the first line is `full` the answers are written instead.
 ghost use Prim.Native.Nat.{_<_, _≤_};
-ghost use lib.ListN.{length};
 
 mod answers; // answers.rt: the answers of a list, as a digest or whole
 mod calls; // calls.rt: open, step and drop
@@ -164,40 +163,7 @@ fn take_lines(
     while at < text.len() {
         let end = vectors::line_end(text, at);
         take_line(&text[at..end], held, kinds, numbers, places, store, corners);
-        at = end;
-    }
-}
-
-// Where the list that holds a line ends: before the next line that lends, or at the end of the text.
-fn list_end(text: &[u8], at: usize) -> usize
-    requires { ⌜ at < length (now text) ⌝ }
-    ensures { λ r. ⌜ (at < r) × (r ≤ length (now (text .entry))) ⌝ }
-{
-    let mut end = vectors::line_end(text, at);
-    while end < text.len() {
-        if vectors::has_word(text, end, b"lend ") {
-            return end;
-        }
-        end = vectors::line_end(text, end);
-    }
-    end
-}
-
-fn take_lists(
-    text: &[u8],
-    held: &mut [u64; 686],
-    kinds: &mut [u8],
-    numbers: &mut [f64],
-    places: &mut [u32],
-    store: &mut [f64],
-    corners: &mut [f64],
-) {
-    let mut at = 0;
-    while at < text.len() {
-        let end = list_end(text, at);
-        answers::begin(held);
-        take_lines(&text[at..end], held, kinds, numbers, places, store, corners);
-        answers::end(held);
+        answers::close(text, end, held);
         at = end;
     }
 }
@@ -216,7 +182,7 @@ fn main() {
     let mut store = [0.0; 8192];
     let mut corners = [0.0; 1024];
     let n = io::read_full(0, &mut text);
-    take_lists(
+    take_lines(
         &text[..n],
         &mut held,
         &mut kinds,

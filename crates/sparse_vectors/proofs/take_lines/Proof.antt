@@ -33,6 +33,9 @@ part-take-line-end c = search needs
 take-line-requires : tie.Need-take-line-requires Inv-loop μ-loop
 take-line-requires c κs = search needs
 
+close-requires : tie.Need-close-requires Inv-loop μ-loop
+close-requires c κs = search needs
+
 loop-less : tie.Need-loop-less Inv-loop μ-loop
 loop-less c = search needs
 
@@ -69,6 +72,7 @@ take-lines-spec =
     part-take-line-start
     part-take-line-end
     take-line-requires
+    close-requires
     loop-less
     loop-again
     same-length
