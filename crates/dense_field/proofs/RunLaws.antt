@@ -64,7 +64,8 @@ module _ (n : Vec3i) (x-above : 0 < n .i) (y-above : 0 < n .j) where
   row-point : (p s : ℕ) {v : Vec3i} → v ≡ pointAt n p → v .i + s < n .i → vec3i (v .i + s) (v .j) (v .k) ≡ pointAt n (p + s)
   unfolding placeOf
   row-point p s {v} e below =
-      let here : placeOf (v .i) (v .j) (v .k) (n .i) (n .j) ≡ p = ap (λ (w : Vec3i). placeOf (w .i) (w .j) (w .k) (n .i) (n .j)) e ∙ place-of-indices (n .i) (n .j) p in
+      let here : placeOf (v .i) (v .j) (v .k) (n .i) (n .j) ≡ p =
+      ap (λ (w : Vec3i). placeOf (w .i) (w .j) (w .k) (n .i) (n .j)) e ∙ place-of-indices (n .i) (n .j) p in
       let there : placeOf (v .i + s) (v .j) (v .k) (n .i) (n .j) ≡ p + s = omega arith in
       sym (indices-of-place (n .i) (n .j) (v .i + s) (v .j) (v .k) below (indices p e .j-in)) ∙ ap (pointAt n) there
 
@@ -87,12 +88,15 @@ module _ (n : Vec3i) (x-above : 0 < n .i) (y-above : 0 < n .j) where
       → pz' ≡ filled t count (λ q. axisPoint (origin .z) cell (v .k)) pz
       → RunPoints origin cell n at (t + count) px' py' pz'
   unfolding fieldPoint
-  more-points origin cell at t count {v} {px} {py} {pz} {px'} {py'} {pz'} here fits short so-far x-long y-long z-long x y z = record { point = λ q below. one q below (ltb q t) refl }
+  more-points origin cell at t count {v} {px} {py} {pz} {px'} {py'} {pz'} here fits short so-far x-long y-long z-long x y z =
+      record { point = λ q below. one q below (ltb q t) refl }
     where
       earlier : (q : ℕ) (l : List Float) {l' : List Float} (g : ℕ → Float) → l' ≡ filled t count g l → q < t → getD l' q past ≡ getD l q past
       earlier q l g e h = ap (λ (k : List Float). getD k q past) e ∙ getD-unfilled t count g l q past (λ from. omega arith)
 
-      now-set : (q : ℕ) → q < t + count → (l : List Float) {l' : List Float} (g : ℕ → Float) → length l ≡ 64 → l' ≡ filled t count g l → t ≤ q → getD l' q past ≡ g q
+      now-set :
+          (q : ℕ) → q < t + count → (l : List Float) {l' : List Float} (g : ℕ → Float) → length l ≡ 64
+          → l' ≡ filled t count g l → t ≤ q → getD l' q past ≡ g q
       now-set q below l g long e h = ap (λ (k : List Float). getD k q past) e ∙ getD-filled t count g l q past h below (omega arith)
 
       one : (q : ℕ) → q < t + count → (b : Bool) → ltb q t ≡ b → vec3 (getD px' q past) (getD py' q past) (getD pz' q past) ≡ placePoint origin cell n (at + q)

@@ -1,4 +1,5 @@
--- Encoding a record and decoding it gives it back: for every record of 64 parts whose block sizes and part count have 32 bits, as the code's have by their types.
+-- Encoding a record and decoding it gives it back: for every record of 64 parts whose block sizes and part count have
+-- 32 bits, as the code's have by their types.
 use mathlib.Core.Path.{_≡_, refl, sym, _∙_}
 use mathlib.Core.Bool.{Bool, true, false}
 use mathlib.Core.List.{List, [], _∷_, map}

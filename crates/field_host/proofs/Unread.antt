@@ -1,4 +1,5 @@
--- What is handed in is judged: a part's code that does not exist is cause 4, a first word of 0 is no job, and words with a job that no record has are refused by 8.
+-- What is handed in is judged: a part's code that does not exist is cause 4, a first word of 0 is no job, and words
+-- with a job that no record has are refused by 8.
 use Prim.Native.Nat.{ℕ, _<_}
 use mathlib.Core.Path.{_≡_, refl, sym, ap, _∙_}
 use mathlib.Core.Bool.{Bool, true, false, not, cond}

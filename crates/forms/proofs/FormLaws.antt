@@ -9,7 +9,8 @@ use lib.ListN.{length, getD, take, drop, length-append, length-drop}
 use lib.Seq.{take-all}
 use Rattle.forms.specs.Digits.{hexOf, decimalCount, decimalOf}
 use Rattle.forms.specs.Fronts as fronts
-use Rattle.forms.specs.Forms.{Piece, hex, decimal, byte, spellPiece, isField, after, spell, fields, Line, off, line, readPiece, withNumber, onFront, readForm}
+use Rattle.forms.specs.Forms.{Piece, hex, decimal, byte, spellPiece, isField, after, spell, fields, Line, off, line, readPiece}
+use Rattle.forms.specs.Forms.{withNumber, onFront, readForm}
 use Rattle.forms.specs.Fitting.{FitsPiece, Fits, Spells, mostPiece, mostOf}
 use Rattle.forms.specs.Inner.Cuts.{endsNumber, endsDecimal, separated}
 use Rattle.forms.proofs.Cases.{equal-or, never}
@@ -158,7 +159,9 @@ unfolding withNumber
 with-number true x xs t = refl
 with-number false x xs t = refl
 
-module _ (limit : ℕ) (p : Piece) (form : List Piece) (small : limit < 10 ^ 19) (ih : (t xs rest : List ℕ) → readForm limit form t ≡ line xs rest → Spells limit form xs t rest) where
+module _
+    (limit : ℕ) (p : Piece) (form : List Piece) (small : limit < 10 ^ 19)
+    (ih : (t xs rest : List ℕ) → readForm limit form t ≡ line xs rest → Spells limit form xs t rest) where
   line-before : (t : List ℕ) (x : ℕ) (next xs rest : List ℕ) → readPiece limit p t ≡ fronts.number x next
       → (l : Line) → readForm limit form next ≡ l → withNumber (isField p) x l ≡ line xs rest → Spells limit (p ∷ form) xs t rest
   unfolding withNumber

@@ -83,7 +83,9 @@ pub gathered-first : (text : List ℕ) (at : ℕ) → at ≤ length text
 unfolding withParts
 gathered-first text at within = record { spelts = []; number = refl; most = omega arith; parts = refl; bits = refl; within = within; left = refl }
 
-module _ (text : List ℕ) (at : ℕ) (components : List ModelComponent) (patterns : List ℕ) (place count : ℕ) (g : Gathered text at components patterns place count) where
+module _
+    (text : List ℕ) (at : ℕ) (components : List ModelComponent) (patterns : List ℕ) (place count : ℕ)
+    (g : Gathered text at components patterns place count) where
   -- the text ends here
   pub gathered-done : (grid : Grid) (band : Band) → length text ≤ place
       → modelReading grid band (readParts 64 5 (drop at text)) ≡ readJob (record {
@@ -119,7 +121,9 @@ module _ (text : List ℕ) (at : ℕ) (components : List ModelComponent) (patter
         rw (none, line) (parts-full 69 (drop place text) more-left)
 
     module _ (room : count < 64) where
-      left-turn : readParts (64 - count) (5 + count) (drop place text) ≡ onPart (5 + count) (readPart (drop place text)) (readParts (64 - (count + 1)) (5 + (count + 1)))
+      left-turn :
+          readParts (64 - count) (5 + count) (drop place text)
+          ≡ onPart (5 + count) (readPart (drop place text)) (readParts (64 - (count + 1)) (5 + (count + 1)))
       left-turn =
           let one : 64 - count ≡ suc (64 - (count + 1)) = omega arith in
           let next : 5 + (count + 1) ≡ suc (5 + count) = omega arith in

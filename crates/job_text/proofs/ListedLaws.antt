@@ -60,7 +60,11 @@ opened-answer : (i : Input) (r : Record) (m : Memory) → called (opens i) r m .
 unfolding called engineCall engineOpen
 opened-answer i r m = by (sparse .cause (lengthsOf m) i)
   where
-    by : (n : ℕ) → (let o = engineOpen sparse i (record { jobRecord = recordIn r; memory = m }) n in handed r (o .answer) (o .next)) .outcome .answer ≡ answerFor n
+    by :
+        (n : ℕ)
+        → (let o = engineOpen sparse i (record { jobRecord = recordIn r; memory = m }) n in handed r (o .answer)
+        (o .next)) .outcome .answer
+        ≡ answerFor n
     by zero = refl
     by (suc n) = refl
 
@@ -168,13 +172,17 @@ module _ (i : Input) (m : Memory) (none : sparse .cause (lengthsOf m) i ≡ 0) w
 
 -- ---- a job that is opened and then given a budget that covers it
 
-module _ (j : Job) (r : Record) (m : Memory) {opened : Outcome} (lengths : lengthsOf m ≡ programLengths) (is-opened : opened ≡ called (opens (j .input)) r m .outcome) where
+module _
+    (j : Job) (r : Record) (m : Memory) {opened : Outcome} (lengths : lengthsOf m ≡ programLengths)
+    (is-opened : opened ≡ called (opens (j .input)) r m .outcome) where
   -- a refused one
   pub refused-listed : (k : ℕ) → opened .answer ≡ Refused k → spell refusedForm (k ∷ []) ≡ jobListed j
   refused-listed k is = sym (listed-refusal j r m lengths k (sym (ap (λ o. o .answer) is-opened) ∙ is))
 
   -- a finished one
-  pub finished-listed : (m₁ m₂ : Memory) {done : Outcome} {nan n : ℕ} → m₁ ≡ called (opens (j .input)) r m .memory → opened .answer ≡ Accepted → n ≡ 18446744073709551615
+  pub finished-listed :
+      (m₁ m₂ : Memory) {done : Outcome} {nan n : ℕ} → m₁ ≡ called (opens (j .input)) r m .memory
+      → opened .answer ≡ Accepted → n ≡ 18446744073709551615
       → done ≡ called (steps n) (opened .next) m₁ .outcome → m₂ ≡ called (steps n) (opened .next) m₁ .memory → nan ≡ jobNan j
       → (out : List ℕ) → writtenOf (done .next) nan m₂ out ≡ putListing (jobListed j) out
   finished-listed m₁ m₂ {done} {nan} {n} after-open accepted all is-done after-step is-nan out =
@@ -184,7 +192,10 @@ module _ (j : Job) (r : Record) (m : Memory) {opened : Outcome} (lengths : lengt
       let first = job-opened i m none r in
       let start : opened .next ≡ recordAfter (lengthsOf m) i 0 = ap (λ o. o .next) is-opened ∙ ap (λ h. h .outcome .next) first in
       let memory : m₁ ≡ stateAt (planOf i) (lengthsOf m) 0 .memory = after-open ∙ ap (λ h. h .memory) first in
-      let last : called (steps n) (opened .next) m₁ ≡ acceptedWith (recordAfter (lengthsOf m) i (total (planOf i))) (stateAt (planOf i) (lengthsOf m) (total (planOf i)) .memory) =
+      let last :
+      called (steps n) (opened .next) m₁
+      ≡ acceptedWith (recordAfter (lengthsOf m) i (total (planOf i)))
+      (stateAt (planOf i) (lengthsOf m) (total (planOf i)) .memory) =
       ap (λ x. called (steps n) x m₁) start ∙ ap (λ x. called (steps n) (recordAfter (lengthsOf m) i 0) x) memory ∙ job-finished i m none n covered in
       ap (λ o. writtenOf (o .next) nan m₂ out) (is-done ∙ ap (λ h. h .outcome) last)
       ∙ ap (λ x. writtenOf (recordAfter (lengthsOf m) i (total (planOf i))) nan x out) (after-step ∙ ap (λ h. h .memory) last)

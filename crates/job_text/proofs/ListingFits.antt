@@ -52,7 +52,14 @@ module _ (v c : ℕ) (node : v < 1000) (child : c < 1000) where
   unfolding leafLine
   leaf-small nan P =
       let values = tabulate (P .leafPoints) (P .pointValue v c) in
-      omega (arith, length-append (spell leafForm (v ∷ c ∷ [])) (valuesText nan values ++ leafEnd), length-append (valuesText nan values) leafEnd, values-length nan values, length-tabulate (P .leafPoints) (P .pointValue v c), leaf-front-small)
+      omega (
+        arith,
+        length-append (spell leafForm (v ∷ c ∷ [])) (valuesText nan values ++ leafEnd),
+        length-append (valuesText nan values) leafEnd,
+        values-length nan values,
+        length-tabulate (P .leafPoints) (P .pointValue v c),
+        leaf-front-small,
+      )
 
   constant-small : (b : ℕ) → length (spell constantForm (v ∷ c ∷ b ∷ [])) ≤ 36
   unfolding spell spellPiece pieceOf isField after
@@ -125,7 +132,15 @@ module _ (P : Plan) where
       let small = lines-small nan n (omega arith) few in
       let active : activeAll P ≤ 512 = omega (arith, sumBits-most (λ j. P .active (j / P .children) (j % P .children)) n, bits-all) in
       let bytes = line-bytes (activeAll P) (P .leafPoints) in
-      omega (arith, length-append done lines, done-most (countsWith P (leavesAll P) (total P)), measured, small, ap (λ k. k * (36 + 17 * P .leafPoints)) bits-all, bytes)
+      omega (
+        arith,
+        length-append done lines,
+        done-most (countsWith P (leavesAll P) (total P)),
+        measured,
+        small,
+        ap (λ k. k * (36 + 17 * P .leafPoints)) bits-all,
+        bytes,
+      )
 
 -- THE PROGRAM'S LISTINGS FIT
 pub listing-fits : (i : Input) (nan : ℕ) → sparse .cause programLengths i ≡ 0 → length (planListing (planOf i) nan) ≤ 88176

@@ -66,7 +66,11 @@ at-place P j below =
 -- ---- a finished job
 
 module _ (P : Plan) (m : Memory) (constants : Constants P) (done : Finished P m) where
-  child-is : (j : ℕ) → At P j → childAt m j ≡ finishedChild (leavesBefore P (j / P .children) (j % P .children)) (P .active (j / P .children) (j % P .children)) (decision P (j / P .children) (j % P .children))
+  child-is :
+      (j : ℕ) → At P j
+      → childAt m j
+      ≡ finishedChild (leavesBefore P (j / P .children) (j % P .children))
+      (P .active (j / P .children) (j % P .children)) (decision P (j / P .children) (j % P .children))
   child-is j at = ap (childAt m) (sym (at .place)) ∙ done .children (j / P .children) (j % P .children) (at .node) (at .child)
 
   -- the values of the leaf at place j are its points'
@@ -90,7 +94,9 @@ module _ (P : Plan) (m : Memory) (constants : Constants P) (done : Finished P m)
       let c = j % P .children in
       by nan j at (P .active v c) (decision P v c) refl refl (child-is j at)
     where
-      by : (nan j : ℕ) → At P j → (b : Bool) (d : Verdict) → P .active (j / P .children) (j % P .children) ≡ b → decision P (j / P .children) (j % P .children) ≡ d
+      by :
+          (nan j : ℕ) → At P j → (b : Bool) (d : Verdict) → P .active (j / P .children) (j % P .children) ≡ b
+          → decision P (j / P .children) (j % P .children) ≡ d
           → childAt m j ≡ finishedChild (leavesBefore P (j / P .children) (j % P .children)) b d
           → kindLine (P .leafPoints) nan (j / P .children) (j % P .children) (childAt m j .kind) (childAt m j .number) (childAt m j .place) (m .store)
           ≡ planLine P nan (j / P .children) (j % P .children) b d
@@ -125,7 +131,9 @@ module _ (P : Plan) (m : Memory) (constants : Constants P) (done : Finished P m)
         let c = j % P .children in
         by j at (P .active v c) (decision P v c) refl refl (child-is j at)
       where
-        by : (j : ℕ) → At P j → (b : Bool) (d : Verdict) → P .active (j / P .children) (j % P .children) ≡ b → decision P (j / P .children) (j % P .children) ≡ d
+        by :
+            (j : ℕ) → At P j → (b : Bool) (d : Verdict) → P .active (j / P .children) (j % P .children) ≡ b
+            → decision P (j / P .children) (j % P .children) ≡ d
             → childAt m j ≡ finishedChild (leavesBefore P (j / P .children) (j % P .children)) b d
             → placed (P .leafPoints) (length (m .store)) (childAt m j .kind) (childAt m j .place) ≡ true
         by j at false d active dec is = ap childPlaced is
@@ -147,7 +155,9 @@ module _ (P : Plan) (m : Memory) (constants : Constants P) (done : Finished P m)
 -- ---- the record of a finished job
 
 -- WHAT IS WRITTEN OF A FINISHED JOB IS ITS PLAN'S LISTING
-pub written-plan : (r : Record) (nan : ℕ) (m : Memory) (out : List ℕ) → r .job ≡ true → impossible sparse (jobIn r) m ≡ false → atEnd (r .cursor) ≡ true
+pub written-plan :
+    (r : Record) (nan : ℕ) (m : Memory) (out : List ℕ) → r .job ≡ true → impossible sparse (jobIn r) m ≡ false
+    → atEnd (r .cursor) ≡ true
     → (r .counts) ≡ countsWith (planOf (r .input)) (leavesAll (planOf (r .input))) (total (planOf (r .input)))
     → Finished (planOf (r .input)) m → leavesAll (planOf (r .input)) * planOf (r .input) .leafPoints ≤ length (m .store)
     → written r nan m out ≡ putListing (planListing (planOf (r .input)) nan) out

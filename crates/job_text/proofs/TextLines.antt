@@ -80,4 +80,6 @@ pub text-read : (text bounds cell blocks band t1 t2 t3 t4 : List ℕ)
 text-read text bounds cell blocks band t1 t2 t3 t4 one two three four =
     sym
     (ap readingOf (then-parts text (take 6 bounds) t1 one (take 1 cell) t2 two (take 2 blocks) t3 three (take 2 band) t4 four)
-    ∙ model-same (readParts 64 5 t4) (reading-model (take 6 bounds) (take 1 cell) (take 2 blocks) (take 2 band) (readParts 64 5 t4)) (grid-own bounds cell blocks) (band-own band))
+    ∙ model-same (readParts 64 5 t4)
+    (reading-model (take 6 bounds) (take 1 cell) (take 2 blocks) (take 2 band) (readParts 64 5 t4))
+    (grid-own bounds cell blocks) (band-own band))

@@ -48,7 +48,8 @@ same-length c = search needs
 returns : tie.Need-returns
 returns c =
     let a = c .before .before .before .before .before .before .before .args in
-    outer-stretch (a .n) (a .value) (a .values .now) _ _ (outer-row (a .n) (a .j) (a .k) (omega arith) (edge-first _ _ (omega arith))) (c .before .before .fill .ensures)
+    outer-stretch (a .n) (a .value) (a .values .now) _ _
+    (outer-row (a .n) (a .j) (a .k) (omega arith) (edge-first _ _ (omega arith))) (c .before .before .fill .ensures)
 
 add-if2 : tie.Need-add-if2
 add-if2 c = search needs
@@ -65,7 +66,8 @@ same-length-2 c = search needs
 returns-2 : tie.Need-returns-2
 returns-2 c =
     let a = c .before .before .before .before .before .before .before .before .before .args in
-    outer-stretch (a .n) (a .value) (a .values .now) _ _ (outer-row (a .n) (a .j) (a .k) (omega arith) (edge-last _ _ (omega arith))) (c .before .before .fill2 .ensures)
+    outer-stretch (a .n) (a .value) (a .values .now) _ _
+    (outer-row (a .n) (a .j) (a .k) (omega arith) (edge-last _ _ (omega arith))) (c .before .before .fill2 .ensures)
 
 mul-values : tie.Need-mul-values
 mul-values c =

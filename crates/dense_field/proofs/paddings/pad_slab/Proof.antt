@@ -15,7 +15,9 @@ use Rattle.dense_field.proofs.paddings.pad_slab.Statement.{statement}
 use Rattle.dense_field.proofs.paddings.pad_slab.Tie as tie
 
 abbrev Inv-loop : tie.InvT-loop
-Inv-loop n value values₀ k slab j₀ values j = (j ≤ n .j) × (length values ≡ length values₀) × (values ≡ filled (k * (n .i * n .j)) (j * n .i) (paddedAt n value values₀) values₀)
+Inv-loop n value values₀ k slab j₀ values j =
+    (j ≤ n .j) × (length values ≡ length values₀)
+    × (values ≡ filled (k * (n .i * n .j)) (j * n .i) (paddedAt n value values₀) values₀)
 
 abbrev μ-loop : tie.MeasureT-loop
 μ-loop n value values₀ k slab j₀ values j = n .j - j
@@ -84,7 +86,10 @@ loop-holds c =
 pad-row-requires : tie.Need-pad-row-requires Inv-loop μ-loop
 pad-row-requires c κs =
     let p = c .before .before .before .before .before .before .before .before .before .pre .0 in
-    let long : length (c .before .before .before .loop .values) ≡ length (c .before .before .before .before .before .before .before .before .before .args .values .now) = c .before .before .before .loop .inv .1 in
+    let long :
+    length (c .before .before .before .loop .values)
+    ≡ length (c .before .before .before .before .before .before .before .before .before .args .values .now) =
+    c .before .before .before .loop .inv .1 in
     (as-long p long, (omega arith, omega arith, omega arith))
 
 add-j : tie.Need-add-j Inv-loop μ-loop
@@ -97,7 +102,9 @@ loop-again : tie.Need-loop-again Inv-loop μ-loop
 loop-again c =
     let a = c .before .before .before .before .before .before .before .before .before .before .before .before .args in
     let s = c .before .before .before .before .before .before .loop in
-    let next = pad-more (a .n) (a .value) (a .values .now) (a .k * (a .n .i * a .n .j)) (s .j * a .n .i) (a .n .i) {total = (s .j + 1) * a .n .i} (s .inv .2) (c .before .before .pad-row .ensures) (omega arith) in
+    let next =
+    pad-more (a .n) (a .value) (a .values .now) (a .k * (a .n .i * a .n .j)) (s .j * a .n .i) (a .n .i)
+    {total = (s .j + 1) * a .n .i} (s .inv .2) (c .before .before .pad-row .ensures) (omega arith) in
     (search needs, ap length next ∙ filled-length _ _ _ _, next)
 
 same-length-3 : tie.Need-same-length-3 Inv-loop μ-loop

@@ -11,7 +11,8 @@ use Rattle.dense_field.proofs.sampling.copy_run.Statement.{statement}
 use Rattle.dense_field.proofs.sampling.copy_run.Tie as tie
 
 abbrev Inv-loop : tie.InvT-loop
-Inv-loop results values₀ at count t₀ values t = (t ≤ count) × (length values ≡ length values₀) × (values ≡ filled at t (λ q. getD results (q - at) past) values₀)
+Inv-loop results values₀ at count t₀ values t =
+    (t ≤ count) × (length values ≡ length values₀) × (values ≡ filled at t (λ q. getD results (q - at) past) values₀)
 
 abbrev μ-loop : tie.MeasureT-loop
 μ-loop results values₀ at count t₀ values t = count - t
@@ -45,7 +46,9 @@ loop-again c =
     let s = c .before .before .loop in
     let a = c .before .before .before .args in
     let here : s .t ≡ a .at + s .t - a .at = omega arith in
-    let next = filled-store (a .at) (s .t) (λ q. getD (a .results .now) (q - a .at) past) (a .values .now) (s .inv .2) (ap (λ m. getD (a .results .now) m past) here) in
+    let next =
+    filled-store (a .at) (s .t) (λ q. getD (a .results .now) (q - a .at) past) (a .values .now) (s .inv .2)
+    (ap (λ m. getD (a .results .now) m past) here) in
     (search needs, ap length next ∙ filled-length _ _ _ _, next)
 
 same-length : tie.Need-same-length Inv-loop μ-loop

@@ -86,9 +86,11 @@ loop-again c =
     let v = next-in s in
     let fits : s .loop .first .i + some .result ≤ a .n .i = omega arith in (
       omega arith,
-      after-stretch (a .n) (p .x-above) (p .y-above) (a .at + t) (some .result) (inv .1) (some .ensures .0) fits (c .before .new .ensures) (c .next-indices .ensures)
+      after-stretch (a .n) (p .x-above) (p .y-above) (a .at + t) (some .result) (inv .1) (some .ensures .0) fits
+          (c .before .new .ensures) (c .next-indices .ensures)
           ∙ ap (pointAt (a .n)) (add-assoc (a .at) t (some .result)),
-      more-points (a .n) (p .x-above) (p .y-above) (a .origin) (a .cell) (a .at) t (some .result) (inv .1) fits (omega (arith, p .short)) (inv .2) (long .0) (long .1) (long .2) (e .0) (e .1 .0) (e .1 .1 .0),
+      more-points (a .n) (p .x-above) (p .y-above) (a .origin) (a .cell) (a .at) t (some .result) (inv .1) fits
+          (omega (arith, p .short)) (inv .2) (long .0) (long .1) (long .2) (e .0) (e .1 .0) (e .1 .1 .0),
     )
 
 returns : tie.Need-returns Inv-loop μ-loop

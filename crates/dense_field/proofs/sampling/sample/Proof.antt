@@ -44,8 +44,13 @@ returns-2 c =
     let a = s .before .before .before .args in
     let none = sym (s .before .sample-cause .ensures) ∙ s .if1 .left in
     let zero = ap (λ m. eqb m 0) none in
-    let in-order = passed _ _ _ _ _ none .in-order in
-    (rw zero refl, rw zero (places .sample-places .ensures ∙ flat-sampled (a .model) _ (a .origin) (a .cell) (a .n) in-order (laid .lay-out .ensures .1) (laid .lay-out .ensures .0)))
+    let in-order = passed _ _ _ _ _ none .in-order in (
+      rw zero refl,
+      rw zero
+          (places .sample-places .ensures
+          ∙ flat-sampled (a .model) _ (a .origin) (a .cell) (a .n) in-order (laid .lay-out .ensures .1)
+          (laid .lay-out .ensures .0)),
+    )
 
 pub sample-spec : {M : Type 1} → statement M
 sample-spec =

@@ -50,7 +50,9 @@ loop-again c =
     let s = loop .loop in
     let a = loop .before .before .args in
     let g = flatAt (flatOf (a .words .now) (a .numbers .now)) (min (a .count) 64) (a .origin) (a .cell) (a .n) in
-    let next = filled-more 0 (s .at) (some .result) g (a .values .now) (s .inv .2) (run .sample-run .ensures ∙ ap (λ m. filled m (some .result) g (s .values)) (sym (zero-add (s .at)))) refl in
+    let next =
+    filled-more 0 (s .at) (some .result) g (a .values .now) (s .inv .2)
+    (run .sample-run .ensures ∙ ap (λ m. filled m (some .result) g (s .values)) (sym (zero-add (s .at)))) refl in
     (omega arith, ap length next ∙ filled-length _ _ _ _, next)
 
 same-length : tie.Need-same-length Inv-loop μ-loop

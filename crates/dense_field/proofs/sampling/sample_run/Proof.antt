@@ -25,7 +25,8 @@ returns c =
     let points = row .before .before .before .before .before .before in
     let s = points .before .before .before .before .before in
     let a = s .args in
-    run-filled _ _ (a .origin) (a .cell) (a .n) (a .at) (a .len) (a .results .now) (a .values .now) (s .pre .1 .1) (search needs) (points .fill-points .ensures) (row .evaluate-row-into .ensures .1) (copy .copy-run .ensures)
+    run-filled _ _ (a .origin) (a .cell) (a .n) (a .at) (a .len) (a .results .now) (a .values .now) (s .pre .1 .1)
+    (search needs) (points .fill-points .ensures) (row .evaluate-row-into .ensures .1) (copy .copy-run .ensures)
 
 pub sample-run-spec : {M : Type 1} → statement M
 sample-run-spec =

@@ -21,7 +21,11 @@ enum-known-refusal c = search needs
 returns : tie.Need-returns
 unfolding numberOf lengthsLeft
 returns c =
-    let known = sym (c .before .before .before .any-refusal .ensures ∙ ap (λ (x : Input). anyRefusal x) (c .before .before .before .before .input-given .ensures)) ∙ c .before .refusal .given .1 in
+    let known =
+    sym
+    (c .before .before .before .any-refusal .ensures
+    ∙ ap (λ (x : Input). anyRefusal x) (c .before .before .before .before .input-given .ensures))
+    ∙ c .before .refusal .given .1 in
     (rw known refl, rw known refl)
 
 enum-told : tie.Need-enum-told
@@ -37,7 +41,11 @@ returns-2 : tie.Need-returns-2
 unfolding numberOf lengthsLeft
 returns-2 c =
     let given = c .before .before .before .before .before .input-given .ensures in
-    let known = sym (c .before .before .before .before .any-refusal .ensures ∙ ap (λ (x : Input). anyRefusal x) (c .before .before .before .before .before .input-given .ensures)) ∙ c .before .before .enum-told .given .1 in
+    let known =
+    sym
+    (c .before .before .before .before .any-refusal .ensures
+    ∙ ap (λ (x : Input). anyRefusal x) (c .before .before .before .before .before .input-given .ensures))
+    ∙ c .before .before .enum-told .given .1 in
     let lengths = ap lengthList (c .before .needed-lengths .ensures) ∙ ap (λ (x : Input). lengthList (neededLengths (x .grid))) given in
     (rw known refl, rw known lengths)
 

@@ -58,7 +58,9 @@ returns-2 : tie.Need-returns-2
 unfolding decoded
 returns-2 c =
     let a = c .before .before .before .before .before .before .before .args in
-    let fit = sym (c .before .before .before .before .before .before .words-fit .ensures) ∙ not-false _ (c .before .before .before .before .before .if1 .left) in
+    let fit =
+    sym (c .before .before .before .before .before .before .words-fit .ensures)
+    ∙ not-false _ (c .before .before .before .before .before .if1 .left) in
     rw fit (c .record-given .ensures ∙ ap (λ (i : Input). recordGiven i (now (a .words))) (c .before .input-given .ensures))
 
 pub decode-spec : {M : Type 1} → statement M

@@ -55,8 +55,11 @@ loop-again c =
     let l = c .before .before .before .loop in
     let f = lengthAt (a .children) (a .points) (a .kinds .now) in
     let most = length-most (a .children) (a .points) (a .kinds .now) (l .j) (c .before .before .before .before .before .pre .0 .size) in
-    let next : sumBelow f (l .j + 1) ≡ sumBelow f (l .j) + f (l .j) = ap (sumBelow f) (add-one (l .j)) ∙ sumBelow-snoc f (l .j) in
-    (omega (arith, c .before .before .loop-test .taken), omega (arith, next, l .inv .1, c .child-length .ensures), omega (arith, c .child-length .ensures, most, l .inv .2))
+    let next : sumBelow f (l .j + 1) ≡ sumBelow f (l .j) + f (l .j) = ap (sumBelow f) (add-one (l .j)) ∙ sumBelow-snoc f (l .j) in (
+      omega (arith, c .before .before .loop-test .taken),
+      omega (arith, next, l .inv .1, c .child-length .ensures),
+      omega (arith, c .child-length .ensures, most, l .inv .2),
+    )
 
 returns : tie.Need-returns Inv-loop μ-loop
 returns c =

@@ -25,7 +25,14 @@ add-result c =
     let s = c .before .before .before .before .before .before in
     let a = s .args in
     let done = done-length (a .counts) (c .before .before .before .before .done-numbers .ensures) in
-    omega (arith, c .before .form-length .ensures, done, done-most (a .counts), c .lines-length .ensures, lengths-most (a .total) (a .children) (a .points) (a .kinds .now) (s .pre .0))
+    omega (
+      arith,
+      c .before .form-length .ensures,
+      done,
+      done-most (a .counts),
+      c .lines-length .ensures,
+      lengths-most (a .total) (a .children) (a .points) (a .kinds .now) (s .pre .0),
+    )
 
 returns : tie.Need-returns
 returns c =

@@ -16,6 +16,15 @@ use borrow.Author.Needs.{needs}
 use Rattle.job_text.proofs.writing.put_listing.Statement.{statement}
 use Rattle.job_text.proofs.writing.put_listing.Tie as tie
 
+abbrev start : tie.After-done-numbers → tie.Start
+start p = p .before .before .before .before .before .before
+
+abbrev numbered : tie.After-put-form → tie.After-done-numbers
+numbered p = p .before .before .before .before
+
+abbrev begun : tie.After-put-lines → tie.After-put-form
+begun p = p .before .before .before .before
+
 -- the children's lines
 abbrev linesOf : tie.Start → List ℕ
 linesOf s =
@@ -50,27 +59,29 @@ slice-aggregate-put-form-2 c = search needs
 
 put-form-requires : tie.Need-put-form-requires
 put-form-requires c κs =
-    let s = c .before .before .before .before .before .before .before .before .before in
+    let s = start (c .before .before .before) in
     let a = s .args in
     let done = done-length (a .counts) (c .before .before .before .done-numbers .ensures) in
     omega (arith, done, length-append (doneLine (a .counts)) (linesOf s), s .pre .1 .1)
 
 put-lines-requires : tie.Need-put-lines-requires
 put-lines-requires c κs =
-    let s = c .before .before .before .before .before .before .before .before .before .before .before .before .before in
+    let p = numbered (c .before .before .before) in
+    let s = start p in
     let a = s .args in
-    let done = done-length (a .counts) (c .before .before .before .before .before .before .before .done-numbers .ensures) in
+    let done = done-length (a .counts) (p .done-numbers .ensures) in
     let put = c .before .before .before .put-form .ensures in
-    let long = put-long (a .out .now) 0 (spell doneForm (c .before .before .before .before .before .before .before .done-numbers .result)) (put .1) in
+    let long = put-long (a .out .now) 0 (spell doneForm (p .done-numbers .result)) (put .1) in
     (s .pre .0, (s .pre .1 .0, omega (arith, put .0, long, done, length-append (doneLine (a .counts)) (linesOf s), s .pre .1 .1)))
 
 zero-rest-requires : tie.Need-zero-rest-requires
 zero-rest-requires c κs =
-    let s = c .before .before .before .before .before .before .before .before .before .before .before .before .before .before .before .before .before in
+    let p = begun (c .before .before .before) in
+    let s = start (numbered p) in
     let a = s .args in
-    let first = c .before .before .before .before .before .before .before .put-form .ensures in
+    let first = p .put-form .ensures in
     let lines = c .before .before .before .put-lines .ensures in
-    let whole = put-whole s (c .before .before .before .before .before .before .before .before .before .before .before .done-numbers .ensures) (first .0) (first .1) (lines .0) (lines .1) in
+    let whole = put-whole s (numbered p .done-numbers .ensures) (first .0) (first .1) (lines .0) (lines .1) in
     omega (arith, whole .0, put-long (a .out .now) 0 (bytesOf s) (whole .1), s .pre .1 .1)
 
 same-length : tie.Need-same-length
@@ -78,11 +89,12 @@ same-length c = search needs
 
 returns : tie.Need-returns
 returns c =
-    let s = c .before .before .before .before .before .before .before .before .before .before .before .before .before .before .before .before .before .before .before .before in
+    let p = begun (c .before .before .before .before .before .before) in
+    let s = start (numbered p) in
     let a = s .args in
-    let first = c .before .before .before .before .before .before .before .before .before .before .put-form .ensures in
+    let first = p .put-form .ensures in
     let lines = c .before .before .before .before .before .before .put-lines .ensures in
-    let whole = put-whole s (c .before .before .before .before .before .before .before .before .before .before .before .before .before .before .done-numbers .ensures) (first .0) (first .1) (lines .0) (lines .1) in
+    let whole = put-whole s (numbered p .done-numbers .ensures) (first .0) (first .1) (lines .0) (lines .1) in
     accepted-bytes (bytesOf s) (a .out .now) (s .pre .1 .1) (whole .0 ∙ zero-add (length (bytesOf s))) (whole .1) (c .before .before .zero-rest .ensures)
 
 pub put-listing-spec : {M : Type 1} → statement M

@@ -1,15 +1,15 @@
--- `write_places` ends: each line has a place.
+-- `answer_places` ends: each line has a place.
 use Prim.Native.Nat.{_-_, _≤_}
 use lib.ListN.{length}
 use borrow.Author.Needs.{needs}
-use Rattle.sparse_vectors.proofs.elements.write_places.Statement.{statement}
-use Rattle.sparse_vectors.proofs.elements.write_places.Tie as tie
+use Rattle.sparse_vectors.proofs.elements.answer_places.Statement.{statement}
+use Rattle.sparse_vectors.proofs.elements.answer_places.Tie as tie
 
 abbrev Inv-loop : tie.InvT-loop
-Inv-loop places at₀ at = at ≤ length places
+Inv-loop places held₀ at₀ held at = at ≤ length places
 
 abbrev μ-loop : tie.MeasureT-loop
-μ-loop places at₀ at = length places - at
+μ-loop places held₀ at₀ held at = length places - at
 
 loop-holds : tie.Need-loop-holds Inv-loop μ-loop
 loop-holds c = search needs
@@ -26,8 +26,8 @@ row-of-requires c κs = search needs
 put-places-requires : tie.Need-put-places-requires Inv-loop μ-loop
 put-places-requires c κs = search needs
 
-write-fields-requires : tie.Need-write-fields-requires Inv-loop μ-loop
-write-fields-requires c κs = search needs
+take-requires : tie.Need-take-requires Inv-loop μ-loop
+take-requires c κs = search needs
 
 add-at : tie.Need-add-at Inv-loop μ-loop
 add-at c = search needs
@@ -41,8 +41,8 @@ loop-again c = search needs
 returns : tie.Need-returns Inv-loop μ-loop
 returns c = search needs
 
-pub write-places-spec : {M : Type 1} → statement M
-write-places-spec =
+pub answer-places-spec : {M : Type 1} → statement M
+answer-places-spec =
     tie.close
     (tie.spec
     Inv-loop
@@ -52,7 +52,7 @@ write-places-spec =
     sub-row-of
     row-of-requires
     put-places-requires
-    write-fields-requires
+    take-requires
     add-at
     loop-less
     loop-again

@@ -1,15 +1,15 @@
--- `write_kinds` ends: each line has a kind.
+-- `answer_kinds` ends: each line has a kind.
 use Prim.Native.Nat.{_-_, _≤_}
 use lib.ListN.{length}
 use borrow.Author.Needs.{needs}
-use Rattle.sparse_vectors.proofs.elements.write_kinds.Statement.{statement}
-use Rattle.sparse_vectors.proofs.elements.write_kinds.Tie as tie
+use Rattle.sparse_vectors.proofs.elements.answer_kinds.Statement.{statement}
+use Rattle.sparse_vectors.proofs.elements.answer_kinds.Tie as tie
 
 abbrev Inv-loop : tie.InvT-loop
-Inv-loop kinds at₀ at = at ≤ length kinds
+Inv-loop kinds held₀ at₀ held at = at ≤ length kinds
 
 abbrev μ-loop : tie.MeasureT-loop
-μ-loop kinds at₀ at = length kinds - at
+μ-loop kinds held₀ at₀ held at = length kinds - at
 
 loop-holds : tie.Need-loop-holds Inv-loop μ-loop
 loop-holds c = search needs
@@ -26,8 +26,8 @@ row-of-requires c κs = search needs
 put-kinds-requires : tie.Need-put-kinds-requires Inv-loop μ-loop
 put-kinds-requires c κs = search needs
 
-write-fields-requires : tie.Need-write-fields-requires Inv-loop μ-loop
-write-fields-requires c κs = search needs
+take-requires : tie.Need-take-requires Inv-loop μ-loop
+take-requires c κs = search needs
 
 add-at : tie.Need-add-at Inv-loop μ-loop
 add-at c = search needs
@@ -41,8 +41,8 @@ loop-again c = search needs
 returns : tie.Need-returns Inv-loop μ-loop
 returns c = search needs
 
-pub write-kinds-spec : {M : Type 1} → statement M
-write-kinds-spec =
+pub answer-kinds-spec : {M : Type 1} → statement M
+answer-kinds-spec =
     tie.close
     (tie.spec
     Inv-loop
@@ -52,7 +52,7 @@ write-kinds-spec =
     sub-row-of
     row-of-requires
     put-kinds-requires
-    write-fields-requires
+    take-requires
     add-at
     loop-less
     loop-again

@@ -1,15 +1,15 @@
--- `write_floats` ends: each line has a value.
+-- `answer_floats` ends: each line has a value.
 use Prim.Native.Nat.{_-_, _≤_}
 use lib.ListN.{length}
 use borrow.Author.Needs.{needs}
-use Rattle.sparse_vectors.proofs.elements.write_floats.Statement.{statement}
-use Rattle.sparse_vectors.proofs.elements.write_floats.Tie as tie
+use Rattle.sparse_vectors.proofs.elements.answer_floats.Statement.{statement}
+use Rattle.sparse_vectors.proofs.elements.answer_floats.Tie as tie
 
 abbrev Inv-loop : tie.InvT-loop
-Inv-loop values at₀ at = at ≤ length values
+Inv-loop values held₀ at₀ held at = at ≤ length values
 
 abbrev μ-loop : tie.MeasureT-loop
-μ-loop values at₀ at = length values - at
+μ-loop values held₀ at₀ held at = length values - at
 
 loop-holds : tie.Need-loop-holds Inv-loop μ-loop
 loop-holds c = search needs
@@ -26,8 +26,8 @@ row-of-requires c κs = search needs
 put-floats-requires : tie.Need-put-floats-requires Inv-loop μ-loop
 put-floats-requires c κs = search needs
 
-write-fields-requires : tie.Need-write-fields-requires Inv-loop μ-loop
-write-fields-requires c κs = search needs
+take-requires : tie.Need-take-requires Inv-loop μ-loop
+take-requires c κs = search needs
 
 add-at : tie.Need-add-at Inv-loop μ-loop
 add-at c = search needs
@@ -41,8 +41,8 @@ loop-again c = search needs
 returns : tie.Need-returns Inv-loop μ-loop
 returns c = search needs
 
-pub write-floats-spec : {M : Type 1} → statement M
-write-floats-spec =
+pub answer-floats-spec : {M : Type 1} → statement M
+answer-floats-spec =
     tie.close
     (tie.spec
     Inv-loop
@@ -52,7 +52,7 @@ write-floats-spec =
     sub-row-of
     row-of-requires
     put-floats-requires
-    write-fields-requires
+    take-requires
     add-at
     loop-less
     loop-again
