@@ -20,8 +20,8 @@ use Rattle.grid.specs.Boxes.{active}
 use Rattle.grid.specs.Counting.{activeIn, activeOf}
 use Rattle.grid.specs.Causes.{refusedByOne, refusedByTwo, refusedByThree, refusedByFive, refusedBySix, childrenOf, storeNeeded, openCauses, refusalOf}
 use Rattle.grid.proofs.BlockLaws.{Block, block}
-use Rattle.grid.proofs.RangeLists.{countBelow-le}
-use Rattle.grid.proofs.Sums.{sum-le}
+use Rattle.lists.proofs.Ranges.{countBelow-le}
+use Rattle.lists.proofs.Sums.{sumBelow-most as sum-le}
 
 -- ---- one of five tests that holds
 

@@ -1,5 +1,4 @@
 -- The grid of a sparse field (rules G1 to G18), and the causes of open.
-pub mod Ranges
 pub mod Blocks
 pub mod Nodes
 pub mod Boxes

@@ -2,15 +2,17 @@
 // which are active, which corners they need, and when a child is pruned.
 use geometry::BoundingBox;
 
+mod activity; // activity.rt: how many children are active
 mod blocks; // blocks.rt: the sizes of blocks, and their cubes
 mod boxes; // boxes.rt: where nodes and children lie, and which are active
 mod causes; // causes.rt: the causes of open
-mod count; // count.rt: how many children are active
 mod needed; // needed.rt: the list of the corners that a node needs
 mod nodes; // nodes.rt: the size and the number of nodes
 mod points; // points.rt: corner points, leaf points and octets
 mod pruning; // pruning.rt: which children become constants
 
+pub use activity::active_children;
+pub use activity::active_in;
 pub use blocks::cube_of;
 pub use blocks::is_block;
 pub use boxes::axis_active;
@@ -20,10 +22,8 @@ pub use boxes::node_box;
 pub use boxes::node_least;
 pub use boxes::node_most;
 pub use causes::open_refusal;
-pub use count::active_children;
-pub use count::active_in;
+pub use geometry::indices;
 pub use needed::corner_list;
-pub use nodes::indices;
 pub use nodes::node_counts;
 pub use nodes::node_size;
 pub use nodes::node_total;

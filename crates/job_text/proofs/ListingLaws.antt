@@ -1,5 +1,5 @@
 -- A listing's lines one after the other, their bytes in all, and a listing put into lent bytes.
-use Prim.Native.Nat.{ℕ, zero, suc, _+_, _-_, _/_, _%_, _≤_, _<_}
+use Prim.Native.Nat.{ℕ, zero, suc, _+_, _/_, _%_, _≤_, _<_, _-_}
 use mathlib.Core.Path.{_≡_, refl, sym, ap, ap₂, _∙_}
 use mathlib.Core.Bool.{Bool, true, false, _&&_}
 use mathlib.Core.List.{List, [], _∷_, _++_, append-assoc, append-nil}
@@ -8,12 +8,10 @@ use native.Mathlib.Numerals.{add-one}
 use native.Mathlib.Omega.{arith}
 use borrow.Author.Tests.{le-leb, lt-leb}
 use lib.Ieee.{Float}
-use lib.ListN.{length, getD, take, drop, replicate, length-append, length-replicate}
-use lib.Seq.{sets, sets-eq, take-all, take-at, length-sets}
-use Rattle.lists.specs.Filled.{filled}
+use lib.ListN.{length, getD, take, drop, replicate, length-append}
+use lib.Seq.{sets, sets-eq, take-at, length-sets}
 use Rattle.lists.proofs.Lists.{getD-any}
 use Rattle.lists.proofs.Tests.{and-left, and-right}
-use Rattle.lists.proofs.Filling.{filled-all, filled-constant, filled-length, take-filled}
 use Rattle.float.specs.Zero.{plusZero}
 use Rattle.schedule.specs.Memory.{Memory}
 use Rattle.lists.specs.Sums.{sumFrom, sumBelow}
@@ -101,7 +99,14 @@ module _ (f : ℕ → List ℕ) where
   pub line-within : (total j : ℕ) → j < total → length (linesFrom f j 0) + length (f j) ≤ length (linesFrom f total 0)
   line-within total j below =
       let all : j + 1 + (total - (j + 1)) ≡ total = omega arith in
-      omega (arith, length-append (linesFrom f j 0) (f j), ap length (lines-next j), lines-more (j + 1) (total - (j + 1)), ap (λ n. length (linesFrom f n 0)) all)
+      omega (
+        arith,
+        length-append (linesFrom f j 0) (f j),
+        ap length (lines-next j),
+        lines-more (j + 1) (total - (j + 1)),
+        ap
+            (λ n. length (linesFrom f n 0)) all,
+      )
 
 pub lines-cong : (f g : ℕ → List ℕ) (r j : ℕ) → ((i : ℕ) → i < j + r → f i ≡ g i) → linesFrom f r j ≡ linesFrom g r j
 unfolding linesFrom
@@ -111,10 +116,12 @@ lines-cong f g (suc r) j same =
 
 -- the line of a child as the code reads it: a number that is there, whatever it reads past the end
 pub line-read : (children points nan : ℕ) (m : Memory) (j : ℕ) (d : Float) → j < length (m .numbers)
-    → kindLine points nan (j / children) (j % children) (getD (m .kinds) j 0) (getD (m .numbers) j d) (getD (m .places) j 0) (m .store) ≡ lineAt children points nan m j
+    → kindLine points nan (j / children) (j % children) (getD (m .kinds) j 0) (getD (m .numbers) j d) (getD (m .places) j 0)
+    (m .store) ≡ lineAt children points nan m j
 unfolding lineAt
 line-read children points nan m j d below =
-    ap (λ x. kindLine points nan (j / children) (j % children) (getD (m .kinds) j 0) x (getD (m .places) j 0) (m .store)) (getD-any (m .numbers) j d plusZero below)
+    ap (λ x. kindLine points nan (j / children) (j % children) (getD (m .kinds) j 0) x (getD (m .places) j 0) (m .store))
+    (getD-any (m .numbers) j d plusZero below)
 
 -- ---- how many bytes
 
@@ -135,14 +142,16 @@ pub listing-measured : (total children points nan : ℕ) (k : Counts) (m : Memor
     → length (listingTo total children points nan k m) ≡ length (doneLine k) + sumBelow (lengthAt children points (m .kinds)) total
 listing-measured total children points nan k m =
     length-append (doneLine k) (linesFrom (lineAt children points nan m) total 0)
-    ∙ ap (λ n. length (doneLine k) + n) (lines-measured (lineAt children points nan m) (lengthAt children points (m .kinds)) (line-length children points nan m) total 0)
+    ∙ ap (λ n. length (doneLine k) + n)
+    (lines-measured (lineAt children points nan m) (lengthAt children points (m .kinds)) (line-length children points nan m) total 0)
 
 -- the first line, from its counts
 pub done-spelling : (k : Counts) {xs : List ℕ} → xs ≡ k .nodes ∷ k .active ∷ k .leaves ∷ k .sampled ∷ k .evaluations ∷ [] → spell doneForm xs ≡ doneLine k
 unfolding doneLine
 done-spelling k numbers = ap (spell doneForm) numbers
 
-pub done-length : (k : Counts) {xs : List ℕ} → xs ≡ k .nodes ∷ k .active ∷ k .leaves ∷ k .sampled ∷ k .evaluations ∷ [] → length (spell doneForm xs) ≡ length (doneLine k)
+pub done-length : (k : Counts) {xs : List ℕ} → xs ≡ k .nodes ∷ k .active ∷ k .leaves ∷ k .sampled ∷ k .evaluations ∷ []
+    → length (spell doneForm xs) ≡ length (doneLine k)
 done-length k numbers = ap length (done-spelling k numbers)
 
 number-most : (x n : ℕ) (t : List ℕ) → length t ≤ n → length (decimalOf x ++ t) ≤ 20 + n
@@ -154,19 +163,16 @@ done-most k =
     let last = number-most (k .evaluations) 2 (41 ∷ 10 ∷ []) (omega arith) in
     let fourth = number-most (k .sampled) 23 (32 ∷ (decimalOf (k .evaluations) ++ (41 ∷ 10 ∷ []))) (omega (arith, last)) in
     let third = number-most (k .leaves) 44 (32 ∷ (decimalOf (k .sampled) ++ (32 ∷ (decimalOf (k .evaluations) ++ (41 ∷ 10 ∷ []))))) (omega (arith, fourth)) in
-    let second = number-most (k .active) 65 (32 ∷ (decimalOf (k .leaves) ++ (32 ∷ (decimalOf (k .sampled) ++ (32 ∷ (decimalOf (k .evaluations) ++ (41 ∷ 10 ∷ []))))))) (omega (arith, third)) in
-    omega (arith, number-most (k .nodes) 86 (32 ∷ (decimalOf (k .active) ++ (32 ∷ (decimalOf (k .leaves) ++ (32 ∷ (decimalOf (k .sampled) ++ (32 ∷ (decimalOf (k .evaluations) ++ (41 ∷ 10 ∷ []))))))))) (omega (arith, second)))
+    let second = number-most (k .active) 65
+    (32 ∷ (decimalOf (k .leaves) ++ (32 ∷ (decimalOf (k .sampled) ++ (32 ∷ (decimalOf (k .evaluations) ++ (41 ∷ 10 ∷ []))))))) (omega (arith, third)) in
+    omega (
+      arith,
+      number-most (k .nodes) 86
+          (32 ∷ (decimalOf (k .active) ++
+          (32 ∷ (decimalOf (k .leaves) ++ (32 ∷ (decimalOf (k .sampled) ++ (32 ∷ (decimalOf (k .evaluations) ++ (41 ∷ 10 ∷ []))))))))) (omega (arith, second)),
+    )
 
 -- ---- bytes with 0 after them
-
-pub zeros-after : (at : ℕ) (l : List ℕ) → at ≤ length l → filled at (length l - at) (λ q. 0) l ≡ take at l ++ replicate (length l - at) 0
-zeros-after at l within =
-    let n = length l - at in
-    let all : at + n ≡ length l = omega arith in
-    sym (take-all (at + n) (filled at n (λ q. 0) l) (omega (arith, filled-length at n (λ q. 0) l)))
-    ∙ take-filled at n (λ q. 0) l (omega arith)
-    ∙ ap (λ t. take at l ++ t)
-    (sym (filled-all n (λ k. 0) (replicate n 0) 0 (length-replicate n 0)) ∙ filled-constant n 0 (replicate n 0) (length-replicate n 0))
 
 module _ (bs out : List ℕ) where
   pub refused-answer : length out < length bs → Refused 6 ≡ putAnswer bs out

@@ -3,3 +3,5 @@ pub mod Lists
 pub mod Tables
 pub mod Filling
 pub mod Sums
+pub mod Ranges
+pub mod Members

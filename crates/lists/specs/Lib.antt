@@ -2,3 +2,4 @@ pub mod Tabulate
 pub mod Filled
 pub mod Slices
 pub mod Sums
+pub mod Ranges

@@ -1,6 +1,6 @@
 -- The laws behind the judgement of a record: what an input without a cause gives, products that fit, and active children by their kinds.
 use mathlib.Core.Path.{_≡_, refl, sym, ap, _∙_}
-use mathlib.Core.Bool.{Bool, true, false, cond, not, _&&_, _||_, Bool·beq}
+use mathlib.Core.Bool.{Bool, true, false, not, _&&_, _||_, Bool·beq}
 use mathlib.Core.List.{List, [], _∷_}
 use Prim.Native.Nat.{ℕ, zero, suc, _+_, _*_, _/_, _%_, _≤_, _<_}
 use native.Mathlib.Nat.{zero-add, add-zero, add-suc, suc-add, zero-mul, mul-assoc, mul-le-mul, mul-le-mul-left, mul-le-mul-right, mul-add, mul-add-div-right, div-eq-of-lt, mul-add-mod-self-right, mod-eq-of-lt, div-add-mod'}
@@ -10,19 +10,18 @@ use lib.Dec.{ltb, eqb}
 use lib.ListN.{length, getD, take}
 use lib.Seq.{getD-take, length-take-le}
 use lib.Ieee.{Float}
-use borrow.Author.Tests.{eq-eqb, ne-eqb, eqb-true, eqb-false, lt-ltb, le-ltb, ltb-true, ltb-false, not-false}
-use Rattle.lists.proofs.Tests.{or-left, or-right, and-left, and-right}
+use borrow.Author.Tests.{eq-eqb, ne-eqb, eqb-true, eqb-false, lt-ltb, le-ltb, ltb-true, not-false}
+use Rattle.lists.proofs.Tests.{and-left, and-right}
 use Rattle.model.specs.declared.ImplicitModel.{ImplicitModel}
 use Rattle.grid.specs.declared.Grid.{Grid}
 use Rattle.grid.specs.declared.Band.{Band}
 use Rattle.grid.specs.declared.Lengths.{Lengths}
 use Rattle.grid.specs.declared.Refusal.{Refusal}
 use Rattle.grid.specs.declared.Refusal.the-variants.{None, By}
-use Rattle.grid.specs.Ranges.{countBelow}
 use Rattle.grid.specs.Blocks.{cube}
 use Rattle.grid.specs.Nodes.{nodesOf}
 use Rattle.grid.specs.Boxes.{active}
-use Rattle.grid.specs.Counting as counting
+use Rattle.grid.specs.Counting.{activeIn, activeOf}
 use Rattle.grid.specs.Causes.{refusedByTwo, refusedByFive, childrenOf, refusalOf}
 use Rattle.grid.proofs.BlockLaws.{cube-le}
 use Rattle.grid.proofs.Clear.{Clear, clear, number-above}
@@ -31,11 +30,11 @@ use Rattle.schedule.specs.Schedule.{corner, point}
 use Rattle.schedule.specs.Plan.{Plan}
 use Rattle.schedule.specs.Resume.{Cursor, at}
 use Rattle.lists.specs.Sums.{sumFrom, sumBelow, bit}
-use Rattle.schedule.specs.Totals.{countOf, countBefore, countAll, activeBefore, activeAll, activeUpTo, evaluationsBound}
+use Rattle.schedule.specs.Totals.{countBefore, countAll, activeBefore, activeAll, activeUpTo, evaluationsBound}
 use Rattle.schedule.specs.Opened.{activeAt, nonzero, ActiveKinds}
 use Rattle.schedule.specs.Counts.{countsWith, sameCounts}
 use Rattle.schedule.specs.Possible.{sameLengths, sameActive, validCursor, insideChild, impossible}
-use Rattle.lists.proofs.Sums.{sumBelow-snoc}
+use Rattle.lists.proofs.Sums.{sumBelow-snoc, sumBelow-cong}
 use Rattle.schedule.proofs.Sums.{before-next, before-node}
 use Rattle.schedule.proofs.Activity.{active-at}
 use Rattle.sparse_field.specs.declared.Input.{Input}
@@ -122,36 +121,11 @@ bound-fits g two five =
       bound = omega (arith, mul-add (nodesOf g) (cube (g .inner + 1)) (cube (g .inner) * cube (g .leaf)), mul-assoc (nodesOf g) (cube (g .inner)) (cube (g .leaf)));
     }
 
--- ---- sums, counted by the grid and by the schedule
+-- ---- the grid's count is the schedule's
 
-sum-same : (f h : ℕ → ℕ) (n : ℕ) → ((i : ℕ) → i < n → f i ≡ h i) → sumBelow f n ≡ sumBelow h n
-unfolding sumFrom
-sum-same f h zero same = refl
-sum-same f h (suc n) same =
-    let rest : sumBelow f n ≡ sumBelow h n = sum-same f h n (λ i below. same i (omega arith)) in
-    let last : f n ≡ h n = same n (omega arith) in
-    sumBelow-snoc f n ∙ (λ t. rest t + last t) ∙ sym (sumBelow-snoc h n)
-
-sum-is : (f : ℕ → ℕ) (n : ℕ) → sumBelow f n ≡ counting.sumBelow n f
-unfolding sumFrom counting.sumBelow
-sum-is f zero = refl
-sum-is f (suc n) = sumBelow-snoc f n ∙ ap (λ (x : ℕ). x + f n) (sum-is f n)
-
-bit-is : (b : Bool) → bit b ≡ cond b 1 0
-bit-is true = refl
-bit-is false = refl
-
-count-is : (test : ℕ → Bool) (n : ℕ) → sumBelow (λ c. bit (test c)) n ≡ countBelow n test
-unfolding sumFrom countBelow
-count-is test zero = refl
-count-is test (suc n) = sumBelow-snoc (λ c. bit (test c)) n ∙ (λ t. count-is test n t + bit-is (test n) t)
-
-pub active-all : (i : Input) → activeAll (planOf i) ≡ counting.activeOf (i .grid)
-unfolding countAll planWith counting.activeOf counting.activeIn
-active-all i =
-    let g = i .grid in
-    sum-same (λ v. countOf (active g) v (cube (g .inner))) (counting.activeIn g) (nodesOf g) (λ v below. count-is (active g v) (cube (g .inner)))
-    ∙ sum-is (counting.activeIn g) (nodesOf g)
+pub active-all : (i : Input) → activeAll (planOf i) ≡ activeOf (i .grid)
+unfolding countAll planWith activeOf activeIn
+active-all i = refl
 
 -- ---- active children up to a place, by their kinds
 
@@ -181,7 +155,7 @@ module _ (P : Plan) where
       let inside : n ≤ length l = omega (arith, mul-le-mul-right (P .children) hv) in
       let size : length (take n l) ≡ n = length-take-le n l inside in
       ap (sumBelow (λ p. bit (nonzero (getD (take n l) p 0)))) size
-      ∙ sum-same (λ p. bit (nonzero (getD (take n l) p 0))) (λ j. bit (activeAt P j)) n
+      ∙ sumBelow-cong n (λ p. bit (nonzero (getD (take n l) p 0))) (λ j. bit (activeAt P j))
       (λ p below. ap (λ (k : ℕ). bit (nonzero k)) (getD-take n l p 0 below) ∙ ap bit (right p (omega arith)))
       ∙ ap upTo e
       ∙ up-to-child v hv (up-to-node v (omega arith)) c hc
@@ -215,11 +189,11 @@ module _ (i : Input) (c : Counts) where
   unfolding sameCounts planWith
   counts-nodes h = rw (ne-eqb (c .nodes) (nodesOf (i .grid)) h) refl
 
-  pub counts-active : c .nodes ≡ nodesOf (i .grid) → (c .active ≡ counting.activeOf (i .grid) → ⊥) → false ≡ counted
+  pub counts-active : c .nodes ≡ nodesOf (i .grid) → (c .active ≡ activeOf (i .grid) → ⊥) → false ≡ counted
   unfolding sameCounts planWith
   counts-active e h = rw (eq-eqb (c .nodes) (nodesOf (i .grid)) e, ne-eqb (c .active) (activeAll (planOf i)) (λ k. h (k ∙ active-all i))) refl
 
-  pub counts-sampled : c .nodes ≡ nodesOf (i .grid) → c .active ≡ counting.activeOf (i .grid) → {b : Bool} → b ≡ eqb (c .sampled) (c .leaves * cube (i .grid .leaf)) → b ≡ counted
+  pub counts-sampled : c .nodes ≡ nodesOf (i .grid) → c .active ≡ activeOf (i .grid) → {b : Bool} → b ≡ eqb (c .sampled) (c .leaves * cube (i .grid .leaf)) → b ≡ counted
   unfolding sameCounts planWith
   counts-sampled e h k =
       rw (eq-eqb (c .nodes) (nodesOf (i .grid)) e, eq-eqb (c .active) (activeAll (planOf i)) (h ∙ sym (active-all i)), eq-eqb (c .leaves) (c .leaves) refl, eq-eqb (c .evaluations) (c .evaluations) refl)

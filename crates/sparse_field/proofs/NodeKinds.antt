@@ -15,7 +15,7 @@ use Rattle.geometry.specs.Index.{indicesOf}
 use Rattle.geometry.specs.declared.Vec3i.{Vec3i}
 use Rattle.grid.specs.declared.Grid.{Grid}
 use Rattle.grid.specs.declared.Band.{Band}
-use Rattle.grid.specs.Ranges.{anyBelow}
+use Rattle.lists.specs.Ranges.{anyBelow, among}
 use Rattle.grid.specs.Blocks.{cube}
 use Rattle.grid.specs.Nodes.{sizeOf, nodeCounts, nodesOf}
 use Rattle.grid.specs.Boxes.{active, childIndices}
@@ -26,7 +26,7 @@ use Rattle.grid.proofs.Active.{by-axes}
 use Rattle.geometry.proofs.Inverse.{column-below, line-below}
 use Rattle.schedule.specs.Plan.{Plan}
 use Rattle.lists.specs.Sums.{bit}
-use Rattle.schedule.specs.Opened.{activeAt, kindsFrom, nonzero, ActiveKinds}
+use Rattle.schedule.specs.Opened.{activeAt, kindsFrom, ActiveKinds}
 use Rattle.schedule.specs.Possible.{sameActive}
 use Rattle.schedule.proofs.Activity.{active-at}
 use Rattle.sparse_field.specs.declared.Input.{Input}
@@ -164,8 +164,8 @@ pub needed-cong : (n : ℕ) (act other : ℕ → Bool) → ((c : ℕ) → c < cu
     → corners.needed n act corner ≡ corners.needed n other corner
 unfolding corners.needed
 needed-cong n act other same corner =
-    any-cong (cube n) (λ c. act c && corners.among corner (corners.octet n c)) (λ c. other c && corners.among corner (corners.octet n c))
-    (λ c h. ap (λ (b : Bool). b && corners.among corner (corners.octet n c)) (same c h))
+    any-cong (cube n) (λ c. act c && among corner (corners.octet n c)) (λ c. other c && among corner (corners.octet n c))
+    (λ c h. ap (λ (b : Bool). b && among corner (corners.octet n c)) (same c h))
 
 -- ---- the kinds of one node
 

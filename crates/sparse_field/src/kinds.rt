@@ -16,8 +16,8 @@ ghost use Rattle.schedule.specs.Possible.{sameActive};
 ghost use Rattle.sparse_field.specs.Plan.{planOf};
 ghost use Rattle.sparse_field.specs.Inner.Flags.{flagsFrom, agreesFrom, tableTest, slabTest, nodeTest, gridTest};
 use crate::Input;
-use crate::zeroing::zero_bytes;
 use grid::Grid;
+use slices::zero_bytes;
 
 // The cube of a block's size, or of one more.
 pub fn cube_of(n: u32) -> usize

@@ -12,7 +12,7 @@ mod judging; // judging.rt: which records are impossible
 mod kinds; // kinds.rt: the kinds of all children, set and compared
 mod nodes; // nodes.rt: node after node, from a cursor on
 mod points; // points.rt: a leaf's points, evaluated in rows
-mod zeroing; // zeroing.rt: slices set to zero
+mod zeroing; // zeroing.rt: the five slices set to zero
 
 pub use calls::drop;
 pub use calls::open;

@@ -18,7 +18,6 @@ use crate::Progress;
 use crate::Stop;
 use crate::children;
 use crate::corners;
-use crate::zeroing;
 use geometry::BoundingBox;
 use grid::Band;
 use grid::Grid;
@@ -70,7 +69,7 @@ fn rest_of_node(
     if let Stop::At(_) = stop {
         return turn;
     }
-    zeroing::zero_floats(corners);
+    slices::zero_floats(corners);
     turn
 }
 

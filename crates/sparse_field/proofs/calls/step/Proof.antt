@@ -1,7 +1,6 @@
 -- `calls::step` meets its contract: by the flag, and by the judgement of the record.
-use mathlib.Core.Path.{_≡_, refl, sym, ap, _∙_}
-use mathlib.Core.Bool.{Bool, true, false, not}
-use borrow.Author.Tests.{not-false}
+use mathlib.Core.Path.{sym, ap, _∙_}
+use borrow.Author.Tests.{not-false, not-true}
 use Rattle.sparse_field.specs.declared.Answer.the-variants.{Accepted}
 use Rattle.sparse_field.proofs.CallLaws.{step-none, step-impossible, step-accepted}
 use Rattle.schedule.specs.Memory.{Memory}
@@ -13,10 +12,6 @@ use Rattle.sparse_field.proofs.calls.step.Tie as tie
 -- the memory at entry
 abbrev memory : tie.Start → Memory
 memory s = memoryOf (s .args .kinds .now) (s .args .numbers .now) (s .args .places .now) (s .args .store .now) (s .args .corners .now)
-
-not-true : (b : Bool) → not b ≡ true → b ≡ false
-not-true true e = sym e
-not-true false e = refl
 
 returns : tie.Need-returns
 returns c =
