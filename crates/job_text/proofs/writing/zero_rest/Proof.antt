@@ -22,7 +22,7 @@ same-length c = search needs
 
 returns : tie.Need-returns
 returns c =
-    let s = c .before .before .before .before in
+    let s = c .before .before .before .before .before in
     rest-lent (s .args .at) 0 (s .args .out .now) (s .pre) refl (c .before .before .zero-bytes .ensures)
 
 pub zero-rest-spec : {M : Type 1} → statement M
