@@ -4,14 +4,13 @@
 ghost use mathlib.Core.Path.{_≡_};
 ghost use mathlib.Core.Bool.{cond};
 ghost use mathlib.Core.List.{map};
-ghost use Prim.Native.Nat.{min, _+_, _-_, _*_, _≤_, _<_};
+ghost use Prim.Native.Nat.{min, _+_, _*_, _≤_, _<_, _-_};
 ghost use lib.Dec.{eqb};
-ghost use lib.ListN.{length, getD};
+ghost use lib.ListN.{length};
 ghost use Rattle.lists.specs.Tabulate.{tabulate};
 ghost use Rattle.lists.specs.Filled.{filled};
-ghost use Rattle.geometry.specs.Index.{indicesOf};
 ghost use Rattle.model.specs.Flat.{flatIn};
-ghost use Rattle.model.specs.Part.{past, partIn};
+ghost use Rattle.model.specs.Part.{partIn};
 ghost use Rattle.dense_field.specs.Field.{pointsOf};
 ghost use Rattle.dense_field.specs.Inner.Lent.{Lent, Run};
 ghost use Rattle.dense_field.specs.Runs.{sampleCause, sampleOutcome};
@@ -19,7 +18,6 @@ ghost use Rattle.dense_field.specs.Inner.Runs.{axisPoint, RunPoints, fla
 ghost use Rattle.dense_field.specs.Sampling.{sampled};
 use crate::Outcome;
 use crate::counts;
-use crate::paddings;
 use geometry::Vec3;
 use geometry::Vec3i;
 use model::ImplicitModel;
@@ -63,19 +61,9 @@ fn fill_stretch(
 {
     fill_along(origin.x, cell, first.i, px, at, count);
     let y = axis_point(origin.y, cell, first.j);
-    paddings::fill(y, py, at, count);
+    slices::fill_floats(y, py, at, count);
     let z = axis_point(origin.z, cell, first.k);
-    paddings::fill(z, pz, at, count);
-}
-
-// The indices of a place.
-fn point_at(n: Vec3i, at: usize) -> Vec3i
-    requires { ⌜ (0 < n .i) × (0 < n .j) × (n .i * n .j ≤ 16777216) ⌝ }
-    ensures { λ r. ⌜ r ≡ indicesOf at (n .i) (n .j) ⌝ }
-{
-    let slab = n.i * n.j;
-    let rest = at % slab;
-    Vec3i::new(rest % n.i, rest / n.i, at / slab)
+    slices::fill_floats(z, pz, at, count);
 }
 
 // The lesser of two numbers above 0.
@@ -100,7 +88,7 @@ fn fill_points(
     requires { ⌜ Run n at len ⌝ }
     ensures { λ _. ⌜ RunPoints origin cell n at len (now (px .exit)) (now (py .exit)) (now (pz .exit)) ⌝ }
 {
-    let mut first = point_at(n, at);
+    let mut first = geometry::indices(at, n.i, n.j);
     let mut t: usize = 0;
     while t < len {
         let count = lesser(n.i - first.i, len - t);
@@ -108,18 +96,6 @@ fn fill_points(
         let last = Vec3i::new(first.i + (count - 1), first.j, first.k);
         first = geometry::next_indices(last, n.i, n.j);
         t += count;
-    }
-}
-
-// Copies `count` results to the values from `at` on.
-fn copy_run(results: &[f64], values: &mut [f64], at: usize, count: usize)
-    requires { ⌜ (count ≤ length (now results)) × (at + count ≤ length (now values)) ⌝ }
-    ensures { λ _. ⌜ now (values .exit) ≡ filled at count (λ q. getD (now (results .entry)) (q - at) past) (now (values .entry)) ⌝ }
-{
-    let mut t = 0;
-    while t < count {
-        values[at + t] = results[t];
-        t += 1;
     }
 }
 
@@ -147,7 +123,7 @@ fn sample_run(
 {
     fill_points(origin, cell, n, at, len, px, py, pz);
     model::evaluate_row_into(words, numbers, count, px, py, pz, len, scratch, results);
-    copy_run(results, values, at, len);
+    slices::copy_floats(results, values, at, len);
 }
 
 // The values at all places, in runs of up to 64.

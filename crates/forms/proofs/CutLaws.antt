@@ -16,7 +16,8 @@ use Rattle.forms.specs.Inner.Cuts.{endsDecimal, separated, cutFront, cut
 use Rattle.forms.proofs.Cases.{below-or, equal-or, never}
 use Rattle.forms.proofs.NumberLaws.{hex-digit, hex-other, decimal-digit, decimal-past, decimal-ends, decimal-first, decimal-large}
 use Rattle.forms.proofs.NumberLaws.{decimal-none, decimal-nought, digit-some}
-use Rattle.forms.proofs.FormLaws.{byte-read, byte-other, front-most, and-left, separated-rest}
+use Rattle.lists.proofs.Tests.{and-left}
+use Rattle.forms.proofs.FormLaws.{byte-read, byte-other, front-most, separated-rest}
 
 -- ---- a number
 

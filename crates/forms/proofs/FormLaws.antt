@@ -2,11 +2,12 @@
 use mathlib.Core.Path.{_≡_, refl, sym, ap, _∙_}
 use Prim.Native.Nat.{ℕ, suc, _+_, _^_, _≤_, _<_}
 use native.Mathlib.Omega.{arith}
-use mathlib.Core.Bool.{Bool, true, false, _&&_, cond}
+use mathlib.Core.Bool.{Bool, true, false, cond}
 use mathlib.Core.List.{List, [], _∷_, _++_, append-assoc}
 use borrow.Author.Tests.{eq-eqb, ne-eqb}
 use lib.ListN.{length, getD, take, drop, length-append, length-drop}
 use lib.Seq.{take-all}
+use Rattle.lists.proofs.Tests.{and-left, and-right}
 use Rattle.forms.specs.Digits.{hexOf, decimalCount, decimalOf}
 use Rattle.forms.specs.Fronts as fronts
 use Rattle.forms.specs.Forms.{Piece, hex, decimal, byte, spellPiece, isField, after, spell, fields, Line, off, line, readPiece}
@@ -45,14 +46,6 @@ unfolding readPiece spellPiece FitsPiece EndsAfter kept isField
 piece-spelled limit hex x t small fits ends = hex-spelled x t fits
 piece-spelled limit decimal x t small fits ends = decimal-spelled limit x t fits (omega arith) ends
 piece-spelled limit (byte b) x t small fits ends = byte-read limit b b t refl
-
-pub and-left : (a b : Bool) → (a && b) ≡ true → a ≡ true
-and-left true b both = refl
-and-left false b both = both
-
-and-right : (a b : Bool) → (a && b) ≡ true → b ≡ true
-and-right true b both = both
-and-right false b both = never both
 
 pub separated-rest : (p : Piece) (form : List Piece) → separated (p ∷ form) ≡ true → separated form ≡ true
 unfolding separated

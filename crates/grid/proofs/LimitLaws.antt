@@ -15,8 +15,8 @@ use Rattle.grid.specs.Boxes.{active}
 use Rattle.grid.specs.Counting.{activeIn, activeOf}
 use Rattle.grid.specs.Limits.{refusedByTwo, refusedByFive, childrenOf}
 use Rattle.grid.proofs.BlockLaws.{Block, block, cube-le}
-use Rattle.grid.proofs.RangeLists.{countBelow-le}
-use Rattle.grid.proofs.Sums.{sum-le}
+use Rattle.lists.proofs.Ranges.{countBelow-le}
+use Rattle.lists.proofs.Sums.{sumBelow-most}
 
 -- ---- one of five tests that holds
 
@@ -124,7 +124,7 @@ totals-volume a b c ha hb hc = mul-le-mul {n₂ = 4294967296} {m₂ = 65536} (to
 -- the active children are no more than the children
 pub active-few : (g : Grid) → activeOf g ≤ childrenOf g
 unfolding activeOf activeIn childrenOf
-active-few g = sum-le (nodesOf g) (cube (g .inner)) (activeIn g) (λ v. countBelow-le (cube (g .inner)) (active g v))
+active-few g = sumBelow-most (nodesOf g) (cube (g .inner)) (activeIn g) (λ v. countBelow-le (cube (g .inner)) (active g v))
 
 pub store-few : (a r : ℕ) → a ≤ 16777216 → r ≤ 262144 → a * r ≤ 4398046511104
 store-few a r ha hr = mul-le-mul {n₂ = 16777216} {m₂ = 262144} ha hr

@@ -1,5 +1,4 @@
 -- The grid of a sparse field (rules G1 to G18), and what a grid can be.
-pub mod Ranges
 pub mod Blocks
 pub mod Nodes
 pub mod Boxes

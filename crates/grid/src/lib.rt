@@ -2,15 +2,20 @@
 // which are active, which corners they need, and when a child is pruned.
 use geometry::BoundingBox;
 
+mod activity; // activity.rt: how many children are active
 mod blocks; // blocks.rt: the sizes of blocks, and their cubes
 mod boxes; // boxes.rt: where nodes and children lie, and which are active
-mod count; // count.rt: how many children are active
 mod limits; // limits.rt: what a grid can be: causes 1, 2 and 5
 mod needed; // needed.rt: the list of the corners that a node needs
 mod nodes; // nodes.rt: the size and the number of nodes
 mod points; // points.rt: corner points, leaf points and octets
 mod pruning; // pruning.rt: which children become constants
 
+pub use activity::active_children;
+pub use activity::active_in;
+pub use activity::child_total;
+pub use activity::grid_counts;
+pub use activity::same_grid;
 pub use blocks::cube_of;
 pub use blocks::is_block;
 pub use boxes::axis_active;
@@ -19,16 +24,10 @@ pub use boxes::is_active;
 pub use boxes::node_box;
 pub use boxes::node_least;
 pub use boxes::node_most;
-pub use count::active_children;
-pub use count::active_in;
-pub use count::child_total;
-pub use count::grid_counts;
-pub use count::same_grid;
 pub use limits::cause_five;
 pub use limits::cause_one;
 pub use limits::cause_two;
 pub use needed::corner_list;
-pub use nodes::indices;
 pub use nodes::node_counts;
 pub use nodes::node_size;
 pub use nodes::node_total;

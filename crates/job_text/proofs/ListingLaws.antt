@@ -1,5 +1,5 @@
 -- A listing's lines one after the other, their bytes in all, and a listing put into lent bytes.
-use Prim.Native.Nat.{ℕ, zero, suc, _+_, _-_, _/_, _%_, _≤_, _<_}
+use Prim.Native.Nat.{ℕ, zero, suc, _+_, _/_, _%_, _≤_, _<_, _-_}
 use mathlib.Core.Path.{_≡_, refl, sym, ap, ap₂, _∙_}
 use mathlib.Core.Bool.{Bool, true, false, _&&_}
 use mathlib.Core.List.{List, [], _∷_, _++_, append-assoc, append-nil}
@@ -8,12 +8,10 @@ use native.Mathlib.Numerals.{add-one}
 use native.Mathlib.Omega.{arith}
 use borrow.Author.Tests.{le-leb, lt-leb}
 use lib.Ieee.{Float}
-use lib.ListN.{length, getD, take, drop, replicate, length-append, length-replicate}
-use lib.Seq.{sets, sets-eq, take-all, take-at, length-sets}
-use Rattle.lists.specs.Filled.{filled}
+use lib.ListN.{length, getD, take, drop, replicate, length-append}
+use lib.Seq.{sets, sets-eq, take-at, length-sets}
 use Rattle.lists.proofs.Lists.{getD-any}
 use Rattle.lists.proofs.Tests.{and-left, and-right}
-use Rattle.lists.proofs.Filling.{filled-all, filled-constant, filled-length, take-filled}
 use Rattle.float.specs.Zero.{plusZero}
 use Rattle.schedule.specs.Memory.{Memory}
 use Rattle.lists.specs.Sums.{sumFrom, sumBelow}
@@ -177,15 +175,6 @@ done-most k =
     omega (arith, number-most (k .nodes) 86 from-second (omega (arith, second)))
 
 -- ---- bytes with 0 after them
-
-pub zeros-after : (at : ℕ) (l : List ℕ) → at ≤ length l → filled at (length l - at) (λ q. 0) l ≡ take at l ++ replicate (length l - at) 0
-zeros-after at l within =
-    let n = length l - at in
-    let all : at + n ≡ length l = omega arith in
-    sym (take-all (at + n) (filled at n (λ q. 0) l) (omega (arith, filled-length at n (λ q. 0) l)))
-    ∙ take-filled at n (λ q. 0) l (omega arith)
-    ∙ ap (λ t. take at l ++ t)
-    (sym (filled-all n (λ k. 0) (replicate n 0) 0 (length-replicate n 0)) ∙ filled-constant n 0 (replicate n 0) (length-replicate n 0))
 
 module _ (bs out : List ℕ) where
   pub refused-answer : length out < length bs → Refused 6 ≡ putAnswer bs out

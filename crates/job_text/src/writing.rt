@@ -2,7 +2,7 @@
 ghost use mathlib.Core.Path.{_≡_};
 ghost use mathlib.Core.Bool.{true, false};
 ghost use mathlib.Core.List.{[], _∷_, _++_, map};
-ghost use Prim.Native.Nat.{_+_, _-_, _<_, _≤_};
+ghost use Prim.Native.Nat.{_+_, _<_, _≤_, _-_};
 ghost use lib.ListN.{length, take, replicate};
 ghost use lib.Seq.{sets};
 ghost use Rattle.schedule.specs.JobRecord.{atEnd};
@@ -108,11 +108,7 @@ fn zero_rest(at: usize, out: &mut [u8])
     requires { ⌜ at ≤ length (now out) ⌝ }
     ensures { λ _. ⌜ now (out .exit) ≡ take at (now (out .entry)) ++ replicate (length (now (out .entry)) - at) 0 ⌝ }
 {
-    let mut i = at;
-    while i < out.len() {
-        out[i] = 0;
-        i += 1;
-    }
+    slices::zero_bytes(&mut out[at..]);
 }
 
 // The numbers of a listing's first line: a job's counts.

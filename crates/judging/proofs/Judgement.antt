@@ -26,13 +26,13 @@ use Rattle.schedule.specs.Opened.{activeAt, ActiveKinds}
 use Rattle.lists.specs.Flags.{nonzero}
 use Rattle.schedule.specs.Counts.{gridCounts, countsWith, sameCounts}
 use Rattle.schedule.specs.Possible.{validCursor}
-use Rattle.lists.proofs.Sums.{sumBelow-snoc}
+use Rattle.lists.proofs.Sums.{sumBelow-snoc, sumBelow-cong}
 use Rattle.schedule.proofs.Sums.{before-next, before-node}
 use Rattle.schedule.proofs.Activity.{active-at}
 use Rattle.schedule.specs.declared.Counts.{Counts}
 use Rattle.plans.specs.Plan.{planWith}
 use Rattle.plans.specs.Inner.GridPlan.{gridPlan}
-use Rattle.plans.proofs.Plans.{sum-same, counts-same}
+use Rattle.plans.proofs.Plans.{counts-same}
 use Rattle.float.specs.Zero.{plusZero}
 use Rattle.grid.specs.declared.Verdict.the-variants.{Leaf}
 use Rattle.judging.specs.Inner.Judged.{countNonzero, RightKinds}
@@ -82,7 +82,7 @@ module _ (P : Plan) where
       let inside : n ≤ length l = omega (arith, mul-le-mul-right (P .children) hv) in
       let size : length (take n l) ≡ n = length-take-le n l inside in
       ap (sumBelow (λ p. bit (nonzero (getD (take n l) p 0)))) size
-      ∙ sum-same (λ p. bit (nonzero (getD (take n l) p 0))) (λ j. bit (activeAt P j)) n
+      ∙ sumBelow-cong n (λ p. bit (nonzero (getD (take n l) p 0))) (λ j. bit (activeAt P j))
       (λ p below. ap (λ (k : ℕ). bit (nonzero k)) (getD-take n l p 0 below) ∙ ap bit (right p (omega arith)))
       ∙ ap upTo e
       ∙ up-to-child v hv (up-to-node v (omega arith)) c hc

@@ -1,6 +1,6 @@
 -- Lists of 0 and 1 by a test, and numbers that agree with one: part by part, element by element, and in rows.
 use mathlib.Core.Path.{_≡_, refl, sym, ap, _∙_}
-use mathlib.Core.Bool.{Bool, true, false, not, _&&_, Bool·beq}
+use mathlib.Core.Bool.{Bool, true, false, not, _&&_, Bool·beq, and-false}
 use mathlib.Core.List.{List, [], _∷_, _++_, append-nil, append-assoc}
 use Prim.Native.Nat.{ℕ, zero, suc, _+_, _*_, _/_, _%_, _≤_, _<_}
 use native.Mathlib.Nat.{zero-add, add-zero, add-suc, suc-add, mul-le-mul-right, mul-add-div-right, div-eq-of-lt, mul-add-mod-self-right, mod-eq-of-lt}
@@ -12,7 +12,7 @@ use lib.Seq.{take-at, drop-at, drop-drop, take-add, take-all, length-take-le, se
 use borrow.Author.Tests.{eq-eqb, ne-eqb}
 use borrow.Rule.Slice.PartMut.{putMid}
 use Rattle.lists.specs.Sums.{bit}
-use Rattle.lists.proofs.Tests.{and-left, and-right}
+use Rattle.lists.proofs.Tests.{and-left, and-right, beq-self}
 use Rattle.lists.specs.Flags.{nonzero, flagsFrom, agreesFrom, inRows}
 
 -- ---- places in rows of n
@@ -130,17 +130,9 @@ module _ (test : ℕ → Bool) (l : List ℕ) where
 
 -- ---- numbers that agree with a test
 
-and-nothing : (b : Bool) → (b && false) ≡ false
-and-nothing true = refl
-and-nothing false = refl
-
 regroup : (a b c : Bool) → (a && (b && c)) ≡ (a && b && c)
 regroup true b c = refl
 regroup false b c = refl
-
-beq-self : (b : Bool) → Bool·beq b b ≡ true
-beq-self true = refl
-beq-self false = refl
 
 beq-not : (b : Bool) → Bool·beq (not b) b ≡ false
 beq-not true = refl
@@ -211,7 +203,7 @@ module _ (test : ℕ → Bool) (l : List ℕ) where
         sym (ap (agreesFrom test 0) (sym (take-append-drop a l))
         ∙ agrees-append test 0 (take a l) (drop a l)
         ∙ ap (λ (b : Bool). agreesFrom test 0 (take a l) && b) tail
-        ∙ and-nothing (agreesFrom test 0 (take a l)))
+        ∙ and-false (agreesFrom test 0 (take a l)))
       where
         tail : agreesFrom test (0 + length (take a l)) (drop a l) ≡ false
         tail =

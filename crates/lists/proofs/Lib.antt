@@ -4,3 +4,5 @@ pub mod Tables
 pub mod Filling
 pub mod Sums
 pub mod Flags
+pub mod Ranges
+pub mod Members

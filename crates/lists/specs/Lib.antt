@@ -3,3 +3,4 @@ pub mod Filled
 pub mod Slices
 pub mod Sums
 pub mod Flags
+pub mod Ranges

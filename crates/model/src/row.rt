@@ -3,7 +3,6 @@ ghost use mathlib.Core.Path.{_≡_};
 ghost use Prim.Native.Nat.{_≤_, _<_};
 ghost use lib.ListN.{length, getD};
 ghost use Rattle.lists.specs.Filled.{filled};
-ghost use Rattle.float.specs.Zero.{plusZero};
 ghost use Rattle.geometry.specs.Values.{vec3};
 ghost use Rattle.model.specs.Part.{past, partValue};
 ghost use Rattle.model.specs.Flat.{flatIn, partFrom, placed, partAt};
@@ -140,25 +139,8 @@ pub fn fill_parts(
 pub fn copy_row(values: &[f64], p: usize, n: usize, results: &mut [f64])
     requires { ⌜ laneAt p n ≤ length (now values) ⌝ }
     requires { ⌜ n ≤ length (now results) ⌝ }
-    ensures results { λ _. ⌜ now (results .exit) ≡ filled 0 n (λ k. getD (now (values .entry)) (laneAt p k) past) (now (results .entry)) ⌝ }
-    ensures { λ _. ⌜ laneAt p n ≤ length (now (values .entry)) ⌝ }
+    ensures { λ _. ⌜ now (results .exit) ≡ filled 0 n (λ k. getD (now (values .entry)) (laneAt p k) past) (now (results .entry)) ⌝ }
 {
     let row = p * 64;
-    let mut i: usize = 0;
-    while i < n {
-        results[i] = values[row + i];
-        i += 1;
-    }
-}
-
-// +0 into the first n elements.
-pub fn clear_row(n: usize, results: &mut [f64])
-    requires { ⌜ n ≤ length (now results) ⌝ }
-    ensures { λ _. ⌜ now (results .exit) ≡ filled 0 n (λ k. plusZero) (now (results .entry)) ⌝ }
-{
-    let mut i: usize = 0;
-    while i < n {
-        results[i] = 0.0;
-        i += 1;
-    }
+    slices::copy_floats(&values[row..], results, 0, n);
 }

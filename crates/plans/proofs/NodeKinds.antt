@@ -9,11 +9,11 @@ use lib.Dec.{eqb}
 use lib.ListN.{length, getD, take, drop}
 use lib.Seq.{getD-take, getD-drop}
 use lib.Ieee.{Float}
+use Rattle.lists.specs.Ranges.{anyBelow, among}
 use Rattle.lists.proofs.Flags.{nonzero-eqb}
 use Rattle.geometry.specs.declared.BoundingBox.{BoundingBox}
 use Rattle.grid.specs.declared.Grid.{Grid}
 use Rattle.grid.specs.declared.Verdict.{Verdict}
-use Rattle.grid.specs.Ranges.{anyBelow}
 use Rattle.grid.specs.Blocks.{cube}
 use Rattle.grid.specs.Nodes.{nodesOf}
 use Rattle.grid.specs.Boxes.{active}
@@ -37,8 +37,8 @@ pub needed-cong : (n : ℕ) (act other : ℕ → Bool) → ((c : ℕ) → c < cu
     → corners.needed n act corner ≡ corners.needed n other corner
 unfolding corners.needed
 needed-cong n act other same corner =
-    any-cong (cube n) (λ c. act c && corners.among corner (corners.octet n c)) (λ c. other c && corners.among corner (corners.octet n c))
-    (λ c h. ap (λ (b : Bool). b && corners.among corner (corners.octet n c)) (same c h))
+    any-cong (cube n) (λ c. act c && among corner (corners.octet n c)) (λ c. other c && among corner (corners.octet n c))
+    (λ c h. ap (λ (b : Bool). b && among corner (corners.octet n c)) (same c h))
 
 -- ---- the kinds of one node
 

@@ -80,7 +80,7 @@ pub fn is_needed(n: u32, kinds: &[u8], corner: usize) -> bool
     ensures { λ r. ⌜ r ≡ needed n (nonzero (now (kinds .entry))) corner ⌝ }
 {
     let side = n as usize;
-    let at = grid::indices(corner, side + 1, side + 1);
+    let at = geometry::indices(corner, side + 1, side + 1);
     has_child(side, kinds, at.i, at.j, at.k)
 }
 
@@ -92,7 +92,7 @@ fn gather(n: usize, kinds: &[u8], i: usize, most: usize, list: &mut [u32]) -> Fo
 {
     let side = n + 1;
     let total = grid::cube_of(side);
-    let mut at = grid::indices(i, side, side);
+    let mut at = geometry::indices(i, side, side);
     let mut corner = i;
     let mut count: usize = 0;
     while corner < total {

@@ -43,7 +43,7 @@ fn place_points(
     ensures zs { λ _. ⌜ now (zs .exit) ≡ filled 0 count (λ q. axesPoint l (now (axes .entry)) (p + q) .z) (now (zs .entry)) ⌝ }
 {
     let side = l as usize;
-    let mut at = grid::indices(p, side, side);
+    let mut at = geometry::indices(p, side, side);
     let mut q: usize = 0;
     while q < count {
         let i = at.i;

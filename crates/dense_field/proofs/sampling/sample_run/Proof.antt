@@ -12,8 +12,8 @@ fill-points-requires c κs =
 evaluate-row-into-requires : tie.Need-evaluate-row-into-requires
 evaluate-row-into-requires c κs = search needs
 
-copy-run-requires : tie.Need-copy-run-requires
-copy-run-requires c κs = search needs
+copy-floats-requires : tie.Need-copy-floats-requires
+copy-floats-requires c κs = search needs
 
 same-length : tie.Need-same-length
 same-length c = search needs
@@ -25,8 +25,8 @@ returns c =
     let points = row .before .before .before .before .before .before in
     let s = points .before .before .before .before .before in
     let a = s .args in
-    run-filled _ _ (a .origin) (a .cell) (a .n) (a .at) (a .len) (a .results .now) (a .values .now) (s .pre .1 .1)
-    (search needs) (points .fill-points .ensures) (row .evaluate-row-into .ensures .1) (copy .copy-run .ensures)
+    run-filled _ _ (a .origin) (a .cell) (a .n) (a .at) (a .len) (a .results .now) (a .values .now) (s .pre .1 .1) (search needs)
+    (points .fill-points .ensures) (row .evaluate-row-into .ensures .1) (copy .copy-floats .ensures)
 
 pub sample-run-spec : {M : Type 1} → statement M
 sample-run-spec =
@@ -34,6 +34,6 @@ sample-run-spec =
     (tie.spec
     fill-points-requires
     evaluate-row-into-requires
-    copy-run-requires
+    copy-floats-requires
     same-length
     returns)

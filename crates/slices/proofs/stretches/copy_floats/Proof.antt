@@ -44,7 +44,7 @@ loop-again c =
     let l = c .before .before .loop in
     let a = c .before .before .before .args in
     let here : l .i ≡ a .at + l .i - a .at = omega arith in
-    one-more _ _ _ _ (l .inv) (c .before .loop-test .taken) (ap (λ k. getD (a .source .now) k nan) here)
+    one-more _ _ _ _ (l .inv) (search needs) (ap (λ k. getD (a .source .now) k nan) here)
 
 same-length : tie.Need-same-length Inv-loop μ-loop
 same-length c = search needs

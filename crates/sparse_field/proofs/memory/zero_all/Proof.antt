@@ -36,7 +36,14 @@ same-length-5 c = search needs
 
 returns : tie.Need-returns
 returns c =
-    λ i. memoryOf (c .before .before .before .before .before .before .before .before .before .before .before .before .before .before .before .before .before .before .zero-bytes .ensures i) (c .before .before .before .before .before .before .before .before .before .before .before .before .before .before .zero-floats .ensures i) (c .before .before .before .before .before .before .before .before .before .before .zero-words .ensures i) (c .before .before .before .before .before .before .zero-floats2 .ensures i) (c .before .before .zero-floats3 .ensures i)
+    let corners = c .before .before in
+    let store = corners .before .before .before .before in
+    let places = store .before .before .before .before in
+    let numbers = places .before .before .before .before in
+    let kinds = numbers .before .before .before .before in
+    λ i.
+    memoryOf (kinds .zero-bytes .ensures i) (numbers .zero-floats .ensures i) (places .zero-words .ensures i) (store .zero-floats2 .ensures i)
+    (corners .zero-floats3 .ensures i)
 
 pub zero-all-spec : {M : Type 1} → statement M
 zero-all-spec =
