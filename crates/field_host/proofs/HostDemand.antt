@@ -32,8 +32,9 @@ use Rattle.plans.specs.Sparse.{sparse}
 use Rattle.sparse_field.specs.Records.{jobIn, recordIn, byFlag, noRecord, noModel}
 use Rattle.sparse_field.specs.Calls.{Handed, handed, called}
 use Rattle.sparse_field.specs.Inner.Parts.{openedRecord, openedMemory}
-use Rattle.sparse_field.specs.Lists.{Held, answerIn}
-use Rattle.sparse_field.proofs.Opening.{sized, nothing, sparse-laws, long-enough}
+use Rattle.sparse_field.specs.Lists.{Held}
+use Rattle.sparse_field.proofs.Opening.{sized, nothing}
+use Rattle.plans.proofs.Lawful.{sparse-laws, long-enough}
 use Rattle.sparse_field.proofs.CallLaws.{refusedBy, acceptedWith, step-none, step-impossible, step-accepted, drop-accepted}
 use Rattle.sparse_field.proofs.Demand.{implemented}
 use Rattle.field_host.specs.Given.{inputGiven}
@@ -60,7 +61,7 @@ back r c = record-back r (c .inner) (c .leaf) (c .count) (c .long)
 no-cause-codable : (i : Input) (l : Lengths) → sparse .cause l i ≡ 0 → length (i .model .parts) ≡ 64 → Codable i
 no-cause-codable i l none long =
     let free = nothing i l none in
-    let size = sized (i .grid) free in
+    let size = sized i free in
     record {
       inner = omega (arith, size .innerMost);
       leaf = omega (arith, size .leafMost);
@@ -101,7 +102,7 @@ module _ (s : Station) where
 
   -- of what a call hands back: its number is its answer, and the arrays read as its record
   record HandedOn (h : Handed) : Type 0 where
-    answer : answerOf (answerNumber (h .outcome .answer)) ≡ answerIn (h .outcome .answer)
+    answer : answerOf (answerNumber (h .outcome .answer)) ≡ h .outcome .answer
     next : decoded (carriedAfter (h .outcome) old) ≡ h .outcome .next
 
   refused-on : (n : ℕ) → HandedOn (refusedBy (suc n) found m)

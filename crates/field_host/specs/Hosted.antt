@@ -45,4 +45,4 @@ unfoldable pub wordsNumber : List ℕ → ℕ
 wordsNumber ws = cond (eqb (getD ws 0 0) 0) 7 (cond (fits ws) 0 8)
 
 abbrev pub countsList : Counts → List ℕ
-countsList c = c .nodes ∷ c .active ∷ c .leaves ∷ c .sampled ∷ c .evaluations ∷ []
+countsList c = c .grid .nodes ∷ c .grid .active ∷ c .leaves ∷ c .sampled ∷ c .evaluations ∷ []

@@ -32,7 +32,8 @@ use Rattle.sparse_field.specs.Records.{jobIn, recordIn}
 use Rattle.sparse_field.specs.Calls.{called, handed}
 use Rattle.sparse_field.proofs.CallLaws.{acceptedWith}
 use Rattle.sparse_field.proofs.Demand.{record-forth}
-use Rattle.sparse_field.proofs.Opening.{sized, sparse-laws, long-enough, nothing}
+use Rattle.sparse_field.proofs.Opening.{sized, nothing}
+use Rattle.plans.proofs.Lawful.{sparse-laws, long-enough}
 use Rattle.sparse_field.proofs.WholeJob.{recordAfter, job-opened, job-finished, finished-possible, finished-flag, finished-elements}
 use Rattle.grid.proofs.LimitLaws.{bound-fits}
 use Rattle.forms.specs.Forms.{spell}
@@ -143,7 +144,7 @@ module _ (i : Input) (m : Memory) (none : sparse .cause (lengthsOf m) i ≡ 0) w
 
   some-points : 0 < planOf i .leafPoints
   unfolding planWith
-  some-points = cube-le (i .grid .leaf) 1 (sized (i .grid) (nothing i l none) .leafLeast)
+  some-points = cube-le (i .grid .leaf) 1 (sized i (nothing i l none) .leafLeast)
 
   -- every leaf is made
   leaves-all : stateAt (planOf i) (lengthsOf m) (total (planOf i)) .leaves ≡ leavesAll (planOf i)

@@ -20,9 +20,9 @@ use Rattle.schedule.specs.Counts.{countsWith}
 use Rattle.lists.proofs.Sums.{sumBelow-snoc, sumBits-most}
 use Rattle.schedule.proofs.Sums.{before-next, before-node, before-all}
 use Rattle.input.specs.declared.Input.{Input}
-use Rattle.plans.specs.Plan.{planWith, planOf}
+use Rattle.plans.specs.Plan.{planWith, planOf, valueOf, decideBy}
 use Rattle.plans.specs.Sparse.{sparse}
-use Rattle.judging.proofs.Judgement.{no-cause}
+use Rattle.input.proofs.Clear.{no-cause}
 use Rattle.plans.proofs.Plans.{active-all}
 use Rattle.forms.specs.Digits.{decimalCount, decimalOf, hexOf}
 use Rattle.forms.specs.Forms.{spell, spellPiece, pieceOf, isField, after}
@@ -147,7 +147,7 @@ pub listing-fits : (i : Input) (nan : ℕ) → sparse .cause programLengths i �
 unfolding planWith
 listing-fits i nan none =
     let n = no-cause i programLengths none in
-    listing-small (planOf i) nan (n .lent .kinds) (omega (arith, n .lent .store, ap (λ k. k * cube (i .grid .leaf)) (active-all i)))
+    listing-small (planOf i) nan (n .lent .kinds) (omega (arith, n .lent .store, ap (λ k. k * cube (i .grid .leaf)) (active-all (i .grid) (decideBy (i .band)) (valueOf (i .model)))))
 
 -- so do the lines of refusals
 pub refused-fits : (number : ℕ) → length (spell refusedForm (number ∷ [])) ≤ 31

@@ -148,12 +148,12 @@ listing-measured total children points nan k m =
     (line-length children points nan m) total 0)
 
 -- the first line, from its counts
-pub done-spelling : (k : Counts) {xs : List ℕ} → xs ≡ k .nodes ∷ k .active ∷ k .leaves ∷ k .sampled ∷ k .evaluations ∷ [] → spell doneForm xs ≡ doneLine k
+pub done-spelling : (k : Counts) {xs : List ℕ} → xs ≡ k .grid .nodes ∷ k .grid .active ∷ k .leaves ∷ k .sampled ∷ k .evaluations ∷ [] → spell doneForm xs ≡ doneLine k
 unfolding doneLine
 done-spelling k numbers = ap (spell doneForm) numbers
 
 pub done-length :
-    (k : Counts) {xs : List ℕ} → xs ≡ k .nodes ∷ k .active ∷ k .leaves ∷ k .sampled ∷ k .evaluations ∷ []
+    (k : Counts) {xs : List ℕ} → xs ≡ k .grid .nodes ∷ k .grid .active ∷ k .leaves ∷ k .sampled ∷ k .evaluations ∷ []
     → length (spell doneForm xs) ≡ length (doneLine k)
 done-length k numbers = ap length (done-spelling k numbers)
 
@@ -167,12 +167,12 @@ done-most k =
     let from-fifth : List ℕ = 32 ∷ (decimalOf (k .evaluations) ++ end) in
     let from-fourth : List ℕ = 32 ∷ (decimalOf (k .sampled) ++ from-fifth) in
     let from-third : List ℕ = 32 ∷ (decimalOf (k .leaves) ++ from-fourth) in
-    let from-second : List ℕ = 32 ∷ (decimalOf (k .active) ++ from-third) in
+    let from-second : List ℕ = 32 ∷ (decimalOf (k .grid .active) ++ from-third) in
     let fifth = number-most (k .evaluations) 2 end (omega arith) in
     let fourth = number-most (k .sampled) 23 from-fifth (omega (arith, fifth)) in
     let third = number-most (k .leaves) 44 from-fourth (omega (arith, fourth)) in
-    let second = number-most (k .active) 65 from-third (omega (arith, third)) in
-    omega (arith, number-most (k .nodes) 86 from-second (omega (arith, second)))
+    let second = number-most (k .grid .active) 65 from-third (omega (arith, third)) in
+    omega (arith, number-most (k .grid .nodes) 86 from-second (omega (arith, second)))
 
 -- ---- bytes with 0 after them
 

@@ -30,7 +30,7 @@ use Rattle.sparse_field.specs.declared.Record.{Record}
 use Rattle.plans.specs.Sparse.{sparse}
 use Rattle.sparse_field.specs.Records.{jobIn}
 use Rattle.plans.specs.Plan.{planWith, planOf, boxOf}
-use Rattle.plans.proofs.Decisions.{decide-kind}
+use Rattle.grid.proofs.Verdicts.{verdict-kind}
 use Rattle.job_text.specs.Listing.{doneLine, leafLine, leafValues, kindLine, lineAt, planLine, planLineAt, listing, planListing}
 use Rattle.job_text.specs.Written.{placed, allPlaced, printable, recordListing, putListing, written}
 use Rattle.job_text.proofs.LineLaws.{constant-line}
@@ -46,7 +46,7 @@ pub plan-constants : (i : Input) → Constants (planOf i)
 unfolding planWith
 plan-constants i v c k x is =
     let P = planOf i in
-    decide-kind (i .band) (boxOf (i .grid) v c) (map (filled P v 0 zeros) (octet (i .grid .inner) c)) is
+    verdict-kind (i .band .min) (i .band .max) (boxOf (i .grid) v c) (map (filled P v 0 zeros) (octet (i .grid .inner) c)) is
 
 -- ---- the place of a child among all children
 

@@ -21,7 +21,7 @@ use Rattle.schedule.specs.Lent.{memoryOf}
 use Rattle.plans.specs.Plan.{planWith}
 use Rattle.plans.specs.Sparse.{sparse}
 use Rattle.sparse_field.specs.Records.{jobIn}
-use Rattle.judging.proofs.Judgement.{no-cause}
+use Rattle.input.proofs.Clear.{no-cause}
 use Rattle.job_text.specs.declared.Listing.the-variants.{Refused, NotPrintable}
 use Rattle.job_text.specs.Inner.Lengths.{Sizes}
 use Rattle.job_text.specs.Listing.{lineAt, listingTo, listing}
@@ -45,7 +45,7 @@ unfolding childrenOf
 ready r m judged =
     let i = r .input in
     let g = i .grid in
-    let none = no-cause g (i .band) (i .model) (lengthsOf m) (possible sparse (jobIn r) m judged .noCause) in
+    let none = no-cause i (lengthsOf m) (possible sparse (jobIn r) m judged .noCause) in
     let n = inner-block g (none .two) in
     let fits = bound-fits g (none .two) (none .five) in
     let eight : 8 ≤ cube (g .inner) = cube-le (g .inner) 2 (n .least) in

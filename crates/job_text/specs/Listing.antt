@@ -40,7 +40,7 @@ constantLine v c x = spell constantForm (v ∷ c ∷ toBits binary64 x ∷ [])
 
 -- the first line (rule T10)
 unfoldable pub doneLine : Counts → List ℕ
-doneLine k = spell doneForm (k .nodes ∷ k .active ∷ k .leaves ∷ k .sampled ∷ k .evaluations ∷ [])
+doneLine k = spell doneForm (k .grid .nodes ∷ k .grid .active ∷ k .leaves ∷ k .sampled ∷ k .evaluations ∷ [])
 
 -- r lines from place j on
 unfoldable pub linesFrom : (ℕ → List ℕ) → (r j : ℕ) → List ℕ

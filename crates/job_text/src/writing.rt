@@ -20,8 +20,8 @@ use crate::Listing;
 use crate::lines::child_length;
 use crate::lines::is_placed;
 use crate::lines::put_child;
-use sparse_field::Counts;
-use sparse_field::Cursor;
+use schedule::Counts;
+use schedule::Cursor;
 use sparse_field::Record;
 
 // Whether the first children are no leaves, or have their stretches inside a store of this size.
@@ -113,11 +113,12 @@ fn zero_rest(at: usize, out: &mut [u8])
 
 // The numbers of a listing's first line: a job's counts.
 fn done_numbers(counts: Counts) -> [u64; 5]
-    ensures { λ r. ⌜ r ≡ counts .nodes ∷ counts .active ∷ counts .leaves ∷ counts .sampled ∷ counts .evaluations ∷ [] ⌝ }
+    ensures { λ r. ⌜ r ≡ counts .grid .nodes ∷ counts .grid .active ∷ counts .leaves ∷ counts .sampled ∷ counts .evaluations ∷ [] ⌝ }
 {
+    let counted = counts.grid;
     [
-        counts.nodes,
-        counts.active,
+        counted.nodes,
+        counted.active,
         counts.leaves,
         counts.sampled,
         counts.evaluations,

@@ -7,7 +7,7 @@ use crate::held::JOB;
 use crate::held::NEXT;
 use crate::records;
 use crate::words;
-use sparse_field::Answer;
+use schedule::Answer;
 use input::Input;
 use sparse_field::Outcome;
 use sparse_field::Record;

@@ -9,12 +9,13 @@ use crate::numbers;
 use geometry::BoundingBox;
 use input::Band;
 use grid::Grid;
+use grid::GridCounts;
 use input::Lengths;
 use model::ImplicitModel;
 use model::ModelComponent;
 use model::Part;
-use sparse_field::Counts;
-use sparse_field::Cursor;
+use schedule::Counts;
+use schedule::Cursor;
 use input::Input;
 use sparse_field::Record;
 
@@ -72,8 +73,10 @@ fn lengths_in(held: &[u64; 686]) -> Lengths {
 
 fn counts_in(held: &[u64; 686]) -> Counts {
     Counts {
-        nodes: held[COUNTS],
-        active: held[COUNTS + 1],
+        grid: GridCounts {
+            nodes: held[COUNTS],
+            active: held[COUNTS + 1],
+        },
         leaves: held[COUNTS + 2],
         sampled: held[COUNTS + 3],
         evaluations: held[COUNTS + 4],
@@ -142,8 +145,9 @@ fn put_lengths(lengths: Lengths, held: &mut [u64; 686]) {
 }
 
 fn put_counts(counts: Counts, held: &mut [u64; 686]) {
-    held[COUNTS] = counts.nodes;
-    held[COUNTS + 1] = counts.active;
+    let counted = counts.grid;
+    held[COUNTS] = counted.nodes;
+    held[COUNTS + 1] = counted.active;
     held[COUNTS + 2] = counts.leaves;
     held[COUNTS + 3] = counts.sampled;
     held[COUNTS + 4] = counts.evaluations;

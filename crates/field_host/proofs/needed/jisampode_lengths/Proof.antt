@@ -3,7 +3,7 @@ use borrow.Author.Needs.{needs}
 use mathlib.Core.Path.{refl, sym, ap, _∙_}
 use Rattle.input.specs.declared.Input.{Input}
 use Rattle.input.specs.Causes.{numberOf}
-use Rattle.judging.proofs.Judgement.{no-cause}
+use Rattle.input.proofs.Clear.{no-cause}
 use Rattle.input.specs.Needed.{neededLengths}
 use Rattle.field_host.specs.Needed.{lengthList, longest, anyRefusal, lengthsLeft}
 use Rattle.field_host.proofs.needed.jisampode_lengths.Statement.{statement}
@@ -19,7 +19,7 @@ enum-known-refusal : tie.Need-enum-known-refusal
 enum-known-refusal c = search needs
 
 returns : tie.Need-returns
-unfolding numberOf lengthsLeft
+unfolding lengthsLeft
 returns c =
     let known =
     sym
@@ -38,7 +38,7 @@ needed-lengths-requires c κs =
     (none .two, none .five)
 
 returns-2 : tie.Need-returns-2
-unfolding numberOf lengthsLeft
+unfolding lengthsLeft
 returns-2 c =
     let given = c .before .before .before .before .before .input-given .ensures in
     let known =

@@ -30,7 +30,7 @@ returns c =
     flag i
     ∷ r .input .grid .inner ∷ r .input .grid .leaf ∷ r .input .model .count
     ∷ l .kinds ∷ l .numbers ∷ l .places ∷ l .store ∷ l .corners
-    ∷ k .nodes ∷ k .active ∷ k .leaves ∷ k .sampled ∷ k .evaluations
+    ∷ k .grid .nodes ∷ k .grid .active ∷ k .leaves ∷ k .sampled ∷ k .evaluations
     ∷ at .0 i ∷ at .1 i ∷ at .2 i ∷ at .3 i
     ∷ []
 

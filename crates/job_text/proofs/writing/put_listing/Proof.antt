@@ -37,7 +37,7 @@ bytesOf s = doneLine (s .args .counts) ++ linesOf s
 
 -- what is put, line by line, is the listing
 put-whole : (s : tie.Start) {xs l₁ l₂ : List ℕ} {r₁ r₂ : ℕ}
-    → xs ≡ s .args .counts .nodes ∷ s .args .counts .active ∷ s .args .counts .leaves ∷ s .args .counts .sampled ∷ s .args .counts .evaluations ∷ []
+    → xs ≡ s .args .counts .grid .nodes ∷ s .args .counts .grid .active ∷ s .args .counts .leaves ∷ s .args .counts .sampled ∷ s .args .counts .evaluations ∷ []
     → r₁ ≡ 0 + length (spell doneForm xs) → l₁ ≡ sets (s .args .out .now) 0 (spell doneForm xs)
     → r₂ ≡ r₁ + length (linesOf s) → l₂ ≡ sets l₁ r₁ (linesOf s) → (r₂ ≡ 0 + length (bytesOf s)) × (l₂ ≡ sets (s .args .out .now) 0 (bytesOf s))
 put-whole s numbers end₁ put₁ end₂ put₂ =
