@@ -4,7 +4,6 @@ use native.Mathlib.Nat.{le-refl}
 use Rattle.grid.specs.declared.Grid.{Grid}
 use Rattle.input.specs.declared.Refusal.the-variants.{None}
 use Rattle.grid.specs.Limits.{childrenOf}
-use Rattle.grid.specs.Causes.{storeNeeded}
 use Rattle.input.specs.Causes.{refusalOf}
 use Rattle.input.proofs.Clear.{Long, clear, accepted}
 use Rattle.input.specs.declared.Input.{Input}
@@ -12,7 +11,7 @@ use Rattle.input.specs.Needed.{neededLengths}
 use Rattle.field_host.specs.Needed.{longest, anyRefusal}
 
 exact : (g : Grid) → Long g (neededLengths g)
-unfolding childrenOf storeNeeded
+unfolding childrenOf
 exact g = record { kinds = le-refl _; numbers = le-refl _; places = le-refl _; corners = le-refl _; store = le-refl _ }
 
 pub enough : (i : Input) → anyRefusal i ≡ None → refusalOf i (neededLengths (i .grid)) ≡ None
