@@ -1,17 +1,31 @@
 -- `children::child_turn` meets its contract: by its kind and the grid's verdict the child is passed over, becomes a constant or a leaf.
 use Prim.Native.Nat.{ℕ, _+_, _*_, _≤_, _<_}
-use mathlib.Core.Path.{_≡_, ap}
+use mathlib.Core.Path.{_≡_, ap, sym, _∙_}
 use native.Mathlib.Omega.{arith}
-use native.Mathlib.Nat.{mul-le-mul-right}
+use native.Mathlib.Nat.{mul-le-mul-right, pos-of-ne-zero}
 use lib.ListN.{length}
 use Rattle.grid.specs.Blocks.{cube}
+use Rattle.grid.proofs.Verdicts.{verdict-kind}
 use Rattle.schedule.specs.Memory.{Memory}
-use Rattle.plans.specs.Plan.{planWith}
+use Rattle.plans.specs.Plan.{planWith, decideBy}
+use lib.Ieee.{Float}
+use mathlib.Core.List.{List}
+use Rattle.geometry.specs.declared.BoundingBox.{BoundingBox}
+use Rattle.grid.specs.declared.Verdict.{Verdict}
+use Rattle.grid.specs.declared.Verdict.the-variants.{Constant}
+use Rattle.rows.specs.Inner.FlatValue.{flatValue}
 use Rattle.schedule.specs.Lent.{memoryOf}
 use Rattle.engine.proofs.ChildLaws.{place-few, leaves-few, skipped, constant-turn, leaf-inside, leaf-turn}
 use borrow.Author.Needs.{needs}
 use Rattle.engine.proofs.children.child_turn.Statement.{statement}
 use Rattle.engine.proofs.children.child_turn.Tie as tie
+
+-- what becomes of a child, and the value at a point
+abbrev decide : tie.Start → BoundingBox → List Float → Verdict
+decide s = decideBy (s .args .band)
+
+abbrev value : tie.Start → Float → Float → Float → Float
+value s = flatValue (s .args .words .now) (s .args .reals .now) (s .args .parts)
 
 -- the memory at entry
 abbrev memory : tie.Start → Memory
@@ -64,7 +78,7 @@ few-leaves : (d : tie.After-decide-child) → start (counted d) .args .leaves �
 few-leaves d =
     let s = start (counted d) in
     let a = s .args in
-    leaves-few (a .g) (a .band) (a .words .now) (a .reals .now) (a .parts) (a .v) (a .c) (a .leaves) (memory s) (s .pre .0 .0) (s .pre .0 .2) (s .pre .1)
+    leaves-few (a .g) (decide s) (value s) (a .v) (a .c) (a .leaves) (memory s) (s .pre .0 .0) (s .pre .0 .2) (s .pre .1)
 
 -- ---- what is left
 
@@ -88,7 +102,7 @@ returns c =
     let p = c .before .before in
     let s = start p in
     let a = s .args in
-    skipped (a .g) (a .band) (a .words .now) (a .reals .now) (a .parts) (a .v) (a .c) (a .budget) (a .leaves) (memory s) (a .b)
+    skipped (a .g) (decide s) (value s) (a .v) (a .c) (a .budget) (a .leaves) (memory s) (a .b)
     (s .pre .0 .1) (s .pre .0 .2) (s .pre .1) (p .cube-of .result) (p .cube-of .ensures) (c .if1 .taken)
 
 child-box-requires : tie.Need-child-box-requires
@@ -138,7 +152,7 @@ stretch d =
     let p = counted d in
     let s = start p in
     let a = s .args in
-    leaf-inside (a .g) (a .band) (a .words .now) (a .reals .now) (a .parts) (a .v) (a .c) (a .budget) (a .leaves) (memory s) (a .b)
+    leaf-inside (a .g) (decide s) (value s) (a .v) (a .c) (a .budget) (a .leaves) (memory s) (a .b)
     (s .pre .0 .1) (s .pre .0 .2) (s .pre .1) (p .cube-of .result) (p .cube-of .ensures)
     (d .before .octet-values .ensures) (d .before .before .child-box .ensures) (d .decide-child .ensures)
     (d .before .before .before .if1 .left)
@@ -155,16 +169,22 @@ same-length c = search needs
 same-length-2 : tie.Need-same-length-2
 same-length-2 c = search needs
 
+-- a constant's kind is above 0
+kind-above : (d : tie.After-decide-child) {k : ℕ} {x : Float} → d .decide-child .result ≡ Constant k x → 0 < k
+kind-above d is =
+    let a = start (counted d) .args in
+    pos-of-ne-zero (verdict-kind (a .band .min) (a .band .max) _ _ (sym (d .decide-child .ensures) ∙ is) .0)
+
 returns-2 : tie.Need-returns-2
 returns-2 c =
     let d = c .before .before .before in
     let p = counted d in
     let s = start p in
     let a = s .args in
-    constant-turn (a .g) (a .band) (a .words .now) (a .reals .now) (a .parts) (a .v) (a .c) (a .budget) (a .leaves) (memory s) (a .b)
+    constant-turn (a .g) (decide s) (value s) (a .v) (a .c) (a .budget) (a .leaves) (memory s) (a .b)
     (s .pre .0 .1) (s .pre .0 .2) (s .pre .1) (p .cube-of .result) (p .cube-of .ensures)
     (d .before .octet-values .ensures) (d .before .before .child-box .ensures) (d .decide-child .ensures)
-    (d .before .before .before .if1 .left) (c .before .verdict .given .1)
+    (d .before .before .before .if1 .left) (c .before .verdict .given .1) (kind-above d (c .before .verdict .given .1))
 
 same-length-3 : tie.Need-same-length-3
 same-length-3 c = search needs
@@ -181,7 +201,7 @@ returns-3 c =
     let p = counted d in
     let s = start p in
     let a = s .args in
-    leaf-turn (a .g) (a .band) (a .words .now) (a .reals .now) (a .parts) (a .v) (a .c) (a .budget) (a .leaves) (memory s) (a .b)
+    leaf-turn (a .g) (decide s) (value s) (a .v) (a .c) (a .budget) (a .leaves) (memory s) (a .b)
     (s .pre .0 .1) (s .pre .0 .2) (s .pre .1) (p .cube-of .result) (p .cube-of .ensures)
     (d .before .octet-values .ensures) (d .before .before .child-box .ensures) (d .decide-child .ensures)
     (d .before .before .before .if1 .left) (c .before .before .before .before .before .enum-told .given .1)

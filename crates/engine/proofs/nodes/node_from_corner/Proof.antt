@@ -7,12 +7,26 @@ use Rattle.grid.specs.Blocks.{cube}
 use Rattle.grid.specs.Nodes.{nodesOf}
 use Rattle.schedule.specs.Memory.{Memory}
 use Rattle.schedule.specs.Lent.{memoryOf}
-use Rattle.plans.specs.Plan.{planWith}
+use Rattle.plans.specs.Plan.{planWith, decideBy}
+use lib.Ieee.{Float}
+use mathlib.Core.List.{List}
+use Rattle.geometry.specs.declared.BoundingBox.{BoundingBox}
+use Rattle.grid.specs.declared.Verdict.{Verdict}
+use Rattle.rows.specs.Inner.FlatValue.{flatValue}
+use Rattle.plans.proofs.Plans.{plan-laws}
+use Rattle.schedule.specs.PlanLaws.{PlanLaws}
 use Rattle.engine.proofs.Turns.{advanced-then}
 use Rattle.engine.proofs.NodeLaws.{node-few, part-long, node-at-corner, node-past-corners}
 use borrow.Author.Needs.{needs}
 use Rattle.engine.proofs.nodes.node_from_corner.Statement.{statement}
 use Rattle.engine.proofs.nodes.node_from_corner.Tie as tie
+
+-- what becomes of a child, and the value at a point
+abbrev decide : tie.Start → BoundingBox → List Float → Verdict
+decide s = decideBy (s .args .band)
+
+abbrev value : tie.Start → Float → Float → Float → Float
+value s = flatValue (s .args .words .now) (s .args .reals .now) (s .args .parts)
 
 -- the memory at entry
 abbrev memory : tie.Start → Memory
@@ -32,6 +46,10 @@ inside s = omega (arith, node-few (s .args .g) (s .args .v) (s .pre .0 .0) (node
 long : (s : tie.Start) → cube (s .args .g .inner + 1) ≤ length (s .args .corners .now)
 unfolding planWith
 long s = s .pre .1 .lent .corners
+
+-- its plan is lawful
+laws : (s : tie.Start) → PlanLaws (planWith (s .args .g) (decide s) (value s))
+laws s = plan-laws (s .args .g) (s .args .band) (value s) (s .pre .0 .0 .innerLeast)
 
 cast-n : tie.Need-cast-n
 cast-n c = search needs
@@ -87,15 +105,15 @@ returns : tie.Need-returns
 returns c =
     let s = c .before .before .before .before .before .before .before .before .before .before .before .before .before .before .before .before .before .before in
     let a = s .args in
-    node-at-corner (a .g) (a .band) (a .words .now) (a .reals .now) (a .parts) (a .v) (a .i) (a .budget) (a .leaves) (memory s) (s .pre .0 .0) (s .pre .1)
+    node-at-corner (a .g) (decide s) (value s) (a .v) (a .i) (a .budget) (a .leaves) (memory s) (s .pre .1)
     (c .before .before .before .before .before .before .before .before .before .before .cube-of .result) (c .before .before .before .before .before .before .before .before .before .before .cube-of .ensures) (c .before .before .before .before .before .before .before .before .before .before .before .node-box .ensures) (c .before .before .before .before .before .run-corners .ensures) (omega (arith, c .before .before .cube-of2 .ensures, c .if1 .taken))
 
 rest-of-node-requires : tie.Need-rest-of-node-requires
 rest-of-node-requires c κs =
     let s = c .before .before .before .before .before .before .before .before .before .before .before .before .before .before .before .before .before .before .before .before .before .before .before .before in
     let a = s .args in
-    let past = node-past-corners (a .g) (a .band) (a .words .now) (a .reals .now) (a .parts) (a .v) (a .i) (a .budget) (a .leaves) (memory s) (s .pre .0 .0) (s .pre .1)
-    (c .before .before .before .before .before .before .before .before .before .before .before .before .before .before .before .before .cube-of .result) (c .before .before .before .before .before .before .before .before .before .before .before .before .before .before .before .before .cube-of .ensures) (c .before .before .before .before .before .before .before .before .before .before .before .before .before .before .before .before .before .node-box .ensures) (c .before .before .before .before .before .before .before .before .before .before .before .run-corners .ensures) (omega (arith, c .before .before .before .before .before .before .before .before .cube-of2 .ensures, c .before .before .before .before .before .before .if1 .left)) in
+    let past = node-past-corners (a .g) (decide s) (value s) (a .v) (a .i) (a .budget) (a .leaves) (memory s) (s .pre .1)
+    (c .before .before .before .before .before .before .before .before .before .before .before .before .before .before .before .before .cube-of .result) (c .before .before .before .before .before .before .before .before .before .before .before .before .before .before .before .before .cube-of .ensures) (c .before .before .before .before .before .before .before .before .before .before .before .before .before .before .before .before .before .node-box .ensures) (c .before .before .before .before .before .before .before .before .before .before .before .run-corners .ensures) (laws s) (omega (arith, c .before .before .before .before .before .before .before .before .cube-of2 .ensures, c .before .before .before .before .before .before .if1 .left)) in
     ((s .pre .0 .0, c .before .before .before .before .before .before .before .before .before .before .before .before .before .before .before .before .before .node-box .ensures, omega arith, s .pre .0 .2), record { lent = past .lent; node = s .pre .1 .node; atMost = past .atMost })
 
 same-length-3 : tie.Need-same-length-3
@@ -117,8 +135,8 @@ returns-2 : tie.Need-returns-2
 returns-2 c =
     let s = c .before .before .before .before .before .before .before .before .before .before .before .before .before .before .before .before .before .before .before .before .before .before .before .before .before .before .before .before .before .before .before .before .before .before .before in
     let a = s .args in
-    let past = node-past-corners (a .g) (a .band) (a .words .now) (a .reals .now) (a .parts) (a .v) (a .i) (a .budget) (a .leaves) (memory s) (s .pre .0 .0) (s .pre .1)
-    (c .before .before .before .before .before .before .before .before .before .before .before .before .before .before .before .before .before .before .before .before .before .before .before .before .before .before .before .cube-of .result) (c .before .before .before .before .before .before .before .before .before .before .before .before .before .before .before .before .before .before .before .before .before .before .before .before .before .before .before .cube-of .ensures) (c .before .before .before .before .before .before .before .before .before .before .before .before .before .before .before .before .before .before .before .before .before .before .before .before .before .before .before .before .node-box .ensures) (c .before .before .before .before .before .before .before .before .before .before .before .before .before .before .before .before .before .before .before .before .before .before .run-corners .ensures) (omega (arith, c .before .before .before .before .before .before .before .before .before .before .before .before .before .before .before .before .before .before .before .cube-of2 .ensures, c .before .before .before .before .before .before .before .before .before .before .before .before .before .before .before .before .before .if1 .left)) in
+    let past = node-past-corners (a .g) (decide s) (value s) (a .v) (a .i) (a .budget) (a .leaves) (memory s) (s .pre .1)
+    (c .before .before .before .before .before .before .before .before .before .before .before .before .before .before .before .before .before .before .before .before .before .before .before .before .before .before .before .cube-of .result) (c .before .before .before .before .before .before .before .before .before .before .before .before .before .before .before .before .before .before .before .before .before .before .before .before .before .before .before .cube-of .ensures) (c .before .before .before .before .before .before .before .before .before .before .before .before .before .before .before .before .before .before .before .before .before .before .before .before .before .before .before .before .node-box .ensures) (c .before .before .before .before .before .before .before .before .before .before .before .before .before .before .before .before .before .before .before .before .before .before .run-corners .ensures) (laws s) (omega (arith, c .before .before .before .before .before .before .before .before .before .before .before .before .before .before .before .before .before .before .before .cube-of2 .ensures, c .before .before .before .before .before .before .before .before .before .before .before .before .before .before .before .before .before .if1 .left)) in
     record { advanced = advanced-then _ past refl (c .before .before .before .before .before .before .before .before .before .before .rest-of-node .ensures .advanced); cleared = c .before .before .before .before .before .before .before .before .before .before .rest-of-node .ensures .cleared }
 
 pub node-from-corner-spec : {M : Type 1} → statement M

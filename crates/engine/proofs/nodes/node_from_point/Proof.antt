@@ -15,13 +15,23 @@ use Rattle.schedule.specs.Memory.{Memory}
 use Rattle.engine.specs.declared.Progress.{Progress}
 use Rattle.schedule.specs.Totals.{activeBefore}
 use Rattle.schedule.specs.Lent.{memoryOf}
-use Rattle.plans.specs.Plan.{planWith}
+use Rattle.plans.specs.Plan.{planWith, decideBy}
+use Rattle.geometry.specs.declared.BoundingBox.{BoundingBox}
+use Rattle.grid.specs.declared.Verdict.{Verdict}
+use Rattle.rows.specs.Inner.FlatValue.{flatValue}
 use Rattle.engine.specs.Inner.Progress.{plan, Advanced}
 use Rattle.engine.proofs.Turns.{advanced-then, came-through, node-stopped}
 use Rattle.engine.proofs.NodeLaws.{leaves-inside, node-points}
 use borrow.Author.Needs.{needs}
 use Rattle.engine.proofs.nodes.node_from_point.Statement.{statement}
 use Rattle.engine.proofs.nodes.node_from_point.Tie as tie
+
+-- what becomes of a child, and the value at a point
+abbrev decide : tie.Start → BoundingBox → List Float → Verdict
+decide s = decideBy (s .args .band)
+
+abbrev value : tie.Start → Float → Float → Float → Float
+value s = flatValue (s .args .words .now) (s .args .reals .now) (s .args .parts)
 
 -- the memory at entry
 abbrev memory : tie.Start → Memory
@@ -51,7 +61,7 @@ leaf-from-requires c κs =
       s .pre .0 .0 .leafMost,
       s .pre .0 .2,
       s .pre .0 .3,
-      leaves-inside (a .g) (a .band) (a .words .now) (a .reals .now) (a .parts) (a .v) (a .c) (a .p) (a .budget) (a .leaves) (memory s) (s .pre .1) (s .pre .0 .1),
+      leaves-inside (a .g) (decide s) (value s) (a .v) (a .c) (a .p) (a .budget) (a .leaves) (memory s) (s .pre .1) (s .pre .0 .1),
       s .pre .0 .4,
     )
 
@@ -65,7 +75,7 @@ returns : tie.Need-returns
 returns c =
     let s = c .before .before .before .before .before .before .before .before .before .before .before .before .before .before in
     let a = s .args in
-    let points = node-points (a .g) (a .band) (a .words .now) (a .reals .now) (a .parts) (a .v) (a .c) (a .p) (a .budget) (a .leaves) (memory s) (s .pre .1) (s .pre .0 .1)
+    let points = node-points (a .g) (decide s) (value s) (a .v) (a .c) (a .p) (a .budget) (a .leaves) (memory s) (s .pre .1) (s .pre .0 .1)
     (s .pre .0 .2) (c .before .before .before .before .before .before .before .before .node-box .ensures) (c .before .before .before .before .before .before .before .child-box .ensures) (c .before .before .before .before .leaf-from .ensures .0) (c .before .before .before .before .leaf-from .ensures .1) in
     node-stopped _ _ _ _ (c .enum-told .given .0 .0) points (c .enum-told .given .1)
 
@@ -79,7 +89,7 @@ rest-of-node-requires : tie.Need-rest-of-node-requires
 rest-of-node-requires c κs =
     let s = c .before .before .before .before .before .before .before .before .before .before .before .before .before .before .before .before .before .before .before .before in
     let a = s .args in
-    let points = node-points (a .g) (a .band) (a .words .now) (a .reals .now) (a .parts) (a .v) (a .c) (a .p) (a .budget) (a .leaves) (memory s) (s .pre .1) (s .pre .0 .1)
+    let points = node-points (a .g) (decide s) (value s) (a .v) (a .c) (a .p) (a .budget) (a .leaves) (memory s) (s .pre .1) (s .pre .0 .1)
     (s .pre .0 .2) (c .before .before .before .before .before .before .before .before .before .before .before .before .before .before .node-box .ensures) (c .before .before .before .before .before .before .before .before .before .before .before .before .before .child-box .ensures) (c .before .before .before .before .before .before .before .before .before .before .leaf-from .ensures .0) (c .before .before .before .before .before .before .before .before .before .before .leaf-from .ensures .1) in
     let most = came-through _ (points .atMost) (c .before .before .before .before .before .before .enum-told2 .given .1) in (
       (s .pre .0 .0, c .before .before .before .before .before .before .before .before .before .before .before .before .before .before .node-box .ensures, omega (arith, s .pre .0 .1), s .pre .0 .4),
@@ -110,7 +120,7 @@ returns-2 c =
     let s = c .before .before .before .before .before .before .before .before .before .before .before .before .before .before .before .before .before .before .before .before .before .before .before .before .before .before .before .before .before .before .before in
     let a = s .args in
     let P = plan (a .g) (a .band) (a .words .now) (a .reals .now) (a .parts) in
-    let points = node-points (a .g) (a .band) (a .words .now) (a .reals .now) (a .parts) (a .v) (a .c) (a .p) (a .budget) (a .leaves) (memory s) (s .pre .1) (s .pre .0 .1)
+    let points = node-points (a .g) (decide s) (value s) (a .v) (a .c) (a .p) (a .budget) (a .leaves) (memory s) (s .pre .1) (s .pre .0 .1)
     (s .pre .0 .2) (c .before .before .before .before .before .before .before .before .before .before .before .before .before .before .before .before .before .before .before .before .before .before .before .before .before .node-box .ensures) (c .before .before .before .before .before .before .before .before .before .before .before .before .before .before .before .before .before .before .before .before .before .before .before .before .child-box .ensures) (c .before .before .before .before .before .before .before .before .before .before .before .before .before .before .before .before .before .before .before .before .before .leaf-from .ensures .0) (c .before .before .before .before .before .before .before .before .before .before .before .before .before .before .before .before .before .before .before .before .before .leaf-from .ensures .1) in
     let rest = c .before .before .before .before .before .before .before .before .before .before .rest-of-node .ensures in
     record { advanced = advanced-then P (then P _ _ _ _ points (sym (add-one (a .c)))) (c .before .before .before .before .before .before .before .before .before .before .before .before .before .before .before .before .before .enum-told2 .given .1) (rest .advanced); cleared = rest .cleared }
