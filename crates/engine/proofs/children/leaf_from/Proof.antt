@@ -15,7 +15,7 @@ sub-ordinal c = search needs
 fill-leaf-requires : tie.Need-fill-leaf-requires
 fill-leaf-requires c κs =
     let s = c .before .before .before in
-    let one : s .args .leaves - 1 + 1 ≡ s .args .leaves = omega (arith, s .pre .3) in
+    let one : s .args .leaf .leaves - 1 + 1 ≡ s .args .leaf .leaves = omega (arith, s .pre .3) in
     (s .pre .0, s .pre .1, s .pre .2, rw one (s .pre .4), s .pre .5)
 
 sub-left : tie.Need-sub-left
@@ -34,8 +34,10 @@ returns : tie.Need-returns
 returns c =
     let s = c .before .before .before .before .before .before .before .before in
     let a = s .args in
+    let f = a .leaf in
     let next = c .before .before .before .before .fill-leaf in
-    (leaf-stopped (a .leaves) (a .budget) (a .v) (a .c) (a .p) (cube (a .l)) (next .result) (next .ensures .0) (omega (arith, c .before .cube-of .ensures)), next .ensures .1)
+    (leaf-stopped (f .leaves) (f .left) (f .node) (f .child) (f .point) (cube (a .l)) (next .result) (next .ensures .0)
+    (omega (arith, c .before .cube-of .ensures)), next .ensures .1)
 
 same-length-2 : tie.Need-same-length-2
 same-length-2 c = search needs
@@ -44,8 +46,10 @@ returns-2 : tie.Need-returns-2
 returns-2 c =
     let s = c .before .before .before .before .before .before .before .before in
     let a = s .args in
+    let f = a .leaf in
     let next = c .before .before .before .before .fill-leaf in
-    (leaf-through (a .leaves) (a .budget) (a .v) (a .c) (a .p) (cube (a .l)) (next .result) (next .ensures .0) (omega (arith, c .before .cube-of .ensures)), next .ensures .1)
+    (leaf-through (f .leaves) (f .left) (f .node) (f .child) (f .point) (cube (a .l)) (next .result) (next .ensures .0)
+    (omega (arith, c .before .cube-of .ensures)), next .ensures .1)
 
 pub leaf-from-spec : {M : Type 1} → statement M
 leaf-from-spec =
