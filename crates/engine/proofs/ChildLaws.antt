@@ -162,7 +162,8 @@ module _ (g : Grid) (decide : BoundingBox → List Float → Verdict) (value : F
         subst (λ n. ChildrenAdvanced P v c (suc c) b leaves m
         (memoryOf (set (m .kinds) (v * n + c) 2) (m .numbers) (set (m .places) (v * n + c) leaves) store (m .corners)) turn) (sym cubed)
         (subst (λ l. ChildrenAdvanced P v c (suc c) b leaves m
-        (memoryOf (set (m .kinds) (v * cube (g .inner) + c) 2) (m .numbers) (set (m .places) (v * cube (g .inner) + c) leaves) l (m .corners)) turn) (sym stored′)
+        (memoryOf (set (m .kinds) (v * cube (g .inner) + c) 2) (m .numbers) (set (m .places) (v * cube (g .inner) + c) leaves) l (m .corners)) turn)
+        (sym stored′)
         (subst (λ t. ChildrenAdvanced P v c (suc c) b leaves m
         (memoryOf (set (m .kinds) (v * cube (g .inner) + c) 2) (m .numbers) (set (m .places) (v * cube (g .inner) + c) leaves)
         (filledStore P v c 0 b (suc leaves) (m .store)) (m .corners)) t) (sym goes′) whole))

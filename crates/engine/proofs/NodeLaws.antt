@@ -1,10 +1,10 @@
 -- A node's turn: its corners, evaluated while the budget lasts, and what follows them.
 use Prim.Native.Nat.{ℕ, zero, suc, _+_, _*_, _-_, _≤_, _<_, min}
 use mathlib.Core.Path.{_≡_, refl, sym, ap, ap₂, subst, fun-ext, _∙_}
-use mathlib.Core.Bool.{Bool, true, false, not, cond, _&&_, _||_}
+use mathlib.Core.Bool.{Bool, true, false, cond}
 use mathlib.Core.Logic.{_⊎_, ⊎-elim}
-use mathlib.Core.List.{List, [], map}
-use native.Mathlib.Nat.{mul-le-mul-left, mul-le-mul-right, pos-of-ne-zero}
+use mathlib.Core.List.{List, []}
+use native.Mathlib.Nat.{mul-le-mul-left, mul-le-mul-right}
 use native.Mathlib.Omega.{arith}
 use lib.ListN.{set, getD, length, take, drop, length-set, length-drop}
 use lib.Seq.{length-take-le}
@@ -39,7 +39,8 @@ use Rattle.rows.specs.Inner.CornerRun.{CornerRun, neededFrom, evaluatedFrom}
 use Rattle.geometry.specs.Values as values
 use Rattle.plans.specs.Plan.{planWith, boxOf}
 use Rattle.engine.specs.Inner.Runs.{runOf}
-use Rattle.engine.specs.Inner.Progress.{Sized, Lent, afterStop, IfThrough, stateIn, Advanced, Ready, readingIn, ZeroCorners, NodeAdvanced, Turned, Onward, leafProgress}
+use Rattle.engine.specs.Inner.Progress.{Sized, Lent, afterStop, IfThrough, stateIn, Advanced, Ready, readingIn, leafProgress}
+use Rattle.engine.specs.Inner.Progress.{ZeroCorners, NodeAdvanced, Turned, Onward}
 use Rattle.plans.proofs.NodeKinds.{part-needed}
 use Rattle.engine.proofs.RunLaws.{run-corners}
 use Rattle.engine.proofs.Turns.{progress, stopped, advanced-start, advanced-then, filledStore, turn-points}
@@ -101,7 +102,8 @@ module _ (P : Plan) (v i b leaves next left : ℕ) (m : Memory) (after : List Fl
       run-corners P v r i b (stateIn m leaves) (m .corners) (omega (arith, run .from, run .within)) (lent .corners) (omega (arith, run .spent))
       ∙ ap₂ (λ k n. runOf P k (eventsFrom P (Corner v n) (λ j. getD (evaluatedFrom (P .needed v) (P .cornerValue v) r i (m .corners)) j plusZero))
       (stateIn (memoryOf (m .kinds) (m .numbers) (m .places) (m .store) (evaluatedFrom (P .needed v) (P .cornerValue v) r i (m .corners))) leaves)) rest place
-      ∙ ap (λ l. runOf P left (eventsFrom P (Corner v next) (λ j. getD l j plusZero)) (stateIn (memoryOf (m .kinds) (m .numbers) (m .places) (m .store) l) leaves)) (sym (run .written))
+      ∙ ap (λ l. runOf P left (eventsFrom P (Corner v next) (λ j. getD l j plusZero))
+      (stateIn (memoryOf (m .kinds) (m .numbers) (m .places) (m .store) l) leaves)) (sym (run .written))
 
   -- it stops before a corner
   pub corners-stopped : {to : List Event} {most : ℕ} → next < P .corners
@@ -156,7 +158,8 @@ pub nodes-upto : (P : Plan) (v₁ v₂ b leaves : ℕ) {m₀ m : Memory} {from :
 nodes-upto P v₁ v₂ b leaves {m₀} {m} {from} {r} same = subst (λ v. Advanced P b leaves m₀ m from (nodesLeft P v) r (activeBefore P v 0)) same
 
 -- a node's turn, and then all nodes after it
-pub turned : (P : Plan) (v : ℕ) {turn : Progress} {b leaves : ℕ} {m₀ m : Memory} {from : List Event} → NodeAdvanced P v b leaves m₀ m from turn → Turned P v turn m
+pub turned : (P : Plan) (v : ℕ) {turn : Progress} {b leaves : ℕ} {m₀ m : Memory} {from : List Event}
+    → NodeAdvanced P v b leaves m₀ m from turn → Turned P v turn m
 turned P v node = record { lent = node .advanced .lent; atMost = node .advanced .atMost; cleared = node .cleared }
 
 module _ (P : Plan) (v : ℕ) {turn r : Progress} {m m₁ : Memory} where
@@ -176,7 +179,8 @@ module _ (P : Plan) (v : ℕ) {turn r : Progress} {m m₁ : Memory} where
 -- a turn that has stopped
 pub onward-stopped : (P : Plan) (v : ℕ) {turn : Progress} {m : Memory} (a : Cursor) → Turned P v turn m → turn .stop ≡ At a → Onward P v turn m m turn
 onward-stopped P v {turn} {m} a here stopped =
-    let to : (es : List Event) → afterStop P (stateIn m (turn .leaves)) (turn .left) (turn .stop) es ≡ afterStop P (stateIn m (turn .leaves)) (turn .left) (At a) [] =
+    let to : (es : List Event) → afterStop P (stateIn m (turn .leaves)) (turn .left) (turn .stop) es
+    ≡ afterStop P (stateIn m (turn .leaves)) (turn .left) (At a) [] =
     λ es. ap (λ x. afterStop P (stateIn m (turn .leaves)) (turn .left) x es) stopped in
     record {
       same = to (nodesLeft P (suc v)) ∙ sym (to []);
@@ -243,7 +247,8 @@ module _ (g : Grid) (decide : BoundingBox → List Float → Verdict) (value : F
       omega (arith, ready .lent .store, mul-le-mul-right (cube (g .leaf)) few)
 
   -- points of the last leaf, that of child c
-  pub node-points : {box child : BoundingBox} {store : List Float} {turn : Progress} → p ≤ cube (g .leaf) → box ≡ nodeBox g v → child ≡ childBox box (g .inner) c
+  pub node-points : {box child : BoundingBox} {store : List Float} {turn : Progress} → p ≤ cube (g .leaf)
+      → box ≡ nodeBox g v → child ≡ childBox box (g .inner) c
       → turn ≡ leafProgress leaves b v c p (cube (g .leaf))
       → store ≡ filled ((leaves - 1) * cube (g .leaf) + p) (min b (cube (g .leaf) - p))
       (λ q. values.at value (leafPoint child (g .leaf) (q - (leaves - 1) * cube (g .leaf)))) (m .store)

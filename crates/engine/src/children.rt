@@ -19,8 +19,8 @@ use crate::Stop;
 use crate::Task;
 use crate::Visit;
 use geometry::BoundingBox;
-use schedule::Cursor;
 use grid::Verdict;
+use schedule::Cursor;
 
 // Evaluates points of a leaf that has the box b, from point p on while the budget lasts, into the
 // stretch of the store that its ordinal names. Answers the next point.

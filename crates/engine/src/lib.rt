@@ -11,9 +11,9 @@ mod nodes; // nodes.rt: node after node, from a cursor on
 
 pub use jobs::run_job;
 
-// The kinds of a child (rule S1): not active; active; a leaf.
+// The kinds of a child (rule S2) that the engine tells apart or sets: one that is not active, and a leaf.
 pub const EMPTY: u8 = 0;
-pub const ACTIVE: u8 = 1;
+
 pub const LEAF: u8 = 2;
 
 // What the work is about, beside the arrays of its model: the grid, the band, and how many parts the

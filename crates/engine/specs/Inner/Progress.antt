@@ -108,7 +108,8 @@ pub record Turned (P : Plan) (v : ℕ) (turn : Progress) (m : Memory) : Type 0 w
 
 -- after that turn, all nodes after node v
 pub record Onward (P : Plan) (v : ℕ) (turn : Progress) (m m′ : Memory) (r : Progress) : Type 0 where
-  pub same : afterStop P (stateIn m (turn .leaves)) (turn .left) (turn .stop) (nodesLeft P (suc v)) ≡ afterStop P (stateIn m′ (r .leaves)) (r .left) (r .stop) []
+  pub same : afterStop P (stateIn m (turn .leaves)) (turn .left) (turn .stop) (nodesLeft P (suc v))
+      ≡ afterStop P (stateIn m′ (r .leaves)) (r .left) (r .stop) []
   pub lent : Lent P m′
   pub atMost : IfThrough (r .stop) (r .leaves ≤ activeAll P)
 

@@ -1,8 +1,7 @@
 -- `children::leaf_from` meets its contract: the next point tells whether it has come through.
-use Prim.Native.Nat.{ℕ, _+_, _-_, _*_, _≤_, min}
-use mathlib.Core.Path.{_≡_, sym, ap, _∙_}
+use Prim.Native.Nat.{_+_, _-_}
+use mathlib.Core.Path.{_≡_}
 use native.Mathlib.Omega.{arith}
-use lib.Dec.{ltb}
 use Rattle.grid.specs.Blocks.{cube}
 use Rattle.engine.proofs.ChildLaws.{leaf-stopped, leaf-through}
 use borrow.Author.Needs.{needs}
@@ -35,9 +34,11 @@ returns c =
     let s = c .before .before .before .before .before .before .before .before in
     let a = s .args in
     let f = a .leaf in
-    let next = c .before .before .before .before .fill-leaf in
-    (leaf-stopped (f .leaves) (f .left) (f .node) (f .child) (f .point) (cube (a .l)) (next .result) (next .ensures .0)
-    (omega (arith, c .before .cube-of .ensures)), next .ensures .1)
+    let next = c .before .before .before .before .fill-leaf in (
+      leaf-stopped (f .leaves) (f .left) (f .node) (f .child) (f .point) (cube (a .l)) (next .result) (next .ensures .0)
+          (omega (arith, c .before .cube-of .ensures)),
+      next .ensures .1,
+    )
 
 same-length-2 : tie.Need-same-length-2
 same-length-2 c = search needs
@@ -47,9 +48,11 @@ returns-2 c =
     let s = c .before .before .before .before .before .before .before .before in
     let a = s .args in
     let f = a .leaf in
-    let next = c .before .before .before .before .fill-leaf in
-    (leaf-through (f .leaves) (f .left) (f .node) (f .child) (f .point) (cube (a .l)) (next .result) (next .ensures .0)
-    (omega (arith, c .before .cube-of .ensures)), next .ensures .1)
+    let next = c .before .before .before .before .fill-leaf in (
+      leaf-through (f .leaves) (f .left) (f .node) (f .child) (f .point) (cube (a .l)) (next .result) (next .ensures .0)
+          (omega (arith, c .before .cube-of .ensures)),
+      next .ensures .1,
+    )
 
 pub leaf-from-spec : {M : Type 1} → statement M
 leaf-from-spec =

@@ -1,6 +1,6 @@
 -- `children::run_children` meets its contract: the children before c have had their turn.
-use Prim.Native.Nat.{ℕ, suc, _+_, _-_, _*_, _≤_, _<_}
-use mathlib.Core.Path.{_≡_, refl, sym, ap, subst, _∙_}
+use Prim.Native.Nat.{_-_, _≤_}
+use mathlib.Core.Path.{_≡_, refl, sym, _∙_}
 use native.Mathlib.Numerals.{add-one}
 use native.Mathlib.Omega.{arith}
 use lib.ListN.{length}
@@ -14,15 +14,14 @@ use Rattle.engine.proofs.children.run_children.Statement.{statement}
 use Rattle.engine.proofs.children.run_children.Tie as tie
 
 abbrev Inv-loop : tie.InvT-loop
-Inv-loop task visit words reals scratch₀ kinds₀ numbers₀ places₀ store₀ corners children bounds place₀ leaves₀ left₀ scratch kinds numbers places store place leaves left =
+Inv-loop task visit words reals _ kinds₀ numbers₀ places₀ store₀ corners children _ _ _ _ _ kinds numbers places store place leaves left =
     (children ≡ cube (task .grid .inner)) × (place ≤ children)
     × (length kinds ≡ length kinds₀) × (length numbers ≡ length numbers₀) × (length places ≡ length places₀) × (length store ≡ length store₀)
     × ChildrenAdvanced (plan task words reals) (visit .node) (visit .place) place (visit .left) (visit .leaves)
     (memoryOf kinds₀ numbers₀ places₀ store₀ corners) (memoryOf kinds numbers places store corners) (progress leaves left Through)
 
 abbrev μ-loop : tie.MeasureT-loop
-μ-loop task visit words reals scratch₀ kinds₀ numbers₀ places₀ store₀ corners children bounds place₀ leaves₀ left₀ scratch kinds numbers places store place leaves left =
-    children - place
+μ-loop _ _ _ _ _ _ _ _ _ _ children _ _ _ _ _ _ _ _ _ place _ _ = children - place
 
 abbrev start : tie.At-loop Inv-loop μ-loop → tie.Start Inv-loop μ-loop
 start l = l .before .before .before .before .before .before .before .before .before .before

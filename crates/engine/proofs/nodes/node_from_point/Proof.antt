@@ -1,6 +1,6 @@
 -- `nodes::node_from_point` meets its contract: the leaf's points stop, or the children after it follow.
-use Prim.Native.Nat.{ℕ, suc, _+_, _-_, _*_, _≤_, _<_}
-use mathlib.Core.Path.{_≡_, refl, sym, ap, subst, _∙_}
+use Prim.Native.Nat.{ℕ, _-_, _≤_}
+use mathlib.Core.Path.{_≡_, sym, subst}
 use native.Mathlib.Numerals.{add-one}
 use native.Mathlib.Omega.{arith}
 use Rattle.grid.proofs.BlockLaws.{cube-le}
@@ -79,7 +79,8 @@ returns c =
     let a = s .args in
     let f = a .leaf in
     let points = node-points (a .task .grid) (decide s) (value s) (f .node) (f .child) (f .point) (f .left) (f .leaves) (memory s) (s .pre .1) (s .pre .0 .1)
-    (s .pre .0 .2) (t .before .before .before .before .node-box .ensures) (t .before .before .before .child-box .ensures) (t .leaf-from .ensures .0) (t .leaf-from .ensures .1) in
+    (s .pre .0 .2) (t .before .before .before .before .node-box .ensures) (t .before .before .before .child-box .ensures)
+    (t .leaf-from .ensures .0) (t .leaf-from .ensures .1) in
     node-stopped _ _ _ _ (c .enum-told .given .0 .0) points (c .enum-told .given .1)
 
 enum-told-2 : tie.Need-enum-told-2
@@ -96,7 +97,8 @@ rest-of-node-requires c κs =
     let a = s .args in
     let f = a .leaf in
     let points = node-points (a .task .grid) (decide s) (value s) (f .node) (f .child) (f .point) (f .left) (f .leaves) (memory s) (s .pre .1) (s .pre .0 .1)
-    (s .pre .0 .2) (t .before .before .before .before .node-box .ensures) (t .before .before .before .child-box .ensures) (t .leaf-from .ensures .0) (t .leaf-from .ensures .1) in
+    (s .pre .0 .2) (t .before .before .before .before .node-box .ensures) (t .before .before .before .child-box .ensures)
+    (t .leaf-from .ensures .0) (t .leaf-from .ensures .1) in
     let most = came-through _ (points .atMost) (c .before .before .before .before .before .before .before .enum-told2 .given .1) in (
       (s .pre .0 .0, t .before .before .before .before .node-box .ensures, omega (arith, s .pre .0 .1), s .pre .0 .4),
       record {
@@ -130,11 +132,13 @@ returns-2 c =
     let a = s .args in
     let f = a .leaf in
     let points = node-points (a .task .grid) (decide s) (value s) (f .node) (f .child) (f .point) (f .left) (f .leaves) (memory s) (s .pre .1) (s .pre .0 .1)
-    (s .pre .0 .2) (t .before .before .before .before .node-box .ensures) (t .before .before .before .child-box .ensures) (t .leaf-from .ensures .0) (t .leaf-from .ensures .1) in
+    (s .pre .0 .2) (t .before .before .before .before .node-box .ensures) (t .before .before .before .child-box .ensures)
+    (t .leaf-from .ensures .0) (t .leaf-from .ensures .1) in
     let P = planWith (a .task .grid) (decide s) (value s) in
+    let through = r .before .before .before .before .before .before .before .before .enum-told2 .given .1 in
     let rest = r .rest-of-node .ensures in
     record {
-      advanced = advanced-then P (then P _ _ _ _ points (sym (add-one (f .child)))) (r .before .before .before .before .before .before .before .before .enum-told2 .given .1) (rest .advanced);
+      advanced = advanced-then P (then P _ _ _ _ points (sym (add-one (f .child)))) through (rest .advanced);
       cleared = rest .cleared;
     }
 

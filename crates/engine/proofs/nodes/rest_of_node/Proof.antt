@@ -32,7 +32,8 @@ same-length-5 c = search needs
 returns : tie.Need-returns
 unfolding planWith
 returns c =
-    node-stopped _ _ _ _ (c .enum-told .given .0 .0) (c .before .before .before .before .before .before .before .before .before .before .run-children .ensures) (c .enum-told .given .1)
+    let t = c .before .before .before .before .before .before .before .before .before .before in
+    node-stopped _ _ _ _ (c .enum-told .given .0 .0) (t .run-children .ensures) (c .enum-told .given .1)
 
 enum-told-2 : tie.Need-enum-told-2
 enum-told-2 c = search needs

@@ -23,8 +23,12 @@ start k = k .before .before .before .before .before .before .before
 abbrev known : tie.After-node-from-corner → tie.After-cursor
 known t = t .before .before .before .before .before .before .before .before .before
 
+-- the node's turn has given the slices back
+abbrev back : tie.After-run-nodes → tie.After-slice-known10
+back r = r .before .before .before .before .before .before .before
+
 abbrev ended : tie.After-run-nodes → tie.After-node-from-corner
-ended r = r .before .before .before .before .before .before .before .before .before .before .before .before .before .before .before .before .before
+ended r = back r .before .before .before .before .before .before .before .before .before .before
 
 -- ---- at a point
 
@@ -34,8 +38,11 @@ start2 k = k .before .before .before .before .before .before .before
 abbrev known2 : tie.After-node-from-point → tie.After-cursor2
 known2 t = t .before .before .before .before .before .before .before .before
 
+abbrev back2 : tie.After-run-nodes2 → tie.After-slice-known20
+back2 r = r .before .before .before .before .before .before .before
+
 abbrev ended2 : tie.After-run-nodes2 → tie.After-node-from-point
-ended2 r = r .before .before .before .before .before .before .before .before .before .before .before .before .before .before .before .before .before
+ended2 r = back2 r .before .before .before .before .before .before .before .before .before .before
 
 -- ---- what is left
 
@@ -54,7 +61,8 @@ node-from-corner-requires c κs =
     let k = c .before .before .before .before .before .before .before .before in
     let s = start k in
     let at = here s (k .cursor .given .1) in
-    ((s .pre .0 .0, c .before .before .before .before .before .before .node-box .ensures, at .1, s .pre .0 .1), record { lent = s .pre .1 .0; node = at .0; atMost = at .2 })
+    let boxed = c .before .before .before .before .before .before .node-box .ensures in
+    ((s .pre .0 .0, boxed, at .1, s .pre .0 .1), record { lent = s .pre .1 .0; node = at .0; atMost = at .2 })
 
 run-nodes-requires : tie.Need-run-nodes-requires
 unfolding planWith
@@ -83,22 +91,38 @@ run-nodes-requires-2 c κs =
 
 returns : tie.Need-returns
 returns c =
-    let s = c .before .before .before .before .before .before .before in at-cursor _ _ _ _ _ _ (c .enum-told .given .1) (at-end _ _ _ _ (s .pre .1 .0) (s .pre .1 .2))
+    let s = c .before .before .before .before .before .before .before in
+    at-cursor _ _ _ _ _ _ (c .enum-told .given .1) (at-end _ _ _ _ (s .pre .1 .0) (s .pre .1 .2))
 
 same-length : tie.Need-same-length
-same-length c = c .before .before .before .before .before .before .before .before .before .kinds2 .given ∙ c .before .before .before .before .before .before .before .before .before .before .before .before .before .before .before .before .before .before .before .before .before .before .before .before .before .before .kinds .given
+same-length c =
+    let h = back (c .before .before .before .before .before .before .before .before .before .before) in
+    c .before .before .before .before .before .before .before .before .before .kinds2 .given
+    ∙ h .before .before .before .before .before .before .before .before .before .kinds .given
 
 same-length-2 : tie.Need-same-length-2
-same-length-2 c = c .before .before .before .before .before .before .before .numbers2 .given ∙ c .before .before .before .before .before .before .before .before .before .before .before .before .before .before .before .before .before .before .before .before .before .before .before .before .numbers .given
+same-length-2 c =
+    let h = back (c .before .before .before .before .before .before .before .before .before .before) in
+    c .before .before .before .before .before .before .before .numbers2 .given
+    ∙ h .before .before .before .before .before .before .before .numbers .given
 
 same-length-3 : tie.Need-same-length-3
-same-length-3 c = c .before .before .before .before .before .places2 .given ∙ c .before .before .before .before .before .before .before .before .before .before .before .before .before .before .before .before .before .before .before .before .before .before .places .given
+same-length-3 c =
+    let h = back (c .before .before .before .before .before .before .before .before .before .before) in
+    c .before .before .before .before .before .places2 .given
+    ∙ h .before .before .before .before .before .places .given
 
 same-length-4 : tie.Need-same-length-4
-same-length-4 c = c .before .before .before .store2 .given ∙ c .before .before .before .before .before .before .before .before .before .before .before .before .before .before .before .before .before .before .before .before .store .given
+same-length-4 c =
+    let h = back (c .before .before .before .before .before .before .before .before .before .before) in
+    c .before .before .before .store2 .given
+    ∙ h .before .before .before .store .given
 
 same-length-5 : tie.Need-same-length-5
-same-length-5 c = c .before .corners2 .given ∙ c .before .before .before .before .before .before .before .before .before .before .before .before .before .before .before .before .before .before .corners .given
+same-length-5 c =
+    let h = back (c .before .before .before .before .before .before .before .before .before .before) in
+    c .before .corners2 .given
+    ∙ h .before .corners .given
 
 returns-2 : tie.Need-returns-2
 returns-2 c =
@@ -107,19 +131,34 @@ returns-2 c =
     at-cursor _ _ _ _ _ _ (known t .cursor .given .1) (node-onward _ _ (t .node-from-corner .ensures) (r .run-nodes .ensures))
 
 same-length-6 : tie.Need-same-length-6
-same-length-6 c = c .before .before .before .before .before .before .before .before .before .kinds4 .given ∙ c .before .before .before .before .before .before .before .before .before .before .before .before .before .before .before .before .before .before .before .before .before .before .before .before .before .before .kinds3 .given
+same-length-6 c =
+    let h = back2 (c .before .before .before .before .before .before .before .before .before .before) in
+    c .before .before .before .before .before .before .before .before .before .kinds4 .given
+    ∙ h .before .before .before .before .before .before .before .before .before .kinds3 .given
 
 same-length-7 : tie.Need-same-length-7
-same-length-7 c = c .before .before .before .before .before .before .before .numbers4 .given ∙ c .before .before .before .before .before .before .before .before .before .before .before .before .before .before .before .before .before .before .before .before .before .before .before .before .numbers3 .given
+same-length-7 c =
+    let h = back2 (c .before .before .before .before .before .before .before .before .before .before) in
+    c .before .before .before .before .before .before .before .numbers4 .given
+    ∙ h .before .before .before .before .before .before .before .numbers3 .given
 
 same-length-8 : tie.Need-same-length-8
-same-length-8 c = c .before .before .before .before .before .places4 .given ∙ c .before .before .before .before .before .before .before .before .before .before .before .before .before .before .before .before .before .before .before .before .before .before .places3 .given
+same-length-8 c =
+    let h = back2 (c .before .before .before .before .before .before .before .before .before .before) in
+    c .before .before .before .before .before .places4 .given
+    ∙ h .before .before .before .before .before .places3 .given
 
 same-length-9 : tie.Need-same-length-9
-same-length-9 c = c .before .before .before .store4 .given ∙ c .before .before .before .before .before .before .before .before .before .before .before .before .before .before .before .before .before .before .before .before .store3 .given
+same-length-9 c =
+    let h = back2 (c .before .before .before .before .before .before .before .before .before .before) in
+    c .before .before .before .store4 .given
+    ∙ h .before .before .before .store3 .given
 
 same-length-10 : tie.Need-same-length-10
-same-length-10 c = c .before .corners4 .given ∙ c .before .before .before .before .before .before .before .before .before .before .before .before .before .before .before .before .before .before .corners3 .given
+same-length-10 c =
+    let h = back2 (c .before .before .before .before .before .before .before .before .before .before) in
+    c .before .corners4 .given
+    ∙ h .before .corners3 .given
 
 returns-3 : tie.Need-returns-3
 returns-3 c =

@@ -1,5 +1,5 @@
 -- `nodes::run_nodes` meets its contract: the nodes before v are done, and the corners are clear.
-use Prim.Native.Nat.{ℕ, suc, _+_, _-_, _*_, _≤_, _<_}
+use Prim.Native.Nat.{_-_, _≤_, _<_}
 use mathlib.Core.Path.{_≡_, refl, sym, subst, _∙_}
 use native.Mathlib.Numerals.{add-one}
 use native.Mathlib.Omega.{arith}
@@ -18,7 +18,7 @@ use Rattle.engine.proofs.nodes.run_nodes.Statement.{statement}
 use Rattle.engine.proofs.nodes.run_nodes.Tie as tie
 
 abbrev Inv-loop : tie.InvT-loop
-Inv-loop task words reals scratch₀ kinds₀ numbers₀ places₀ store₀ corners₀ g nodes node₀ leaves₀ left₀ scratch kinds numbers places store corners node leaves left =
+Inv-loop task words reals _ kinds₀ numbers₀ places₀ store₀ corners₀ _ nodes node₀ leaves₀ left₀ _ kinds numbers places store corners node leaves left =
     let P = plan task words reals in
     (nodes ≡ nodesOf (task .grid)) × (node ≤ nodes)
     × (length kinds ≡ length kinds₀) × (length numbers ≡ length numbers₀) × (length places ≡ length places₀) × (length store ≡ length store₀)
@@ -28,8 +28,7 @@ Inv-loop task words reals scratch₀ kinds₀ numbers₀ places₀ store₀ corn
     × ZeroCorners (memoryOf kinds numbers places store corners)
 
 abbrev μ-loop : tie.MeasureT-loop
-μ-loop task words reals scratch₀ kinds₀ numbers₀ places₀ store₀ corners₀ g nodes node₀ leaves₀ left₀ scratch kinds numbers places store corners node leaves left =
-    nodes - node
+μ-loop _ _ _ _ _ _ _ _ _ _ nodes _ _ _ _ _ _ _ _ _ node _ _ = nodes - node
 
 -- ---- where a node's turn begins, and where it has ended
 
@@ -94,26 +93,40 @@ node-from-corner-requires c κs =
     let s = start l in
     let done = l .loop .inv .7 in (
       (s .pre .0 .0, c .before .before .before .before .before .before .node-box .ensures, omega arith, s .pre .0 .2),
-      record { lent = done .lent; node = omega (arith, l .loop .inv .0, c .before .before .before .before .before .before .before .loop-test .taken); atMost = done .atMost },
+      record {
+        lent = done .lent;
+        node = omega (arith, l .loop .inv .0, c .before .before .before .before .before .before .before .loop-test .taken);
+        atMost = done .atMost;
+      },
     )
 
 enum-told-3 : tie.Need-enum-told-3 Inv-loop μ-loop
 enum-told-3 c = search needs
 
 same-length : tie.Need-same-length Inv-loop μ-loop
-same-length c = c .before .before .before .before .before .before .before .before .before .before .before .kinds .given ∙ looped (c .before .before .before .before .before .before .before .before .before .before .before .before) .loop .inv .2
+same-length c =
+    let l = looped (c .before .before .before .before .before .before .before .before .before .before .before .before) .loop in
+    c .before .before .before .before .before .before .before .before .before .before .before .kinds .given ∙ l .inv .2
 
 same-length-2 : tie.Need-same-length-2 Inv-loop μ-loop
-same-length-2 c = c .before .before .before .before .before .before .before .before .before .numbers .given ∙ looped (c .before .before .before .before .before .before .before .before .before .before .before .before) .loop .inv .3
+same-length-2 c =
+    let l = looped (c .before .before .before .before .before .before .before .before .before .before .before .before) .loop in
+    c .before .before .before .before .before .before .before .before .before .numbers .given ∙ l .inv .3
 
 same-length-3 : tie.Need-same-length-3 Inv-loop μ-loop
-same-length-3 c = c .before .before .before .before .before .before .before .places .given ∙ looped (c .before .before .before .before .before .before .before .before .before .before .before .before) .loop .inv .4
+same-length-3 c =
+    let l = looped (c .before .before .before .before .before .before .before .before .before .before .before .before) .loop in
+    c .before .before .before .before .before .before .before .places .given ∙ l .inv .4
 
 same-length-4 : tie.Need-same-length-4 Inv-loop μ-loop
-same-length-4 c = c .before .before .before .before .before .store .given ∙ looped (c .before .before .before .before .before .before .before .before .before .before .before .before) .loop .inv .5
+same-length-4 c =
+    let l = looped (c .before .before .before .before .before .before .before .before .before .before .before .before) .loop in
+    c .before .before .before .before .before .store .given ∙ l .inv .5
 
 same-length-5 : tie.Need-same-length-5 Inv-loop μ-loop
-same-length-5 c = c .before .before .before .corners .given ∙ looped (c .before .before .before .before .before .before .before .before .before .before .before .before) .loop .inv .6
+same-length-5 c =
+    let l = looped (c .before .before .before .before .before .before .before .before .before .before .before .before) .loop in
+    c .before .before .before .corners .given ∙ l .inv .6
 
 returns-2 : tie.Need-returns-2 Inv-loop μ-loop
 unfolding planWith
@@ -131,7 +144,7 @@ add-node-2 : tie.Need-add-node-2 Inv-loop μ-loop
 add-node-2 c = let t = c .before .before .before .before .before .before .before .before .before .before .before .before in omega (arith, below t, few (start (looped t)))
 
 loop-less : tie.Need-loop-less Inv-loop μ-loop
-loop-less c = omega (arith, below (c .before .before .before .before .before .before .before .before .before .before .before .before), looped (c .before .before .before .before .before .before .before .before .before .before .before .before) .loop .inv .0)
+loop-less c = let t = c .before .before .before .before .before .before .before .before .before .before .before .before in omega (arith, below t, looped t .loop .inv .0)
 
 loop-again : tie.Need-loop-again Inv-loop μ-loop
 unfolding planWith
