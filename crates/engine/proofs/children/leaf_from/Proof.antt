@@ -1,6 +1,6 @@
 -- `children::leaf_from` meets its contract: the next point tells whether it has come through.
-use Prim.Native.Nat.{_+_, _-_}
-use mathlib.Core.Path.{_≡_}
+use Prim.Native.Nat.{_+_, _-_, _*_}
+use mathlib.Core.Path.{_≡_, ap}
 use native.Mathlib.Omega.{arith}
 use Rattle.grid.specs.Blocks.{cube}
 use Rattle.engine.proofs.ChildLaws.{leaf-stopped, leaf-through}
@@ -15,7 +15,7 @@ fill-leaf-requires : tie.Need-fill-leaf-requires
 fill-leaf-requires c κs =
     let s = c .before .before .before in
     let one : s .args .leaf .leaves - 1 + 1 ≡ s .args .leaf .leaves = omega (arith, s .pre .3) in
-    (s .pre .0, s .pre .1, s .pre .2, rw one (s .pre .4), s .pre .5)
+    (s .pre .0, s .pre .1, s .pre .2, omega (arith, ap (λ n. n * cube (s .args .l)) one, s .pre .4), s .pre .5)
 
 sub-left : tie.Need-sub-left
 sub-left c = search needs

@@ -141,10 +141,14 @@ enum-told-4 : tie.Need-enum-told-4 Inv-loop μ-loop
 enum-told-4 c = search needs
 
 add-node-2 : tie.Need-add-node-2 Inv-loop μ-loop
-add-node-2 c = let t = c .before .before .before .before .before .before .before .before .before .before .before .before in omega (arith, below t, few (start (looped t)))
+add-node-2 c =
+    let t = c .before .before .before .before .before .before .before .before .before .before .before .before in
+    omega (arith, below t, few (start (looped t)))
 
 loop-less : tie.Need-loop-less Inv-loop μ-loop
-loop-less c = let t = c .before .before .before .before .before .before .before .before .before .before .before .before in omega (arith, below t, looped t .loop .inv .0)
+loop-less c =
+    let t = c .before .before .before .before .before .before .before .before .before .before .before .before in
+    omega (arith, below t, looped t .loop .inv .0)
 
 loop-again : tie.Need-loop-again Inv-loop μ-loop
 unfolding planWith
