@@ -3,7 +3,7 @@ use Prim.Native.Nat.{ℕ, zero, suc, _+_, _*_, _-_, _≤_, _<_, min}
 use mathlib.Core.Path.{_≡_, refl, sym, ap, ap₂, subst, _∙_}
 use mathlib.Core.Bool.{true, false, cond}
 use mathlib.Core.List.{List}
-use native.Mathlib.Nat.{mul-le-mul-right, pos-of-ne-zero}
+use native.Mathlib.Nat.{mul-le-mul-right}
 use native.Mathlib.Numerals.{add-one}
 use native.Mathlib.Omega.{arith}
 use lib.ListN.{set, getD, length}
@@ -21,8 +21,6 @@ use Rattle.grid.specs.Leaves.{leafPoint}
 use Rattle.grid.specs.Inner.Octets.{octetValues}
 use Rattle.grid.specs.declared.Verdict.{Verdict}
 use Rattle.grid.specs.declared.Verdict.the-variants.{Constant, Leaf}
-use Rattle.grid.specs.Pruning.{verdictOf}
-use Rattle.grid.proofs.Verdicts.{verdict-kind}
 use Rattle.schedule.specs.Plan.{Plan}
 use Rattle.schedule.specs.Memory.{Memory}
 use Rattle.lists.specs.Flags.{nonzero}
@@ -33,10 +31,9 @@ use Rattle.engine.specs.declared.Progress.{Progress}
 use Rattle.schedule.specs.declared.Cursor.the-variants.{Point}
 use Rattle.engine.specs.declared.Stop.the-variants.{Through, At}
 use Rattle.schedule.specs.Lent.{memoryOf}
-use Rattle.rows.specs.Inner.FlatValue.{flatValue}
-use Rattle.plans.specs.Plan.{decideBy, boxOf, planWith}
+use Rattle.plans.specs.Plan.{boxOf, planWith, decideBy}
 use Rattle.geometry.specs.Values.{at}
-use Rattle.engine.specs.Inner.Progress.{plan, Sized, Ready, readingIn, ChildrenAdvanced, leafProgress}
+use Rattle.engine.specs.Inner.Progress.{Sized, Ready, readingIn, ChildrenAdvanced, leafProgress}
 use Rattle.engine.proofs.Turns.{progress, turn-active, turn-skip, turn-constant, turn-leaf, filledStore}
 
 -- ---- how far a leaf's points have come
@@ -71,33 +68,39 @@ pub place-few : (g : Grid) (v c : ℕ) → Sized g → v < nodesOf g → c < cub
 place-few g v c sized hv hc = omega (arith, mul-le-mul-right (cube (g .inner)) hv, sized .children)
 
 -- there are few active children
-pub active-few : (g : Grid) (band : Band) (value : Float → Float → Float → Float) → Sized g → activeAll (planWith g (decideBy band) value) ≤ 16777216
+pub active-most : (g : Grid) (decide : BoundingBox → List Float → Verdict) (value : Float → Float → Float → Float) → Sized g
+    → activeAll (planWith g decide value) ≤ 16777216
 unfolding planWith countAll
-active-few g band value sized =
-    let P : Plan = planWith g (decideBy band) value in
+active-most g decide value sized =
+    let P : Plan = planWith g decide value in
     omega (
       arith,
       sized .children,
       sumFrom-most (λ v. countOf (P .active) v (P .children)) (P .children) (λ v. sumBits-most (P .active v) (P .children)) (P .nodes) 0,
     )
 
+-- the same of a band's decision, for the crate above
+pub active-few : (g : Grid) (band : Band) (value : Float → Float → Float → Float) → Sized g → activeAll (planWith g (decideBy band) value) ≤ 16777216
+active-few g band = active-most g (decideBy band)
+
 -- so are the leaves before a child
-pub leaves-few : (g : Grid) (band : Band) (words : List ℕ) (reals : List Float) (parts v c leaves : ℕ) (m : Memory) → Sized g → c < cube (g .inner)
-    → Ready (plan g band words reals parts) v c leaves m → leaves ≤ 16777216
+pub leaves-few : (g : Grid) (decide : BoundingBox → List Float → Verdict) (value : Float → Float → Float → Float) (v c leaves : ℕ) (m : Memory)
+    → Sized g → c < cube (g .inner) → Ready (planWith g decide value) v c leaves m → leaves ≤ 16777216
 unfolding planWith
-leaves-few g band words reals parts v c leaves m sized below ready =
-    let P : Plan = plan g band words reals parts in
-    omega (arith, ready .atMost, active-few g band (flatValue words reals parts) sized, before-most P (P .active) v c (ready .node) (omega arith))
+leaves-few g decide value v c leaves m sized below ready =
+    let P : Plan = planWith g decide value in
+    omega (arith, ready .atMost, active-most g decide value sized, before-most P (P .active) v c (ready .node) (omega arith))
 
 -- a number that is not 0
 nonzero-above : (k : ℕ) → (k ≡ 0 → ⊥) → nonzero k ≡ true
 nonzero-above zero above = absurd (above refl)
 nonzero-above (suc k) above = refl
 
-module _ (g : Grid) (band : Band) (words : List ℕ) (reals : List Float) (parts v c b leaves : ℕ) (m : Memory) (box : BoundingBox) (boxed : box ≡ nodeBox g v)
-    (below : c < cube (g .inner)) (ready : Ready (plan g band words reals parts) v c leaves m) (r : ℕ) (cubed : r ≡ cube (g .inner)) where
+module _ (g : Grid) (decide : BoundingBox → List Float → Verdict) (value : Float → Float → Float → Float) (v c b leaves : ℕ) (m : Memory)
+    (box : BoundingBox) (boxed : box ≡ nodeBox g v) (below : c < cube (g .inner)) (ready : Ready (planWith g decide value) v c leaves m)
+    (r : ℕ) (cubed : r ≡ cube (g .inner)) where
   abbrev P : Plan
-  P = plan g band words reals parts
+  P = planWith g decide value
 
   -- the kind that is read
   kind-read : getD (m .kinds) (v * r + c) 0 ≡ getD (m .kinds) (v * cube (g .inner) + c) 0
@@ -110,7 +113,7 @@ module _ (g : Grid) (band : Band) (words : List ℕ) (reals : List Float) (parts
       turn-skip P v c b leaves m ready below (sym (turn-active P v c b leaves m ready below) ∙ ap nonzero (sym kind-read ∙ none))
 
   module _ {octet : List Float} {child : BoundingBox} {verdict : Verdict} (read : octet ≡ octetValues (m .corners) (g .inner) c)
-      (lies : child ≡ childBox box (g .inner) c) (judged : verdict ≡ verdictOf (band .min) (band .max) child octet)
+      (lies : child ≡ childBox box (g .inner) c) (judged : verdict ≡ decide child octet)
       (above : getD (m .kinds) (v * r + c) 0 ≡ 0 → ⊥) where
     -- the child is active
     is-active : P .active v c ≡ true
@@ -124,15 +127,14 @@ module _ (g : Grid) (band : Band) (words : List ℕ) (reals : List Float) (parts
     -- the plan's decision is the verdict
     decided : P .decide v c (readingIn m) ≡ verdict
     unfolding planWith boxOf octetValues
-    decided = sym (judged ∙ ap₂ (verdictOf (band .min) (band .max)) lies-in read)
+    decided = sym (judged ∙ ap₂ decide lies-in read)
 
     -- a child that becomes a constant
-    pub constant-turn : {k : ℕ} {x : Float} → verdict ≡ Constant k x
+    pub constant-turn : {k : ℕ} {x : Float} → verdict ≡ Constant k x → 0 < k
         → ChildrenAdvanced P v c (suc c) b leaves m
         (memoryOf (set (m .kinds) (v * r + c) k) (set (m .numbers) (v * r + c) x) (m .places) (m .store) (m .corners)) (progress leaves b Through)
     unfolding planWith
-    constant-turn {k} {x} is =
-        let kind : 0 < k = pos-of-ne-zero (verdict-kind (band .min) (band .max) child octet (sym judged ∙ is) .0) in
+    constant-turn {k} {x} is kind =
         let turn = turn-constant P v c b leaves m ready below is-active k x kind (decided ∙ is) in
         subst (λ n. ChildrenAdvanced P v c (suc c) b leaves m
         (memoryOf (set (m .kinds) (v * n + c) k) (set (m .numbers) (v * n + c) x) (m .places) (m .store) (m .corners)) (progress leaves b Through)) (sym cubed)
@@ -148,7 +150,7 @@ module _ (g : Grid) (band : Band) (words : List ℕ) (reals : List Float) (parts
     -- a child that becomes a leaf
     pub leaf-turn : {store : List Float} {turn : Progress} → verdict ≡ Leaf → turn ≡ leafProgress (leaves + 1) b v c 0 (cube (g .leaf))
         → store ≡ filled ((leaves + 1 - 1) * cube (g .leaf) + 0) (min b (cube (g .leaf) - 0))
-        (λ q. at (flatValue words reals parts) (leafPoint child (g .leaf) (q - (leaves + 1 - 1) * cube (g .leaf)))) (m .store)
+        (λ q. at value (leafPoint child (g .leaf) (q - (leaves + 1 - 1) * cube (g .leaf)))) (m .store)
         → ChildrenAdvanced P v c (suc c) b leaves m
         (memoryOf (set (m .kinds) (v * r + c) 2) (m .numbers) (set (m .places) (v * r + c) leaves) store (m .corners)) turn
     unfolding planWith boxOf
@@ -157,15 +159,16 @@ module _ (g : Grid) (band : Band) (words : List ℕ) (reals : List Float) (parts
         let stored′ : store ≡ filledStore P v c 0 b (suc leaves) (m .store) =
         stored
         ∙ ap (λ n. filled ((n - 1) * cube (g .leaf) + 0) (min b (cube (g .leaf) - 0))
-        (λ q. at (flatValue words reals parts) (leafPoint child (g .leaf) (q - (n - 1) * cube (g .leaf)))) (m .store)) one
+        (λ q. at value (leafPoint child (g .leaf) (q - (n - 1) * cube (g .leaf)))) (m .store)) one
         ∙ ap (λ x. filled ((suc leaves - 1) * cube (g .leaf) + 0) (min b (cube (g .leaf) - 0))
-        (λ q. at (flatValue words reals parts) (leafPoint x (g .leaf) (q - (suc leaves - 1) * cube (g .leaf)))) (m .store)) lies-in in
+        (λ q. at value (leafPoint x (g .leaf) (q - (suc leaves - 1) * cube (g .leaf)))) (m .store)) lies-in in
         let goes′ : turn ≡ leafProgress (suc leaves) b v c 0 (cube (g .leaf)) = goes ∙ ap (λ n. leafProgress n b v c 0 (cube (g .leaf))) one in
         let whole = turn-leaf P v c b leaves m ready below is-active (decided ∙ is) in
         subst (λ n. ChildrenAdvanced P v c (suc c) b leaves m
         (memoryOf (set (m .kinds) (v * n + c) 2) (m .numbers) (set (m .places) (v * n + c) leaves) store (m .corners)) turn) (sym cubed)
         (subst (λ l. ChildrenAdvanced P v c (suc c) b leaves m
-        (memoryOf (set (m .kinds) (v * cube (g .inner) + c) 2) (m .numbers) (set (m .places) (v * cube (g .inner) + c) leaves) l (m .corners)) turn) (sym stored′)
+        (memoryOf (set (m .kinds) (v * cube (g .inner) + c) 2) (m .numbers) (set (m .places) (v * cube (g .inner) + c) leaves) l (m .corners)) turn)
+        (sym stored′)
         (subst (λ t. ChildrenAdvanced P v c (suc c) b leaves m
         (memoryOf (set (m .kinds) (v * cube (g .inner) + c) 2) (m .numbers) (set (m .places) (v * cube (g .inner) + c) leaves)
         (filledStore P v c 0 b (suc leaves) (m .store)) (m .corners)) t) (sym goes′) whole))

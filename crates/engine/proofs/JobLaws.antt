@@ -1,5 +1,5 @@
 -- A job's plan, from its model laid out in flat arrays.
-use Prim.Native.Nat.{ℕ, min}
+use Prim.Native.Nat.{ℕ}
 use mathlib.Core.Path.{_≡_, sym, ap, subst, fun-ext, _∙_}
 use mathlib.Core.Bool.{false}
 use mathlib.Core.List.{List, [], map}
@@ -19,7 +19,7 @@ use Rattle.input.specs.declared.Input.{Input}
 use Rattle.engine.specs.declared.Progress.{Progress}
 use Rattle.rows.specs.Inner.FlatValue.{flatValue}
 use Rattle.plans.specs.Plan.{planWith, planOf, valueOf, decideBy}
-use Rattle.engine.specs.Inner.Progress.{plan, Advanced, readingIn}
+use Rattle.engine.specs.Inner.Progress.{Advanced, readingIn}
 
 module _ (i : Input) (words : List ℕ) (reals : List Float) (passed : refusedByFour (i .model) ≡ false) (long : length (i .model .parts) ≡ 64)
     (laid : flatOf words reals ≡ layoutOf (map partIn (i .model .parts))) where
@@ -31,7 +31,7 @@ module _ (i : Input) (words : List ℕ) (reals : List Float) (passed : refusedBy
       ∙ ap (λ n. modelValue (partsOf (flatOf words reals) n) n x y z) (min-eq-left (count-le (i .model) passed))
 
   -- so they give the input's plan
-  pub same-plan : planOf i ≡ plan (i .grid) (i .band) words reals (i .model .count)
+  pub same-plan : planOf i ≡ planWith (i .grid) (decideBy (i .band)) (flatValue words reals (i .model .count))
   same-plan = ap (planWith (i .grid) (decideBy (i .band))) (fun-ext (λ x. fun-ext (λ y. fun-ext (λ z. same-value x y z))))
 
 -- what a plan comes to is what the same plan comes to

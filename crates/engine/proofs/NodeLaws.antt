@@ -1,10 +1,10 @@
 -- A node's turn: its corners, evaluated while the budget lasts, and what follows them.
 use Prim.Native.Nat.{ℕ, zero, suc, _+_, _*_, _-_, _≤_, _<_, min}
 use mathlib.Core.Path.{_≡_, refl, sym, ap, ap₂, subst, fun-ext, _∙_}
-use mathlib.Core.Bool.{Bool, true, false, not, cond, _&&_, _||_}
+use mathlib.Core.Bool.{Bool, true, false, cond}
 use mathlib.Core.Logic.{_⊎_, ⊎-elim}
-use mathlib.Core.List.{List, [], map}
-use native.Mathlib.Nat.{mul-le-mul-left, mul-le-mul-right, pos-of-ne-zero}
+use mathlib.Core.List.{List, []}
+use native.Mathlib.Nat.{mul-le-mul-left, mul-le-mul-right}
 use native.Mathlib.Omega.{arith}
 use lib.ListN.{set, getD, length, take, drop, length-set, length-drop}
 use lib.Seq.{length-take-le}
@@ -12,7 +12,7 @@ use lib.Ieee.{Float}
 use Rattle.float.specs.Zero.{plusZero}
 use Rattle.geometry.specs.declared.BoundingBox.{BoundingBox}
 use Rattle.grid.specs.declared.Grid.{Grid}
-use Rattle.input.specs.declared.Band.{Band}
+use Rattle.grid.specs.declared.Verdict.{Verdict}
 use Rattle.grid.specs.Blocks.{cube}
 use Rattle.grid.specs.Nodes.{nodesOf}
 use Rattle.grid.specs.Boxes.{active, nodeBox, childBox}
@@ -37,27 +37,31 @@ use Rattle.engine.specs.declared.Stop.the-variants.{Through, At}
 use Rattle.schedule.specs.Lent.{memoryOf}
 use Rattle.rows.specs.Inner.CornerRun.{CornerRun, neededFrom, evaluatedFrom}
 use Rattle.geometry.specs.Values as values
-use Rattle.plans.specs.Plan.{planWith, boxOf, decideBy}
+use Rattle.plans.specs.Plan.{planWith, boxOf}
 use Rattle.engine.specs.Inner.Runs.{runOf}
-use Rattle.rows.specs.Inner.FlatValue.{flatValue}
-use Rattle.engine.specs.Inner.Progress.{plan, Sized, Lent, afterStop, IfThrough, stateIn, Advanced, Ready, readingIn, ZeroCorners, NodeAdvanced, Turned, Onward, leafProgress}
+use Rattle.engine.specs.Inner.Progress.{Sized, Lent, afterStop, IfThrough, stateIn, Advanced, Ready, readingIn, leafProgress}
+use Rattle.engine.specs.Inner.Progress.{ZeroCorners, NodeAdvanced, Turned, Onward}
 use Rattle.plans.proofs.NodeKinds.{part-needed}
-use Rattle.plans.proofs.Plans.{plan-laws}
 use Rattle.engine.proofs.RunLaws.{run-corners}
 use Rattle.engine.proofs.Turns.{progress, stopped, advanced-start, advanced-then, filledStore, turn-points}
 
 -- ---- the kinds of one node
 
-module _ (g : Grid) (band : Band) (value : Float → Float → Float → Float) (l : List ℕ) (right : ActiveKinds (planWith g (decideBy band) value) l)
-    (long : nodesOf g * cube (g .inner) ≤ length l) (v : ℕ) (below : v < nodesOf g) {first d : ℕ} (from : first ≡ v * cube (g .inner)) (size : d ≡ cube (g .inner)) where
+module _ (g : Grid) (decide : BoundingBox → List Float → Verdict) (value : Float → Float → Float → Float) (l : List ℕ)
+    (right : ActiveKinds (planWith g decide value) l) (long : nodesOf g * cube (g .inner) ≤ length l) (v : ℕ) (below : v < nodesOf g) {first d : ℕ}
+    (from : first ≡ v * cube (g .inner)) (size : d ≡ cube (g .inner)) where
+  abbrev R : Plan
+  R = planWith g decide value
+
   -- the run over the corners that one node's part needs is the plan's
   pub plan-corners : {box : BoundingBox} {i b next left : ℕ} {before after : List Float} → box ≡ nodeBox g v
       → CornerRun (corners.needed (g .inner) (kinds.nonzero (take d (drop first l)))) (λ i. values.at value (corners.cornerPoint box (g .inner) i))
       (cube (g .inner + 1)) i b next left before after
-      → CornerRun (planWith g (decideBy band) value .needed v) (planWith g (decideBy band) value .cornerValue v) (planWith g (decideBy band) value .corners) i b next left before after
+      → CornerRun (R .needed v) (R .cornerValue v) (R .corners) i b next left before after
   unfolding planWith
   plan-corners {box} {i} {b} {next} {left} {before} {after} boxed run =
-      subst (λ test. CornerRun test (planWith g (decideBy band) value .cornerValue v) (cube (g .inner + 1)) i b next left before after) (fun-ext (part-needed g (decideBy band) value l right long v below from size))
+      subst (λ test. CornerRun test (R .cornerValue v) (cube (g .inner + 1)) i b next left before after)
+      (fun-ext (part-needed g decide value l right long v below from size))
       (subst (λ x. CornerRun (corners.needed (g .inner) (kinds.nonzero (take d (drop first l)))) (λ i. values.at value (corners.cornerPoint x (g .inner) i))
       (cube (g .inner + 1)) i b next left before after) boxed run)
 
@@ -98,7 +102,8 @@ module _ (P : Plan) (v i b leaves next left : ℕ) (m : Memory) (after : List Fl
       run-corners P v r i b (stateIn m leaves) (m .corners) (omega (arith, run .from, run .within)) (lent .corners) (omega (arith, run .spent))
       ∙ ap₂ (λ k n. runOf P k (eventsFrom P (Corner v n) (λ j. getD (evaluatedFrom (P .needed v) (P .cornerValue v) r i (m .corners)) j plusZero))
       (stateIn (memoryOf (m .kinds) (m .numbers) (m .places) (m .store) (evaluatedFrom (P .needed v) (P .cornerValue v) r i (m .corners))) leaves)) rest place
-      ∙ ap (λ l. runOf P left (eventsFrom P (Corner v next) (λ j. getD l j plusZero)) (stateIn (memoryOf (m .kinds) (m .numbers) (m .places) (m .store) l) leaves)) (sym (run .written))
+      ∙ ap (λ l. runOf P left (eventsFrom P (Corner v next) (λ j. getD l j plusZero))
+      (stateIn (memoryOf (m .kinds) (m .numbers) (m .places) (m .store) l) leaves)) (sym (run .written))
 
   -- it stops before a corner
   pub corners-stopped : {to : List Event} {most : ℕ} → next < P .corners
@@ -153,7 +158,8 @@ pub nodes-upto : (P : Plan) (v₁ v₂ b leaves : ℕ) {m₀ m : Memory} {from :
 nodes-upto P v₁ v₂ b leaves {m₀} {m} {from} {r} same = subst (λ v. Advanced P b leaves m₀ m from (nodesLeft P v) r (activeBefore P v 0)) same
 
 -- a node's turn, and then all nodes after it
-pub turned : (P : Plan) (v : ℕ) {turn : Progress} {b leaves : ℕ} {m₀ m : Memory} {from : List Event} → NodeAdvanced P v b leaves m₀ m from turn → Turned P v turn m
+pub turned : (P : Plan) (v : ℕ) {turn : Progress} {b leaves : ℕ} {m₀ m : Memory} {from : List Event}
+    → NodeAdvanced P v b leaves m₀ m from turn → Turned P v turn m
 turned P v node = record { lent = node .advanced .lent; atMost = node .advanced .atMost; cleared = node .cleared }
 
 module _ (P : Plan) (v : ℕ) {turn r : Progress} {m m₁ : Memory} where
@@ -173,7 +179,8 @@ module _ (P : Plan) (v : ℕ) {turn r : Progress} {m m₁ : Memory} where
 -- a turn that has stopped
 pub onward-stopped : (P : Plan) (v : ℕ) {turn : Progress} {m : Memory} (a : Cursor) → Turned P v turn m → turn .stop ≡ At a → Onward P v turn m m turn
 onward-stopped P v {turn} {m} a here stopped =
-    let to : (es : List Event) → afterStop P (stateIn m (turn .leaves)) (turn .left) (turn .stop) es ≡ afterStop P (stateIn m (turn .leaves)) (turn .left) (At a) [] =
+    let to : (es : List Event) → afterStop P (stateIn m (turn .leaves)) (turn .left) (turn .stop) es
+    ≡ afterStop P (stateIn m (turn .leaves)) (turn .left) (At a) [] =
     λ es. ap (λ x. afterStop P (stateIn m (turn .leaves)) (turn .left) x es) stopped in
     record {
       same = to (nodesLeft P (suc v)) ∙ sym (to []);
@@ -199,19 +206,19 @@ part-long l first n fits =
     let size : first + n - first ≡ n = omega arith in
     length-take-le (first + n - first) (drop first l) (omega (arith, length-drop first l)) ∙ size
 
-module _ (g : Grid) (band : Band) (words : List ℕ) (reals : List Float) (parts v i b leaves : ℕ) (m : Memory) (sized : Sized g)
-    (ready : Ready (plan g band words reals parts) v 0 leaves m) (n : ℕ) (cubed : n ≡ cube (g .inner))
+module _ (g : Grid) (decide : BoundingBox → List Float → Verdict) (value : Float → Float → Float → Float) (v i b leaves : ℕ) (m : Memory)
+    (ready : Ready (planWith g decide value) v 0 leaves m) (n : ℕ) (cubed : n ≡ cube (g .inner))
     {box : BoundingBox} {next left : ℕ} {after : List Float} (boxed : box ≡ nodeBox g v)
     (run : CornerRun (corners.needed (g .inner) (kinds.nonzero (take (v * n + n - v * n) (drop (v * n) (m .kinds)))))
-    (λ i. values.at (flatValue words reals parts) (corners.cornerPoint box (g .inner) i)) (cube (g .inner + 1)) i b next left (m .corners) after) where
+    (λ i. values.at value (corners.cornerPoint box (g .inner) i)) (cube (g .inner + 1)) i b next left (m .corners) after) where
   abbrev P : Plan
-  P = plan g band words reals parts
+  P = planWith g decide value
 
   planned : CornerRun (P .needed v) (P .cornerValue v) (P .corners) i b next left (m .corners) after
   unfolding planWith
   planned =
       let size : v * n + n - v * n ≡ cube (g .inner) = omega (arith, cubed) in
-      plan-corners g band (flatValue words reals parts) (m .kinds) (ready .lent .activeKinds) (ready .lent .kinds) v (ready .node) (ap (λ k. v * k) cubed) size boxed run
+      plan-corners g decide value (m .kinds) (ready .lent .activeKinds) (ready .lent .kinds) v (ready .node) (ap (λ k. v * k) cubed) size boxed run
 
   -- the code's corners stop before one that is needed
   pub node-at-corner : next < cube (g .inner + 1)
@@ -221,17 +228,16 @@ module _ (g : Grid) (band : Band) (words : List ℕ) (reals : List Float) (parts
   node-at-corner short = record { advanced = corners-stopped P v i b leaves next left m after (ready .lent) planned short; cleared = tt }
 
   -- or come to the children
-  pub node-past-corners : cube (g .inner + 1) ≤ next
+  pub node-past-corners : PlanLaws P → cube (g .inner + 1) ≤ next
       → Advanced P b leaves m (memoryOf (m .kinds) (m .numbers) (m .places) (m .store) after) (eventsFrom P (Corner v i) (readingIn m))
       (childrenLeft P v 0 (readingIn (memoryOf (m .kinds) (m .numbers) (m .places) (m .store) after))) (progress leaves left Through) (activeBefore P v 0)
   unfolding planWith
-  node-past-corners last =
-      corners-through P v i b leaves next left m after (ready .lent) planned (plan-laws g band (flatValue words reals parts) (sized .innerLeast)) (ready .node) last (ready .atMost)
+  node-past-corners laws last = corners-through P v i b leaves next left m after (ready .lent) planned laws (ready .node) last (ready .atMost)
 
-module _ (g : Grid) (band : Band) (words : List ℕ) (reals : List Float) (parts v c p b leaves : ℕ) (m : Memory)
-    (ready : Ready (plan g band words reals parts) v (suc c) leaves m) (below : c < cube (g .inner)) where
+module _ (g : Grid) (decide : BoundingBox → List Float → Verdict) (value : Float → Float → Float → Float) (v c p b leaves : ℕ) (m : Memory)
+    (ready : Ready (planWith g decide value) v (suc c) leaves m) (below : c < cube (g .inner)) where
   abbrev Q : Plan
-  Q = plan g band words reals parts
+  Q = planWith g decide value
 
   -- the leaves so far are inside the store
   pub leaves-inside : leaves * cube (g .leaf) ≤ length (m .store)
@@ -241,10 +247,11 @@ module _ (g : Grid) (band : Band) (words : List ℕ) (reals : List Float) (parts
       omega (arith, ready .lent .store, mul-le-mul-right (cube (g .leaf)) few)
 
   -- points of the last leaf, that of child c
-  pub node-points : {box child : BoundingBox} {store : List Float} {turn : Progress} → p ≤ cube (g .leaf) → box ≡ nodeBox g v → child ≡ childBox box (g .inner) c
+  pub node-points : {box child : BoundingBox} {store : List Float} {turn : Progress} → p ≤ cube (g .leaf)
+      → box ≡ nodeBox g v → child ≡ childBox box (g .inner) c
       → turn ≡ leafProgress leaves b v c p (cube (g .leaf))
       → store ≡ filled ((leaves - 1) * cube (g .leaf) + p) (min b (cube (g .leaf) - p))
-      (λ q. values.at (flatValue words reals parts) (leafPoint child (g .leaf) (q - (leaves - 1) * cube (g .leaf)))) (m .store)
+      (λ q. values.at value (leafPoint child (g .leaf) (q - (leaves - 1) * cube (g .leaf)))) (m .store)
       → Advanced Q b leaves m (memoryOf (m .kinds) (m .numbers) (m .places) store (m .corners)) (eventsFrom Q (Point v c p) (readingIn m))
       (childrenLeft Q v (suc c) (readingIn m)) turn (activeBefore Q v (suc c))
   unfolding planWith boxOf
@@ -252,7 +259,7 @@ module _ (g : Grid) (band : Band) (words : List ℕ) (reals : List Float) (parts
       let lies′ : child ≡ childBox (nodeBox g v) (g .inner) c = lies ∙ ap (λ x. childBox x (g .inner) c) boxed in
       let stored′ : store ≡ filledStore Q v c p b leaves (m .store) =
       stored ∙ ap (λ x. filled ((leaves - 1) * cube (g .leaf) + p) (min b (cube (g .leaf) - p))
-      (λ q. values.at (flatValue words reals parts) (leafPoint x (g .leaf) (q - (leaves - 1) * cube (g .leaf)))) (m .store)) lies′ in
+      (λ q. values.at value (leafPoint x (g .leaf) (q - (leaves - 1) * cube (g .leaf)))) (m .store)) lies′ in
       subst (λ l. Advanced Q b leaves m (memoryOf (m .kinds) (m .numbers) (m .places) l (m .corners)) (eventsFrom Q (Point v c p) (readingIn m))
       (childrenLeft Q v (suc c) (readingIn m)) turn (activeBefore Q v (suc c))) (sym stored′)
       (subst (λ t. Advanced Q b leaves m (memoryOf (m .kinds) (m .numbers) (m .places) (filledStore Q v c p b leaves (m .store)) (m .corners))

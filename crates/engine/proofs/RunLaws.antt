@@ -1,6 +1,6 @@
 -- What is left of a schedule, made with a budget, by its next event.
-use Prim.Native.Nat.{ℕ, zero, suc, _+_, _*_, _-_, _≤_, _<_}
-use mathlib.Core.Path.{_≡_, refl, sym, ap, ap₂, _∙_}
+use Prim.Native.Nat.{ℕ, zero, suc, _+_, _*_, _-_, _≤_}
+use mathlib.Core.Path.{_≡_, refl, ap, ap₂, _∙_}
 use mathlib.Core.Bool.{Bool, true, false, cond}
 use mathlib.Core.List.{List, [], _∷_}
 use native.Mathlib.Omega.{arith}
@@ -84,7 +84,8 @@ module _ (P : Plan) where
             let place : suc i + r ≡ i + suc r = omega arith in
             let spent : b - 1 - neededFrom (P .needed v) r (suc i) ≡ b - (1 + neededFrom (P .needed v) r (suc i)) = omega arith in
             ap (λ es. runOf P b es (withCorners s l)) (corner-evaluate P v i (omega arith) e (withCorners s l) (omega arith))
-            ∙ ap (λ b. runOf P b (evaluate (corner v i) (P .cornerValue v i) ∷ eventsFrom P (Corner v (suc i)) (reading (withCorners s (set l i (P .cornerValue v i))))) (withCorners s l)) more
+            ∙ ap (λ b. runOf P b (evaluate (corner v i) (P .cornerValue v i)
+            ∷ eventsFrom P (Corner v (suc i)) (reading (withCorners s (set l i (P .cornerValue v i))))) (withCorners s l)) more
             ∙ run-evaluate (b - 1) (corner v i) (P .cornerValue v i) _ (withCorners s l)
             ∙ later (b - 1) (set l i (P .cornerValue v i)) (rw length-set long) (omega arith)
             ∙ ap₂ (λ b i′. cornersRun b i′ s (evaluatedFrom (P .needed v) (P .cornerValue v) r (suc i) (set l i (P .cornerValue v i)))) spent place
@@ -122,7 +123,8 @@ module _ (P : Plan) where
           let which : p + r ≡ stretch s + p + r - stretch s = omega arith in
           run-points r p b s l (omega arith) (omega arith)
           ∙ ap (λ es. runOf P (b - r) es (withStore s before)) (point-evaluate P v c (p + r) (omega arith) read)
-          ∙ ap (λ b. runOf P b (evaluate (point v c (p + r)) (P .pointValue v c (p + r)) ∷ eventsFrom P (Point v c (suc (p + r))) read) (withStore s before)) more
+          ∙ ap (λ b. runOf P b (evaluate (point v c (p + r)) (P .pointValue v c (p + r))
+          ∷ eventsFrom P (Point v c (suc (p + r))) read) (withStore s before)) more
           ∙ run-evaluate (b - suc r) (point v c (p + r)) (P .pointValue v c (p + r)) _ (withStore s before)
           ∙ ap₂ (λ q x. pointsRun (b - suc r) (suc (p + r)) s (set before q x)) place (ap (P .pointValue v c) which)
           ∙ ap (λ p′. pointsRun (b - suc r) p′ s (set before (stretch s + p + r) (f (stretch s + p + r)))) next

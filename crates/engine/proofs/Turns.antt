@@ -1,10 +1,9 @@
 -- What one turn of the engine comes to: a child that is passed over, a constant, a leaf and its points, the end of a node.
-use Prim.Native.Nat.{ℕ, zero, suc, _+_, _*_, _-_, _≤_, _<_, min}
-use mathlib.Core.Path.{_≡_, refl, sym, ap, ap₂, subst, _∙_}
+use Prim.Native.Nat.{ℕ, suc, _+_, _*_, _-_, _≤_, _<_, min}
+use mathlib.Core.Path.{_≡_, refl, sym, ap, subst, _∙_}
 use mathlib.Core.Bool.{Bool, true, false, cond}
-use mathlib.Core.Logic.{_⊎_, ⊎-elim}
-use mathlib.Core.List.{List, [], _∷_}
-use native.Mathlib.Nat.{mul-le-mul-right, add-zero}
+use mathlib.Core.List.{List, _∷_}
+use native.Mathlib.Nat.{mul-le-mul-right}
 use native.Mathlib.Omega.{arith}
 use lib.ListN.{set, getD, length, replicate, length-set, length-replicate}
 use lib.Dec.{ltb}
@@ -238,13 +237,15 @@ module _ (P : Plan) where
       → NodeAdvanced P v b leaves m (memoryOf (m₁ .kinds) (m₁ .numbers) (m₁ .places) (m₁ .store) cleared) (childrenLeft P v c (readingIn m)) r
   unfolding apply
   turn-clear v b leaves c m m₁ r {cleared} children through zeroed =
-      subst (λ l. NodeAdvanced P v b leaves m (memoryOf (m₁ .kinds) (m₁ .numbers) (m₁ .places) (m₁ .store) l) (childrenLeft P v c (readingIn m)) r) (sym zeroed) (record {
+      subst (λ l. NodeAdvanced P v b leaves m (memoryOf (m₁ .kinds) (m₁ .numbers) (m₁ .places) (m₁ .store) l) (childrenLeft P v c (readingIn m)) r)
+      (sym zeroed) (record {
         advanced = record {
           same = children .same
               ∙ ap (λ x. afterStop P (stateIn m₁ (r .leaves)) (r .left) x (childrenLeft P v (P .children) (readingIn m))) through
               ∙ ap (λ es. runOf P (r .left) es (stateIn m₁ (r .leaves))) (child-last P v (P .children) (omega arith) (readingIn m))
               ∙ run-work P (r .left) clearCorners (nodesLeft P (suc v)) (stateIn m₁ (r .leaves))
-              ∙ sym (ap (λ x. afterStop P (stateIn (memoryOf (m₁ .kinds) (m₁ .numbers) (m₁ .places) (m₁ .store) (replicate (length (m₁ .corners)) plusZero)) (r .leaves)) (r .left) x
+              ∙ sym (ap (λ x. afterStop P
+              (stateIn (memoryOf (m₁ .kinds) (m₁ .numbers) (m₁ .places) (m₁ .store) (replicate (length (m₁ .corners)) plusZero)) (r .leaves)) (r .left) x
               (nodesLeft P (suc v))) through);
           lent = record {
             kinds = children .lent .kinds;

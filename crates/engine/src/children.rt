@@ -11,13 +11,16 @@ ghost use Rattle.schedule.specs.Lent.{held, entered, left};
 ghost use Rattle.rows.specs.Inner.FlatValue.{valueIn};
 ghost use Rattle.geometry.specs.Values.{at};
 ghost use Rattle.engine.specs.Inner.Progress.{planIn, planNow, Sized, Ready, ChildrenAdvanced, leafProgress};
+use crate::EMPTY;
+use crate::LEAF;
+use crate::LeafVisit;
 use crate::Progress;
 use crate::Stop;
+use crate::Task;
+use crate::Visit;
 use geometry::BoundingBox;
-use input::Band;
-use schedule::Cursor;
-use grid::Grid;
 use grid::Verdict;
+use schedule::Cursor;
 
 // Evaluates points of a leaf that has the box b, from point p on while the budget lasts, into the
 // stretch of the store that its ordinal names. Answers the next point.
@@ -53,27 +56,26 @@ pub fn fill_leaf(
     )
 }
 
-// Points of the last of so many leaves, from point p on: how far the budget goes.
+// Points of the last of so many leaves, which has the box b, while the budget lasts.
 pub fn leaf_from(
     words: &[u32; 192],
     reals: &[f64; 256],
     parts: usize,
     b: BoundingBox,
     l: u32,
-    v: usize,
-    c: usize,
-    p: usize,
-    leaves: u64,
-    budget: u64,
+    leaf: LeafVisit,
     scratch: &mut [f64; 4096],
     store: &mut [f64],
 ) -> Progress
-    requires { ⌜ (0 < l) × (l ≤ 64) × (p ≤ cube l) × (0 < leaves) × (leaves * cube l ≤ length (now store)) × (parts ≤ 64) ⌝ }
-    ensures answer { λ r. ⌜ r ≡ leafProgress leaves budget v c p (cube l) ⌝ }
+    requires { ⌜ (0 < l) × (l ≤ 64) × (leaf .point ≤ cube l) × (0 < leaf .leaves) × (leaf .leaves * cube l ≤ length (now store)) × (parts ≤ 64) ⌝ }
+    ensures answer { λ r. ⌜ r ≡ leafProgress (leaf .leaves) (leaf .left) (leaf .node) (leaf .child) (leaf .point) (cube l) ⌝ }
     ensures store { λ _. ⌜ now (store .exit)
-        ≡ filled ((leaves - 1) * cube l + p) (min budget (cube l - p))
-        (λ q. at (valueIn words reals parts) (leafPoint b l (q - (leaves - 1) * cube l))) (now (store .entry)) ⌝ }
+        ≡ filled ((leaf .leaves - 1) * cube l + leaf .point) (min (leaf .left) (cube l - leaf .point))
+        (λ q. at (valueIn words reals parts) (leafPoint b l (q - (leaf .leaves - 1) * cube l))) (now (store .entry)) ⌝ }
 {
+    let p = leaf.point;
+    let leaves = leaf.leaves;
+    let budget = leaf.left;
     let ordinal = (leaves as usize) - 1;
     let next = fill_leaf(
         words,
@@ -89,7 +91,7 @@ pub fn leaf_from(
     );
     let left = budget - ((next - p) as u64);
     if next < grid::cube_of(l as usize) {
-        let stop = Stop::At(Cursor::Point(v, c, next));
+        let stop = Stop::At(Cursor::Point(leaf.node, leaf.child, next));
         return Progress { leaves, left, stop };
     }
     Progress {
@@ -99,19 +101,13 @@ pub fn leaf_from(
     }
 }
 
-// Child c of node v, which has the box b. An active child becomes a constant or a leaf, and a leaf's
-// points are evaluated while the budget lasts.
+// The child at a visit's place. An active child becomes a constant or a leaf, and a leaf's points are
+// evaluated while the budget lasts.
 fn child_turn(
-    g: Grid,
-    band: Band,
+    task: Task,
+    visit: Visit,
     words: &[u32; 192],
     reals: &[f64; 256],
-    parts: usize,
-    b: BoundingBox,
-    v: usize,
-    c: usize,
-    leaves: u64,
-    budget: u64,
     scratch: &mut [f64; 4096],
     kinds: &mut [u8],
     numbers: &mut [f64],
@@ -119,21 +115,26 @@ fn child_turn(
     store: &mut [f64],
     corners: &[f64],
 ) -> Progress
-    requires { ⌜ Sized g × (b ≡ nodeBox g v) × (c < cube (g .inner)) × (parts ≤ 64) ⌝ }
-    requires { ⌜ Ready (planNow g band words reals parts) v c leaves (held kinds numbers places store corners) ⌝ }
-    ensures { λ r. ⌜ ChildrenAdvanced (planIn g band words reals parts) v c (suc c) budget leaves (entered kinds numbers places store corners)
-        (left kinds numbers places store corners) r ⌝ }
+    requires { ⌜ Sized (task .grid) × (visit .bounds ≡ nodeBox (task .grid) (visit .node)) × (visit .place < cube (task .grid .inner)) × (task .parts ≤ 64) ⌝ }
+    requires { ⌜ Ready (planNow task words reals) (visit .node) (visit .place) (visit .leaves) (held kinds numbers places store corners) ⌝ }
+    ensures { λ r. ⌜ ChildrenAdvanced (planIn task words reals) (visit .node) (visit .place) (suc (visit .place)) (visit .left) (visit .leaves)
+        (entered kinds numbers places store corners) (left kinds numbers places store corners) r ⌝ }
 {
+    let g = task.grid;
     let n = g.inner;
-    let j = v * grid::cube_of(n as usize) + c;
-    if kinds[j] == 0 {
+    let c = visit.place;
+    let leaves = visit.leaves;
+    let left = visit.left;
+    let j = visit.node * grid::cube_of(n as usize) + c;
+    if kinds[j] == EMPTY {
         return Progress {
             leaves,
-            left: budget,
+            left,
             stop: Stop::Through,
         };
     }
-    let child = grid::child_box(b, n, c);
+    let band = task.band;
+    let child = grid::child_box(visit.bounds, n, c);
     let octet = grid::octet_values(corners, n, c);
     let verdict = grid::decide_child(band.min, band.max, child, octet);
     match verdict {
@@ -142,24 +143,28 @@ fn child_turn(
             numbers[j] = number;
             Progress {
                 leaves,
-                left: budget,
+                left,
                 stop: Stop::Through,
             }
         }
         Verdict::Leaf => {
-            kinds[j] = 2;
+            kinds[j] = LEAF;
             places[j] = leaves as u32;
+            let made = leaves + 1;
+            let leaf = LeafVisit {
+                node: visit.node,
+                child: c,
+                point: 0,
+                leaves: made,
+                left,
+            };
             leaf_from(
                 words,
                 reals,
-                parts,
+                task.parts,
                 child,
                 g.leaf,
-                v,
-                c,
-                0,
-                leaves + 1,
-                budget,
+                leaf,
                 scratch,
                 store,
             )
@@ -167,18 +172,12 @@ fn child_turn(
     }
 }
 
-// The children of node v, which has the box b, from child `first` on.
+// The children of a node, from the one at a visit's place on.
 pub fn run_children(
-    g: Grid,
-    band: Band,
+    task: Task,
+    visit: Visit,
     words: &[u32; 192],
     reals: &[f64; 256],
-    parts: usize,
-    b: BoundingBox,
-    v: usize,
-    first: usize,
-    leaves: u64,
-    budget: u64,
     scratch: &mut [f64; 4096],
     kinds: &mut [u8],
     numbers: &mut [f64],
@@ -186,28 +185,30 @@ pub fn run_children(
     store: &mut [f64],
     corners: &[f64],
 ) -> Progress
-    requires { ⌜ Sized g × (b ≡ nodeBox g v) × (first ≤ cube (g .inner)) × (parts ≤ 64) ⌝ }
-    requires { ⌜ Ready (planNow g band words reals parts) v first leaves (held kinds numbers places store corners) ⌝ }
-    ensures { λ r. ⌜ ChildrenAdvanced (planIn g band words reals parts) v first (cube (g .inner)) budget leaves
-        (entered kinds numbers places store corners)
-        (left kinds numbers places store corners) r ⌝ }
+    requires { ⌜ Sized (task .grid) × (visit .bounds ≡ nodeBox (task .grid) (visit .node)) × (visit .place ≤ cube (task .grid .inner)) × (task .parts ≤ 64) ⌝ }
+    requires { ⌜ Ready (planNow task words reals) (visit .node) (visit .place) (visit .leaves) (held kinds numbers places store corners) ⌝ }
+    ensures { λ r. ⌜ ChildrenAdvanced (planIn task words reals) (visit .node) (visit .place) (cube (task .grid .inner)) (visit .left) (visit .leaves)
+        (entered kinds numbers places store corners) (left kinds numbers places store corners) r ⌝ }
 {
+    let g = task.grid;
     let children = grid::cube_of(g.inner as usize);
-    let mut c = first;
-    let mut made = leaves;
-    let mut left = budget;
-    while c < children {
+    let bounds = visit.bounds;
+    let mut place = visit.place;
+    let mut leaves = visit.leaves;
+    let mut left = visit.left;
+    while place < children {
+        let child = Visit {
+            node: visit.node,
+            bounds,
+            place,
+            leaves,
+            left,
+        };
         let turn = child_turn(
-            g,
-            band,
+            task,
+            child,
             words,
             reals,
-            parts,
-            b,
-            v,
-            c,
-            made,
-            left,
             scratch,
             kinds,
             numbers,
@@ -215,16 +216,16 @@ pub fn run_children(
             store,
             corners,
         );
-        made = turn.leaves;
+        leaves = turn.leaves;
         left = turn.left;
         let stop = turn.stop;
         if let Stop::At(_) = stop {
             return turn;
         }
-        c += 1;
+        place += 1;
     }
     Progress {
-        leaves: made,
+        leaves,
         left,
         stop: Stop::Through,
     }

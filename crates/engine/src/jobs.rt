@@ -11,6 +11,8 @@ ghost use Rattle.plans.specs.Plan.{planOf};
 ghost use Rattle.engine.specs.Inner.Progress.{Sized, Lent, Advanced, readingIn};
 ghost use Rattle.engine.specs.Inner.Startable.{Startable};
 use crate::Progress;
+use crate::Standing;
+use crate::Task;
 use crate::nodes;
 use input::Input;
 use schedule::Cursor;
@@ -40,15 +42,23 @@ pub fn run_job(
     let mut scratch = [0.0; 4096];
     model::lay_out(model, &mut words, &mut reals);
     let parts = model.count as usize;
-    nodes::run_from(
-        input.grid,
-        input.band,
-        &words,
-        &reals,
+    let g = input.grid;
+    let band = input.band;
+    let task = Task {
+        grid: g,
+        band,
         parts,
+    };
+    let standing = Standing {
         cursor,
         leaves,
-        budget,
+        left: budget,
+    };
+    nodes::run_from(
+        task,
+        standing,
+        &words,
+        &reals,
         &mut scratch,
         kinds,
         numbers,

@@ -7,31 +7,27 @@ ghost use Rattle.grid.specs.Blocks.{cube};
 ghost use Rattle.grid.specs.Boxes.{nodeBox};
 ghost use Rattle.grid.specs.Nodes.{nodesOf};
 ghost use Rattle.schedule.specs.declared.Cursor.the-variants.{Corner, Point};
-ghost use Rattle.schedule.specs.Resume.{eventsFrom, childrenLeft, nodesLeft};
-ghost use Rattle.schedule.specs.Totals.{activeBefore, activeAll};
+ghost use Rattle.schedule.specs.Resume.{eventsFrom, childrenLeft};
+ghost use Rattle.schedule.specs.Totals.{activeAll};
 ghost use Rattle.schedule.specs.Lent.{held, entered, left};
 ghost use Rattle.engine.specs.Inner.Startable.{Startable};
-ghost use Rattle.engine.specs.Inner.Progress.{planIn, planNow, Sized, Lent, Ready, Advanced, NodeAdvanced, Turned, Onward, ZeroCorners, readingIn};
+ghost use Rattle.engine.specs.Inner.Progress.{planIn, planNow, Sized, Lent, Ready, Advanced, NodeAdvanced, Turned, Onward, readingIn};
+use crate::Done;
+use crate::LeafVisit;
 use crate::Progress;
+use crate::Standing;
 use crate::Stop;
+use crate::Task;
+use crate::Visit;
 use crate::children;
-use geometry::BoundingBox;
-use input::Band;
 use schedule::Cursor;
-use grid::Grid;
 
-// The rest of node v, which has the box b, from child `first` on. Its corners are cleared at its end.
+// The rest of a node, from the child at a visit's place on. Its corners are cleared at its end.
 fn rest_of_node(
-    g: Grid,
-    band: Band,
+    task: Task,
+    visit: Visit,
     words: &[u32; 192],
     reals: &[f64; 256],
-    parts: usize,
-    b: BoundingBox,
-    v: usize,
-    first: usize,
-    leaves: u64,
-    budget: u64,
     scratch: &mut [f64; 4096],
     kinds: &mut [u8],
     numbers: &mut [f64],
@@ -39,23 +35,17 @@ fn rest_of_node(
     store: &mut [f64],
     corners: &mut [f64],
 ) -> Progress
-    requires { ⌜ Sized g × (b ≡ nodeBox g v) × (first ≤ cube (g .inner)) × (parts ≤ 64) ⌝ }
-    requires { ⌜ Ready (planNow g band words reals parts) v first leaves (held kinds numbers places store corners) ⌝ }
-    ensures { λ r. ⌜ NodeAdvanced (planIn g band words reals parts) v budget leaves (entered kinds numbers places store corners)
+    requires { ⌜ Sized (task .grid) × (visit .bounds ≡ nodeBox (task .grid) (visit .node)) × (visit .place ≤ cube (task .grid .inner)) × (task .parts ≤ 64) ⌝ }
+    requires { ⌜ Ready (planNow task words reals) (visit .node) (visit .place) (visit .leaves) (held kinds numbers places store corners) ⌝ }
+    ensures { λ r. ⌜ NodeAdvanced (planIn task words reals) (visit .node) (visit .left) (visit .leaves) (entered kinds numbers places store corners)
         (left kinds numbers places store corners)
-        (childrenLeft (planIn g band words reals parts) v first (readingIn (entered kinds numbers places store corners))) r ⌝ }
+        (childrenLeft (planIn task words reals) (visit .node) (visit .place) (readingIn (entered kinds numbers places store corners))) r ⌝ }
 {
     let turn = children::run_children(
-        g,
-        band,
+        task,
+        visit,
         words,
         reals,
-        parts,
-        b,
-        v,
-        first,
-        leaves,
-        budget,
         scratch,
         kinds,
         numbers,
@@ -71,17 +61,12 @@ fn rest_of_node(
     turn
 }
 
-// Node v from corner i on.
+// A node from the corner at a visit's place on.
 fn node_from_corner(
-    g: Grid,
-    band: Band,
+    task: Task,
+    visit: Visit,
     words: &[u32; 192],
     reals: &[f64; 256],
-    parts: usize,
-    v: usize,
-    i: usize,
-    leaves: u64,
-    budget: u64,
     scratch: &mut [f64; 4096],
     kinds: &mut [u8],
     numbers: &mut [f64],
@@ -89,44 +74,49 @@ fn node_from_corner(
     store: &mut [f64],
     corners: &mut [f64],
 ) -> Progress
-    requires { ⌜ Sized g × (i ≤ cube (g .inner + 1)) × (parts ≤ 64) ⌝ }
-    requires { ⌜ Ready (planNow g band words reals parts) v 0 leaves (held kinds numbers places store corners) ⌝ }
-    ensures { λ r. ⌜ NodeAdvanced (planIn g band words reals parts) v budget leaves (entered kinds numbers places store corners)
+    requires { ⌜ Sized (task .grid) × (visit .bounds ≡ nodeBox (task .grid) (visit .node)) × (visit .place ≤ cube (task .grid .inner + 1))
+        × (task .parts ≤ 64) ⌝ }
+    requires { ⌜ Ready (planNow task words reals) (visit .node) 0 (visit .leaves) (held kinds numbers places store corners) ⌝ }
+    ensures { λ r. ⌜ NodeAdvanced (planIn task words reals) (visit .node) (visit .left) (visit .leaves) (entered kinds numbers places store corners)
         (left kinds numbers places store corners)
-        (eventsFrom (planIn g band words reals parts) (Corner v i) (readingIn (entered kinds numbers places store corners))) r ⌝ }
+        (eventsFrom (planIn task words reals) (Corner (visit .node) (visit .place)) (readingIn (entered kinds numbers places store corners))) r ⌝ }
 {
+    let g = task.grid;
     let n = g.inner as usize;
-    let b = grid::node_box(g, v);
+    let node = visit.node;
+    let bounds = visit.bounds;
+    let leaves = visit.leaves;
     let children = grid::cube_of(n);
-    let first = v * children;
+    let first = node * children;
     let end = rows::run_corners(
         words,
         reals,
-        parts,
-        b,
+        task.parts,
+        bounds,
         g.inner,
         &kinds[first..first + children],
-        i,
-        budget,
+        visit.place,
+        visit.left,
         scratch,
         corners,
     );
     let left = end.left;
     if end.next < grid::cube_of(n + 1) {
-        let stop = Stop::At(Cursor::Corner(v, end.next));
+        let stop = Stop::At(Cursor::Corner(node, end.next));
         return Progress { leaves, left, stop };
     }
-    rest_of_node(
-        g,
-        band,
-        words,
-        reals,
-        parts,
-        b,
-        v,
-        0,
+    let rest = Visit {
+        node,
+        bounds,
+        place: 0,
         leaves,
         left,
+    };
+    rest_of_node(
+        task,
+        rest,
+        words,
+        reals,
         scratch,
         kinds,
         numbers,
@@ -136,18 +126,12 @@ fn node_from_corner(
     )
 }
 
-// Node v from point p of its child c on.
+// A node from a point of one of its leaves on.
 fn node_from_point(
-    g: Grid,
-    band: Band,
+    task: Task,
+    leaf: LeafVisit,
     words: &[u32; 192],
     reals: &[f64; 256],
-    parts: usize,
-    v: usize,
-    c: usize,
-    p: usize,
-    leaves: u64,
-    budget: u64,
     scratch: &mut [f64; 4096],
     kinds: &mut [u8],
     numbers: &mut [f64],
@@ -155,25 +139,23 @@ fn node_from_point(
     store: &mut [f64],
     corners: &mut [f64],
 ) -> Progress
-    requires { ⌜ Sized g × (c < cube (g .inner)) × (p ≤ cube (g .leaf)) × (0 < leaves) × (parts ≤ 64) ⌝ }
-    requires { ⌜ Ready (planNow g band words reals parts) v (suc c) leaves (held kinds numbers places store corners) ⌝ }
-    ensures { λ r. ⌜ NodeAdvanced (planIn g band words reals parts) v budget leaves (entered kinds numbers places store corners)
+    requires { ⌜ Sized (task .grid) × (leaf .child < cube (task .grid .inner)) × (leaf .point ≤ cube (task .grid .leaf)) × (0 < leaf .leaves)
+        × (task .parts ≤ 64) ⌝ }
+    requires { ⌜ Ready (planNow task words reals) (leaf .node) (suc (leaf .child)) (leaf .leaves) (held kinds numbers places store corners) ⌝ }
+    ensures { λ r. ⌜ NodeAdvanced (planIn task words reals) (leaf .node) (leaf .left) (leaf .leaves) (entered kinds numbers places store corners)
         (left kinds numbers places store corners)
-        (eventsFrom (planIn g band words reals parts) (Point v c p) (readingIn (entered kinds numbers places store corners))) r ⌝ }
+        (eventsFrom (planIn task words reals) (Point (leaf .node) (leaf .child) (leaf .point)) (readingIn (entered kinds numbers places store corners))) r ⌝ }
 {
-    let b = grid::node_box(g, v);
-    let child = grid::child_box(b, g.inner, c);
+    let g = task.grid;
+    let bounds = grid::node_box(g, leaf.node);
+    let child = grid::child_box(bounds, g.inner, leaf.child);
     let turn = children::leaf_from(
         words,
         reals,
-        parts,
+        task.parts,
         child,
         g.leaf,
-        v,
-        c,
-        p,
-        leaves,
-        budget,
+        leaf,
         scratch,
         store,
     );
@@ -181,17 +163,19 @@ fn node_from_point(
     if let Stop::At(_) = stop {
         return turn;
     }
+    let place = leaf.child + 1;
+    let rest = Visit {
+        node: leaf.node,
+        bounds,
+        place,
+        leaves: turn.leaves,
+        left: turn.left,
+    };
     rest_of_node(
-        g,
-        band,
+        task,
+        rest,
         words,
         reals,
-        parts,
-        b,
-        v,
-        c + 1,
-        turn.leaves,
-        turn.left,
         scratch,
         kinds,
         numbers,
@@ -201,16 +185,13 @@ fn node_from_point(
     )
 }
 
-// The nodes from node `first` on, each from its first corner on.
+// What is left after a node, whose turn has come to its end or stopped: all nodes after it, each from
+// its first corner on.
 fn run_nodes(
-    g: Grid,
-    band: Band,
+    task: Task,
+    done: Done,
     words: &[u32; 192],
     reals: &[f64; 256],
-    parts: usize,
-    first: usize,
-    leaves: u64,
-    budget: u64,
     scratch: &mut [f64; 4096],
     kinds: &mut [u8],
     numbers: &mut [f64],
@@ -218,28 +199,35 @@ fn run_nodes(
     store: &mut [f64],
     corners: &mut [f64],
 ) -> Progress
-    requires { ⌜ Sized g × (first ≤ nodesOf g) × (parts ≤ 64) × (leaves ≤ activeBefore (planNow g band words reals parts) first 0) ⌝ }
-    requires { ⌜ Lent (planNow g band words reals parts) (held kinds numbers places store corners)
-        × ZeroCorners (held kinds numbers places store corners) ⌝ }
-    ensures { λ r. ⌜ Advanced (planIn g band words reals parts) budget leaves (entered kinds numbers places store corners)
-        (left kinds numbers places store corners) (nodesLeft (planIn g band words reals parts) first) [] r
-        (activeAll (planIn g band words reals parts)) ⌝ }
+    requires { ⌜ Sized (task .grid) × (done .node < nodesOf (task .grid)) × (task .parts ≤ 64) ⌝ }
+    requires { ⌜ Turned (planNow task words reals) (done .node) (done .turn) (held kinds numbers places store corners) ⌝ }
+    ensures { λ r. ⌜ Onward (planIn task words reals) (done .node) (done .turn)
+        (entered kinds numbers places store corners) (left kinds numbers places store corners) r ⌝ }
 {
+    let last = done.turn;
+    let ended = last.stop;
+    if let Stop::At(_) = ended {
+        return last;
+    }
+    let g = task.grid;
     let nodes = grid::node_total(g);
-    let mut v = first;
-    let mut made = leaves;
-    let mut left = budget;
-    while v < nodes {
+    let mut node = done.node + 1;
+    let mut leaves = last.leaves;
+    let mut left = last.left;
+    while node < nodes {
+        let bounds = grid::node_box(g, node);
+        let visit = Visit {
+            node,
+            bounds,
+            place: 0,
+            leaves,
+            left,
+        };
         let turn = node_from_corner(
-            g,
-            band,
+            task,
+            visit,
             words,
             reals,
-            parts,
-            v,
-            0,
-            made,
-            left,
             scratch,
             kinds,
             numbers,
@@ -247,74 +235,27 @@ fn run_nodes(
             store,
             corners,
         );
-        made = turn.leaves;
+        leaves = turn.leaves;
         left = turn.left;
         let stop = turn.stop;
         if let Stop::At(_) = stop {
             return turn;
         }
-        v += 1;
+        node += 1;
     }
     Progress {
-        leaves: made,
+        leaves,
         left,
         stop: Stop::Through,
     }
 }
 
-// What is left after node v, whose turn has come to its end or stopped: all nodes after it.
-fn after_node(
-    g: Grid,
-    band: Band,
-    words: &[u32; 192],
-    reals: &[f64; 256],
-    parts: usize,
-    v: usize,
-    turn: Progress,
-    scratch: &mut [f64; 4096],
-    kinds: &mut [u8],
-    numbers: &mut [f64],
-    places: &mut [u32],
-    store: &mut [f64],
-    corners: &mut [f64],
-) -> Progress
-    requires { ⌜ Sized g × (v < nodesOf g) × (parts ≤ 64) ⌝ }
-    requires { ⌜ Turned (planNow g band words reals parts) v turn (held kinds numbers places store corners) ⌝ }
-    ensures { λ r. ⌜ Onward (planIn g band words reals parts) v turn
-        (entered kinds numbers places store corners) (left kinds numbers places store corners) r ⌝ }
-{
-    let stop = turn.stop;
-    if let Stop::At(_) = stop {
-        return turn;
-    }
-    run_nodes(
-        g,
-        band,
-        words,
-        reals,
-        parts,
-        v + 1,
-        turn.leaves,
-        turn.left,
-        scratch,
-        kinds,
-        numbers,
-        places,
-        store,
-        corners,
-    )
-}
-
-// What is left from a cursor on.
+// What is left from where a job stands.
 pub fn run_from(
-    g: Grid,
-    band: Band,
+    task: Task,
+    standing: Standing,
     words: &[u32; 192],
     reals: &[f64; 256],
-    parts: usize,
-    cursor: Cursor,
-    leaves: u64,
-    budget: u64,
     scratch: &mut [f64; 4096],
     kinds: &mut [u8],
     numbers: &mut [f64],
@@ -322,31 +263,37 @@ pub fn run_from(
     store: &mut [f64],
     corners: &mut [f64],
 ) -> Progress
-    requires { ⌜ Sized g × (parts ≤ 64) ⌝ }
-    requires { ⌜ Lent (planNow g band words reals parts) (held kinds numbers places store corners)
-        × Startable (planNow g band words reals parts) cursor leaves × (leaves ≤ activeAll (planNow g band words reals parts)) ⌝ }
-    ensures { λ r. ⌜ Advanced (planIn g band words reals parts) budget leaves (entered kinds numbers places store corners)
+    requires { ⌜ Sized (task .grid) × (task .parts ≤ 64) ⌝ }
+    requires { ⌜ Lent (planNow task words reals) (held kinds numbers places store corners)
+        × Startable (planNow task words reals) (standing .cursor) (standing .leaves) × (standing .leaves ≤ activeAll (planNow task words reals)) ⌝ }
+    ensures { λ r. ⌜ Advanced (planIn task words reals) (standing .left) (standing .leaves) (entered kinds numbers places store corners)
         (left kinds numbers places store corners)
-        (eventsFrom (planIn g band words reals parts) cursor (readingIn (entered kinds numbers places store corners))) [] r
-        (activeAll (planIn g band words reals parts)) ⌝ }
+        (eventsFrom (planIn task words reals) (standing .cursor) (readingIn (entered kinds numbers places store corners))) [] r
+        (activeAll (planIn task words reals)) ⌝ }
 {
+    let cursor = standing.cursor;
+    let leaves = standing.leaves;
+    let left = standing.left;
     match cursor {
         Cursor::End => Progress {
             leaves,
-            left: budget,
+            left,
             stop: Stop::Through,
         },
-        Cursor::Corner(v, i) => {
+        Cursor::Corner(node, place) => {
+            let bounds = grid::node_box(task.grid, node);
+            let visit = Visit {
+                node,
+                bounds,
+                place,
+                leaves,
+                left,
+            };
             let turn = node_from_corner(
-                g,
-                band,
+                task,
+                visit,
                 words,
                 reals,
-                parts,
-                v,
-                i,
-                leaves,
-                budget,
                 scratch,
                 kinds,
                 numbers,
@@ -354,14 +301,12 @@ pub fn run_from(
                 store,
                 corners,
             );
-            after_node(
-                g,
-                band,
+            let done = Done { node, turn };
+            run_nodes(
+                task,
+                done,
                 words,
                 reals,
-                parts,
-                v,
-                turn,
                 scratch,
                 kinds,
                 numbers,
@@ -370,18 +315,19 @@ pub fn run_from(
                 corners,
             )
         }
-        Cursor::Point(v, c, p) => {
+        Cursor::Point(node, child, point) => {
+            let leaf = LeafVisit {
+                node,
+                child,
+                point,
+                leaves,
+                left,
+            };
             let turn = node_from_point(
-                g,
-                band,
+                task,
+                leaf,
                 words,
                 reals,
-                parts,
-                v,
-                c,
-                p,
-                leaves,
-                budget,
                 scratch,
                 kinds,
                 numbers,
@@ -389,14 +335,12 @@ pub fn run_from(
                 store,
                 corners,
             );
-            after_node(
-                g,
-                band,
+            let done = Done { node, turn };
+            run_nodes(
+                task,
+                done,
                 words,
                 reals,
-                parts,
-                v,
-                turn,
                 scratch,
                 kinds,
                 numbers,

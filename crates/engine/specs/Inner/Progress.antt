@@ -8,7 +8,6 @@ use denote.Ref.{now}
 use lib.ListN.{length, getD}
 use lib.Ieee.{Float}
 use Rattle.grid.specs.declared.Grid.{Grid}
-use Rattle.input.specs.declared.Band.{Band}
 use Rattle.grid.specs.Blocks.{cube}
 use Rattle.grid.specs.Nodes.{nodesOf}
 use Rattle.schedule.specs.Schedule.{Event}
@@ -20,6 +19,7 @@ use Rattle.lists.specs.Slices.{Slice, LentSlice}
 use Rattle.schedule.specs.Totals.{activeBefore, activeAll}
 use Rattle.schedule.specs.Opened.{ActiveKinds}
 use Rattle.engine.specs.declared.Progress.{Progress}
+use Rattle.engine.specs.declared.Task.{Task}
 use Rattle.engine.specs.declared.Stop.{Stop}
 use Rattle.engine.specs.declared.Stop.the-variants.{Through, At}
 use Rattle.schedule.specs.declared.Cursor.the-variants.{Point}
@@ -27,16 +27,16 @@ use Rattle.plans.specs.Plan.{planWith, decideBy}
 use Rattle.rows.specs.Inner.FlatValue.{flatValue}
 use Rattle.engine.specs.Inner.Runs.{Run, runOf}
 
--- the plan that the engine's functions work on: a grid, a band, and the flat arrays of a model
-abbrev pub plan : Grid → Band → (words : List ℕ) (reals : List Float) (parts : ℕ) → Plan
-plan g band words reals parts = planWith g (decideBy band) (flatValue words reals parts)
+-- the plan that the engine's functions work on: a task, with the flat arrays of its model
+abbrev pub plan : Task → (words : List ℕ) (reals : List Float) → Plan
+plan task words reals = planWith (task .grid) (decideBy (task .band)) (flatValue words reals (task .parts))
 
 -- the same of arrays that are lent: in what a function requires, and in what it ensures
-abbrev pub planNow : Grid → Band → Slice ℕ → Slice Float → (parts : ℕ) → Plan
-planNow g band words reals parts = plan g band (now words) (now reals) parts
+abbrev pub planNow : Task → Slice ℕ → Slice Float → Plan
+planNow task words reals = plan task (now words) (now reals)
 
-abbrev pub planIn : Grid → Band → LentSlice ℕ → LentSlice Float → (parts : ℕ) → Plan
-planIn g band words reals parts = planNow g band (words .entry) (reals .entry) parts
+abbrev pub planIn : Task → LentSlice ℕ → LentSlice Float → Plan
+planIn task words reals = planNow task (words .entry) (reals .entry)
 
 -- sizes that causes 2 and 5 do not refuse
 pub record Sized (g : Grid) : Type 0 where
@@ -108,7 +108,8 @@ pub record Turned (P : Plan) (v : ℕ) (turn : Progress) (m : Memory) : Type 0 w
 
 -- after that turn, all nodes after node v
 pub record Onward (P : Plan) (v : ℕ) (turn : Progress) (m m′ : Memory) (r : Progress) : Type 0 where
-  pub same : afterStop P (stateIn m (turn .leaves)) (turn .left) (turn .stop) (nodesLeft P (suc v)) ≡ afterStop P (stateIn m′ (r .leaves)) (r .left) (r .stop) []
+  pub same : afterStop P (stateIn m (turn .leaves)) (turn .left) (turn .stop) (nodesLeft P (suc v))
+      ≡ afterStop P (stateIn m′ (r .leaves)) (r .left) (r .stop) []
   pub lent : Lent P m′
   pub atMost : IfThrough (r .stop) (r .leaves ≤ activeAll P)
 

@@ -1,45 +1,59 @@
 -- `children::child_turn` meets its contract: by its kind and the grid's verdict the child is passed over, becomes a constant or a leaf.
 use Prim.Native.Nat.{ℕ, _+_, _*_, _≤_, _<_}
-use mathlib.Core.Path.{_≡_, ap}
+use mathlib.Core.Path.{_≡_, ap, sym, _∙_}
 use native.Mathlib.Omega.{arith}
-use native.Mathlib.Nat.{mul-le-mul-right}
+use native.Mathlib.Nat.{mul-le-mul-right, pos-of-ne-zero}
 use lib.ListN.{length}
 use Rattle.grid.specs.Blocks.{cube}
+use Rattle.grid.proofs.Verdicts.{verdict-kind}
 use Rattle.schedule.specs.Memory.{Memory}
-use Rattle.plans.specs.Plan.{planWith}
+use Rattle.plans.specs.Plan.{planWith, decideBy}
+use lib.Ieee.{Float}
+use mathlib.Core.List.{List}
+use Rattle.geometry.specs.declared.BoundingBox.{BoundingBox}
+use Rattle.grid.specs.declared.Verdict.{Verdict}
+use Rattle.grid.specs.declared.Verdict.the-variants.{Constant}
+use Rattle.rows.specs.Inner.FlatValue.{flatValue}
 use Rattle.schedule.specs.Lent.{memoryOf}
 use Rattle.engine.proofs.ChildLaws.{place-few, leaves-few, skipped, constant-turn, leaf-inside, leaf-turn}
 use borrow.Author.Needs.{needs}
 use Rattle.engine.proofs.children.child_turn.Statement.{statement}
 use Rattle.engine.proofs.children.child_turn.Tie as tie
 
+-- what becomes of a child, and the value at a point
+abbrev decide : tie.Start → BoundingBox → List Float → Verdict
+decide s = decideBy (s .args .task .band)
+
+abbrev value : tie.Start → Float → Float → Float → Float
+value s = flatValue (s .args .words .now) (s .args .reals .now) (s .args .task .parts)
+
 -- the memory at entry
 abbrev memory : tie.Start → Memory
 memory s = memoryOf (s .args .kinds .now) (s .args .numbers .now) (s .args .places .now) (s .args .store .now) (s .args .corners .now)
 
 -- the corners are all there
-long : (s : tie.Start) → cube (s .args .g .inner + 1) ≤ length (s .args .corners .now)
+long : (s : tie.Start) → cube (s .args .task .grid .inner + 1) ≤ length (s .args .corners .now)
 unfolding planWith
 long s = s .pre .1 .lent .corners
 
 -- ---- where the number of a node's children is known
 
 abbrev start : tie.After-cube-of → tie.Start
-start p = p .before .before .before .before .before .before
+start p = p .before .before .before .before .before .before .before
 
 abbrev place : tie.After-cube-of → ℕ
-place p = start p .args .v * p .cube-of .result + start p .args .c
+place p = start p .args .visit .node * p .cube-of .result + start p .args .visit .place
 
 -- the child's place, by the definition
-place-is : (p : tie.After-cube-of) → place p ≡ start p .args .v * cube (start p .args .g .inner) + start p .args .c
-place-is p = ap (λ n. start p .args .v * n + start p .args .c) (p .cube-of .ensures)
+place-is : (p : tie.After-cube-of) → place p ≡ start p .args .visit .node * cube (start p .args .task .grid .inner) + start p .args .visit .place
+place-is p = ap (λ n. start p .args .visit .node * n + start p .args .visit .place) (p .cube-of .ensures)
 
 -- it is a small number
 few : (p : tie.After-cube-of) → place p < 16777216
 unfolding planWith
 few p =
     let s = start p in
-    omega (arith, place-is p, place-few (s .args .g) (s .args .v) (s .args .c) (s .pre .0 .0) (s .pre .1 .node) (s .pre .0 .2))
+    omega (arith, place-is p, place-few (s .args .task .grid) (s .args .visit .node) (s .args .visit .place) (s .pre .0 .0) (s .pre .1 .node) (s .pre .0 .2))
 
 -- and inside the slices
 inside : (p : tie.After-cube-of) →
@@ -48,7 +62,7 @@ unfolding planWith
 inside p =
     let s = start p in
     let lent = s .pre .1 .lent in
-    let slab = mul-le-mul-right (cube (s .args .g .inner)) (s .pre .1 .node) in (
+    let slab = mul-le-mul-right (cube (s .args .task .grid .inner)) (s .pre .1 .node) in (
       omega (arith, place-is p, slab, lent .kinds, s .pre .0 .2),
       omega (arith, place-is p, slab, lent .numbers, s .pre .0 .2),
       omega (arith, place-is p, slab, lent .places, s .pre .0 .2),
@@ -57,14 +71,14 @@ inside p =
 -- ---- where the verdict is known
 
 abbrev counted : tie.After-decide-child → tie.After-cube-of
-counted d = d .before .before .before .before .before
+counted d = d .before .before .before .before .before .before .before
 
 -- the leaves so far are few
-few-leaves : (d : tie.After-decide-child) → start (counted d) .args .leaves ≤ 16777216
+few-leaves : (d : tie.After-decide-child) → start (counted d) .args .visit .leaves ≤ 16777216
 few-leaves d =
     let s = start (counted d) in
     let a = s .args in
-    leaves-few (a .g) (a .band) (a .words .now) (a .reals .now) (a .parts) (a .v) (a .c) (a .leaves) (memory s) (s .pre .0 .0) (s .pre .0 .2) (s .pre .1)
+    leaves-few (a .task .grid) (decide s) (value s) (a .visit .node) (a .visit .place) (a .visit .leaves) (memory s) (s .pre .0 .0) (s .pre .0 .2) (s .pre .1)
 
 -- ---- what is left
 
@@ -75,20 +89,21 @@ cube-of-requires : tie.Need-cube-of-requires
 cube-of-requires c κs = search needs
 
 mul-j : tie.Need-mul-j
-mul-j c = omega (arith, few c)
+mul-j c = omega (arith, few (c .before))
 
 add-j : tie.Need-add-j
-add-j c = omega (arith, few c)
+add-j c = omega (arith, few (c .before))
 
 slice-read-if1 : tie.Need-slice-read-if1
-slice-read-if1 c = omega (arith, inside (c .before))
+slice-read-if1 c = omega (arith, inside (c .before .before))
 
 returns : tie.Need-returns
 returns c =
-    let p = c .before .before in
+    let p = c .before .before .before in
     let s = start p in
     let a = s .args in
-    skipped (a .g) (a .band) (a .words .now) (a .reals .now) (a .parts) (a .v) (a .c) (a .budget) (a .leaves) (memory s) (a .b)
+    skipped (a .task .grid) (decide s) (value s) (a .visit .node) (a .visit .place) (a .visit .left) (a .visit .leaves)
+    (memory s) (a .visit .bounds)
     (s .pre .0 .1) (s .pre .0 .2) (s .pre .1) (p .cube-of .result) (p .cube-of .ensures) (c .if1 .taken)
 
 child-box-requires : tie.Need-child-box-requires
@@ -96,7 +111,7 @@ child-box-requires c κs = search needs
 
 octet-values-requires : tie.Need-octet-values-requires
 octet-values-requires c κs =
-    let s = start (c .before .before .before) in (s .pre .0 .0 .innerLeast, s .pre .0 .0 .innerMost, s .pre .0 .2, long s)
+    let s = start (c .before .before .before .before .before) in (s .pre .0 .0 .innerLeast, s .pre .0 .0 .innerMost, s .pre .0 .2, long s)
 
 decide-child-requires : tie.Need-decide-child-requires
 decide-child-requires c κs = search needs
@@ -128,20 +143,21 @@ mul-places c = omega (arith, few (counted (c .before .before)))
 slice-write-places : tie.Need-slice-write-places
 slice-write-places c = omega (arith, inside (counted (c .before .before)))
 
-add-leaf-from : tie.Need-add-leaf-from
-add-leaf-from c = omega (arith, few-leaves (c .before .before))
+add-made : tie.Need-add-made
+add-made c = omega (arith, few-leaves (c .before .before))
 
 -- a leaf more has its stretch in the store
 stretch : (d : tie.After-decide-child) →
-    (start (counted d) .args .leaves + 1) * cube (start (counted d) .args .g .leaf) ≤ length (start (counted d) .args .store .now)
+    (start (counted d) .args .visit .leaves + 1) * cube (start (counted d) .args .task .grid .leaf) ≤ length (start (counted d) .args .store .now)
 stretch d =
     let p = counted d in
     let s = start p in
     let a = s .args in
-    leaf-inside (a .g) (a .band) (a .words .now) (a .reals .now) (a .parts) (a .v) (a .c) (a .budget) (a .leaves) (memory s) (a .b)
+    leaf-inside (a .task .grid) (decide s) (value s) (a .visit .node) (a .visit .place) (a .visit .left) (a .visit .leaves)
+    (memory s) (a .visit .bounds)
     (s .pre .0 .1) (s .pre .0 .2) (s .pre .1) (p .cube-of .result) (p .cube-of .ensures)
     (d .before .octet-values .ensures) (d .before .before .child-box .ensures) (d .decide-child .ensures)
-    (d .before .before .before .if1 .left)
+    (d .before .before .before .before .if1 .left)
 
 leaf-from-requires : tie.Need-leaf-from-requires
 leaf-from-requires c κs =
@@ -155,16 +171,23 @@ same-length c = search needs
 same-length-2 : tie.Need-same-length-2
 same-length-2 c = search needs
 
+-- a constant's kind is above 0
+kind-above : (d : tie.After-decide-child) {k : ℕ} {x : Float} → d .decide-child .result ≡ Constant k x → 0 < k
+kind-above d is =
+    let a = start (counted d) .args in
+    pos-of-ne-zero (verdict-kind (a .task .band .min) (a .task .band .max) _ _ (sym (d .decide-child .ensures) ∙ is) .0)
+
 returns-2 : tie.Need-returns-2
 returns-2 c =
     let d = c .before .before .before in
     let p = counted d in
     let s = start p in
     let a = s .args in
-    constant-turn (a .g) (a .band) (a .words .now) (a .reals .now) (a .parts) (a .v) (a .c) (a .budget) (a .leaves) (memory s) (a .b)
+    constant-turn (a .task .grid) (decide s) (value s) (a .visit .node) (a .visit .place) (a .visit .left) (a .visit .leaves)
+    (memory s) (a .visit .bounds)
     (s .pre .0 .1) (s .pre .0 .2) (s .pre .1) (p .cube-of .result) (p .cube-of .ensures)
     (d .before .octet-values .ensures) (d .before .before .child-box .ensures) (d .decide-child .ensures)
-    (d .before .before .before .if1 .left) (c .before .verdict .given .1)
+    (d .before .before .before .before .if1 .left) (c .before .verdict .given .1) (kind-above d (c .before .verdict .given .1))
 
 same-length-3 : tie.Need-same-length-3
 same-length-3 c = search needs
@@ -181,10 +204,11 @@ returns-3 c =
     let p = counted d in
     let s = start p in
     let a = s .args in
-    leaf-turn (a .g) (a .band) (a .words .now) (a .reals .now) (a .parts) (a .v) (a .c) (a .budget) (a .leaves) (memory s) (a .b)
+    leaf-turn (a .task .grid) (decide s) (value s) (a .visit .node) (a .visit .place) (a .visit .left) (a .visit .leaves)
+    (memory s) (a .visit .bounds)
     (s .pre .0 .1) (s .pre .0 .2) (s .pre .1) (p .cube-of .result) (p .cube-of .ensures)
     (d .before .octet-values .ensures) (d .before .before .child-box .ensures) (d .decide-child .ensures)
-    (d .before .before .before .if1 .left) (c .before .before .before .before .before .enum-told .given .1)
+    (d .before .before .before .before .if1 .left) (c .before .before .before .before .before .enum-told .given .1)
     (c .before .before .leaf-from .ensures .0) (c .before .before .leaf-from .ensures .1)
 
 pub child-turn-spec : {M : Type 1} → statement M
@@ -209,7 +233,7 @@ child-turn-spec =
     cast-places
     mul-places
     slice-write-places
-    add-leaf-from
+    add-made
     leaf-from-requires
     same-length
     same-length-2

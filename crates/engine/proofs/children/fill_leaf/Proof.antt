@@ -1,9 +1,7 @@
 -- `children::fill_leaf` meets its contract: what is filled in the leaf's stretch is filled in the store.
-use Prim.Native.Nat.{ℕ, _+_, _-_, _*_, _≤_, min}
-use mathlib.Core.Path.{_≡_, sym, ap, _∙_}
-use native.Mathlib.Nat.{mul-add}
+use Prim.Native.Nat.{ℕ, _+_, _-_, _*_, min}
+use mathlib.Core.Path.{_≡_, ap, _∙_}
 use native.Mathlib.Omega.{arith}
-use lib.ListN.{length}
 use lib.Ieee.{Float}
 use Rattle.grid.specs.Blocks.{cube}
 use Rattle.grid.specs.Leaves.{leafPoint}
@@ -59,7 +57,8 @@ returns c =
     let start = ap (λ k. a .ordinal * k) e in
     let f : ℕ → Float = λ q. at (flatValue (a .words .now) (a .reals .now) (a .parts)) (leafPoint (a .b) (a .l) q) in (
       c .before .before .fill-points .ensures .0,
-      stretch-filled (a .ordinal * k) (a .p) (min (a .budget) (cube (a .l) - a .p)) f (a .store .now) (omega (arith, start, s .pre .3)) (omega (arith, start, s .pre)) (c .before .before .fill-points .ensures .1)
+      stretch-filled (a .ordinal * k) (a .p) (min (a .budget) (cube (a .l) - a .p)) f (a .store .now)
+          (omega (arith, start, s .pre .3)) (omega (arith, start, s .pre)) (c .before .before .fill-points .ensures .1)
           ∙ ap (λ k. filled (a .ordinal * k + a .p) (min (a .budget) (cube (a .l) - a .p)) (λ q. f (q - a .ordinal * k)) (a .store .now)) e,
     )
 

@@ -1,8 +1,7 @@
 -- `children::leaf_from` meets its contract: the next point tells whether it has come through.
-use Prim.Native.Nat.{ℕ, _+_, _-_, _*_, _≤_, min}
-use mathlib.Core.Path.{_≡_, sym, ap, _∙_}
+use Prim.Native.Nat.{_+_, _-_, _*_}
+use mathlib.Core.Path.{_≡_, ap}
 use native.Mathlib.Omega.{arith}
-use lib.Dec.{ltb}
 use Rattle.grid.specs.Blocks.{cube}
 use Rattle.engine.proofs.ChildLaws.{leaf-stopped, leaf-through}
 use borrow.Author.Needs.{needs}
@@ -15,8 +14,8 @@ sub-ordinal c = search needs
 fill-leaf-requires : tie.Need-fill-leaf-requires
 fill-leaf-requires c κs =
     let s = c .before .before .before in
-    let one : s .args .leaves - 1 + 1 ≡ s .args .leaves = omega (arith, s .pre .3) in
-    (s .pre .0, s .pre .1, s .pre .2, rw one (s .pre .4), s .pre .5)
+    let one : s .args .leaf .leaves - 1 + 1 ≡ s .args .leaf .leaves = omega (arith, s .pre .3) in
+    (s .pre .0, s .pre .1, s .pre .2, omega (arith, ap (λ n. n * cube (s .args .l)) one, s .pre .4), s .pre .5)
 
 sub-left : tie.Need-sub-left
 sub-left c = search needs
@@ -34,8 +33,12 @@ returns : tie.Need-returns
 returns c =
     let s = c .before .before .before .before .before .before .before .before in
     let a = s .args in
-    let next = c .before .before .before .before .fill-leaf in
-    (leaf-stopped (a .leaves) (a .budget) (a .v) (a .c) (a .p) (cube (a .l)) (next .result) (next .ensures .0) (omega (arith, c .before .cube-of .ensures)), next .ensures .1)
+    let f = a .leaf in
+    let next = c .before .before .before .before .fill-leaf in (
+      leaf-stopped (f .leaves) (f .left) (f .node) (f .child) (f .point) (cube (a .l)) (next .result) (next .ensures .0)
+          (omega (arith, c .before .cube-of .ensures)),
+      next .ensures .1,
+    )
 
 same-length-2 : tie.Need-same-length-2
 same-length-2 c = search needs
@@ -44,8 +47,12 @@ returns-2 : tie.Need-returns-2
 returns-2 c =
     let s = c .before .before .before .before .before .before .before .before in
     let a = s .args in
-    let next = c .before .before .before .before .fill-leaf in
-    (leaf-through (a .leaves) (a .budget) (a .v) (a .c) (a .p) (cube (a .l)) (next .result) (next .ensures .0) (omega (arith, c .before .cube-of .ensures)), next .ensures .1)
+    let f = a .leaf in
+    let next = c .before .before .before .before .fill-leaf in (
+      leaf-through (f .leaves) (f .left) (f .node) (f .child) (f .point) (cube (a .l)) (next .result) (next .ensures .0)
+          (omega (arith, c .before .cube-of .ensures)),
+      next .ensures .1,
+    )
 
 pub leaf-from-spec : {M : Type 1} → statement M
 leaf-from-spec =

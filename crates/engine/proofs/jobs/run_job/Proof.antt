@@ -16,6 +16,13 @@ use Rattle.engine.proofs.jobs.run_job.Tie as tie
 abbrev memory : tie.Start → Memory
 memory s = memoryOf (s .args .kinds .now) (s .args .numbers .now) (s .args .places .now) (s .args .store .now) (s .args .corners .now)
 
+-- ---- where the model is laid out
+
+abbrev start : tie.After-lay-out → tie.Start
+start o = o .before .before .before .before .before .before .before .before .before
+
+-- ---- what is left
+
 lay-out-requires : tie.Need-lay-out-requires
 lay-out-requires c κs = search needs
 
@@ -24,10 +31,13 @@ cast-parts c = search needs
 
 run-from-requires : tie.Need-run-from-requires
 run-from-requires c κs =
-    let s = c .before .before .before .before .before .before .before .before .before .before .before .before .before .before .before .before .before .before in
+    let o = c .before .before .before .before .before .before .before .before .before .before .before in
+    let s = start o in
     let a = s .args in
-    let same = same-plan (a .input) _ _ (s .pre .0 .1) (c .before .before .before .before .before .before .before .before .before .lay-out .ensures .1) (c .before .before .before .before .before .before .before .before .before .lay-out .ensures .0) in
-    ((s .pre .0 .0, count-le (a .input .model) (s .pre .0 .1)), subst (λ P. Lent P (memory s) × Startable P (a .cursor) (a .leaves) × (a .leaves ≤ activeAll P)) same (s .pre .1))
+    let same = same-plan (a .input) _ _ (s .pre .0 .1) (o .lay-out .ensures .1) (o .lay-out .ensures .0) in (
+      (s .pre .0 .0, count-le (a .input .model) (s .pre .0 .1)),
+      subst (λ P. Lent P (memory s) × Startable P (a .cursor) (a .leaves) × (a .leaves ≤ activeAll P)) same (s .pre .1),
+    )
 
 same-length : tie.Need-same-length
 same-length c = search needs
@@ -46,10 +56,12 @@ same-length-5 c = search needs
 
 returns : tie.Need-returns
 returns c =
-    let s = c .before .before .before .before .before .before .before .before .before .before .before .before .before .before .before .before .before .before .before .before .before .before .before .before .before .before .before .before .before in
+    let r = c .before .before .before .before .before .before .before .before .before .before in
+    let o = r .before .before .before .before .before .before .before .before .before .before .before .before in
+    let s = start o in
     let a = s .args in
-    let same = same-plan (a .input) _ _ (s .pre .0 .1) (c .before .before .before .before .before .before .before .before .before .before .before .before .before .before .before .before .before .before .before .before .lay-out .ensures .1) (c .before .before .before .before .before .before .before .before .before .before .before .before .before .before .before .before .before .before .before .before .lay-out .ensures .0) in
-    with-plan _ _ _ _ (a .cursor) (memory s) same (c .before .before .before .before .before .before .before .before .before .before .run-from .ensures)
+    let same = same-plan (a .input) _ _ (s .pre .0 .1) (o .lay-out .ensures .1) (o .lay-out .ensures .0) in
+    with-plan _ _ _ _ (a .cursor) (memory s) same (r .run-from .ensures)
 
 pub run-job-spec : {M : Type 1} → statement M
 run-job-spec =

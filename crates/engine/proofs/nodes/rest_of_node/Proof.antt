@@ -5,6 +5,9 @@ use borrow.Author.Needs.{needs}
 use Rattle.engine.proofs.nodes.rest_of_node.Statement.{statement}
 use Rattle.engine.proofs.nodes.rest_of_node.Tie as tie
 
+abbrev start : tie.After-run-children → tie.Start
+start t = t .before .before .before .before .before .before .before .before .before .before .before .before
+
 run-children-requires : tie.Need-run-children-requires
 run-children-requires c κs = search needs
 
@@ -28,7 +31,9 @@ same-length-5 c = search needs
 
 returns : tie.Need-returns
 unfolding planWith
-returns c = node-stopped _ _ _ _ (c .enum-told .given .0 .0) (c .before .before .before .before .before .before .before .before .before .before .run-children .ensures) (c .enum-told .given .1)
+returns c =
+    let t = c .before .before .before .before .before .before .before .before .before .before in
+    node-stopped _ _ _ _ (c .enum-told .given .0 .0) (t .run-children .ensures) (c .enum-told .given .1)
 
 enum-told-2 : tie.Need-enum-told-2
 enum-told-2 c = search needs
@@ -54,9 +59,10 @@ same-length-10 c = search needs
 returns-2 : tie.Need-returns-2
 unfolding planWith
 returns-2 c =
-    let s = c .before .before .before .before .before .before .before .before .before .before .before .before .before .before .before .before .before .before .before .before .before .before .before .before .before .before in
-    let a = s .args in
-    turn-clear _ (a .v) (a .budget) (a .leaves) (a .first) _ _ _ (c .before .before .before .before .before .before .before .before .before .before .before .before .before .before .run-children .ensures) (c .before .before .before .before .enum-told2 .given .1) (c .before .before .zero-floats .ensures)
+    let t = c .before .before .before .before .before .before .before .before .before .before .before .before .before .before in
+    let visit = start t .args .visit in
+    turn-clear _ (visit .node) (visit .left) (visit .leaves) (visit .place) _ _ _ (t .run-children .ensures)
+    (c .before .before .before .before .enum-told2 .given .1) (c .before .before .zero-floats .ensures)
 
 pub rest-of-node-spec : {M : Type 1} → statement M
 rest-of-node-spec =
