@@ -99,7 +99,8 @@ module _ (n : Vec3i) (x-above : 0 < n .i) (y-above : 0 < n .j) where
           → l' ≡ filled t count g l → t ≤ q → getD l' q past ≡ g q
       now-set q below l g long e h = ap (λ (k : List Float). getD k q past) e ∙ getD-filled t count g l q past h below (omega arith)
 
-      one : (q : ℕ) → q < t + count → (b : Bool) → ltb q t ≡ b → vec3 (getD px' q past) (getD py' q past) (getD pz' q past) ≡ placePoint origin cell n (at + q)
+      one : (q : ℕ) → q < t + count → (b : Bool) → ltb q t ≡ b
+          → vec3 (getD px' q past) (getD py' q past) (getD pz' q past) ≡ placePoint origin cell n (at + q)
       one q below true test =
           let h : q < t = ltb-true q t test in
           (λ s. vec3 (earlier q px _ x h s) (earlier q py _ y h s) (earlier q pz _ z h s)) ∙ so-far .point q h
@@ -116,7 +117,8 @@ unfolding modelRow
 results-long l m len px py pz before row long = ap length row ∙ filled-length _ _ _ _ ∙ long
 
 -- the results of a run at its places
-pub run-filled : (l : Flat) (m : ℕ) (origin : Vec3) (cell : Float) (n : Vec3i) (at len : ℕ) (before values : List Float) {px py pz results last : List Float}
+pub run-filled : (l : Flat) (m : ℕ) (origin : Vec3) (cell : Float) (n : Vec3i) (at len : ℕ) (before values : List Float)
+    {px py pz results last : List Float}
     → len ≤ 64 → length before ≡ 64 → RunPoints origin cell n at len px py pz
     → results ≡ modelRow l m (min len 64) px py pz before
     → last ≡ filled at len (λ q. getD results (q - at) past) values
