@@ -47,16 +47,24 @@ module _ (p : ℕ) (v : Vec3) (w : Float) (a b : ℕ) (px py pz : List Float) (n
     two f ha hb is row =
         row ∙ filled-cong values p n _ _ (λ k h. (λ i. f (input a k ha i) (input b k hb i)) ∙ sym (is k))
 
-    pub row-min : code ≡ 3 → a < p → b < p → last ≡ filledRow values p n (λ k. minOf (getD values (laneAt a k) past) (getD values (laneAt b k) past)) → last ≡ rowOf code
+    pub row-min : code ≡ 3 → a < p → b < p
+        → last ≡ filledRow values p n (λ k. minOf (getD values (laneAt a k) past) (getD values (laneAt b k) past))
+        → last ≡ rowOf code
     row-min e ha hb = two minOf ha hb (λ k. of-min p v w a b (x k) (y k) (z k) (lane values k p) e ha hb)
 
-    pub row-max : code ≡ 4 → a < p → b < p → last ≡ filledRow values p n (λ k. maxOf (getD values (laneAt a k) past) (getD values (laneAt b k) past)) → last ≡ rowOf code
+    pub row-max : code ≡ 4 → a < p → b < p
+        → last ≡ filledRow values p n (λ k. maxOf (getD values (laneAt a k) past) (getD values (laneAt b k) past))
+        → last ≡ rowOf code
     row-max e ha hb = two maxOf ha hb (λ k. of-max p v w a b (x k) (y k) (z k) (lane values k p) e ha hb)
 
-    pub row-add : code ≡ 5 → a < p → b < p → last ≡ filledRow values p n (λ k. add binary64 (getD values (laneAt a k) past) (getD values (laneAt b k) past)) → last ≡ rowOf code
+    pub row-add : code ≡ 5 → a < p → b < p
+        → last ≡ filledRow values p n (λ k. add binary64 (getD values (laneAt a k) past) (getD values (laneAt b k) past))
+        → last ≡ rowOf code
     row-add e ha hb = two (add binary64) ha hb (λ k. of-add p v w a b (x k) (y k) (z k) (lane values k p) e ha hb)
 
-    pub row-sub : code ≡ 6 → a < p → b < p → last ≡ filledRow values p n (λ k. sub binary64 (getD values (laneAt a k) past) (getD values (laneAt b k) past)) → last ≡ rowOf code
+    pub row-sub : code ≡ 6 → a < p → b < p
+        → last ≡ filledRow values p n (λ k. sub binary64 (getD values (laneAt a k) past) (getD values (laneAt b k) past))
+        → last ≡ rowOf code
     row-sub e ha hb = two (sub binary64) ha hb (λ k. of-sub p v w a b (x k) (y k) (z k) (lane values k p) e ha hb)
 
     pub row-neg : code ≡ 7 → a < p → last ≡ filledRow values p n (λ k. neg (getD values (laneAt a k) past)) → last ≡ rowOf code

@@ -27,14 +27,7 @@ pub fn plane_value(nx: f64, ny: f64, nz: f64, d: f64, x: f64, y: f64, z: f64) ->
 }
 
 // The value at a point of the part at place p, from its entries and the values of the parts before it.
-pub fn entry_value(
-    entry: Entry,
-    p: usize,
-    x: f64,
-    y: f64,
-    z: f64,
-    values: &[f64],
-) -> f64
+pub fn entry_value(entry: Entry, p: usize, x: f64, y: f64, z: f64, values: &[f64]) -> f64
     requires { ⌜ p ≤ length (now values) ⌝ }
     ensures { λ r. ⌜ r
         ≡ partValue (placed p (partFrom (entry .code) (entry .vector) (entry .number) (entry .first) (entry .second))) x y z (now (values .entry)) ⌝ }
