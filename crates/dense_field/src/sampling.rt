@@ -99,34 +99,8 @@ fn fill_points(
     }
 }
 
-// The values at the `len` places from `at` on, whatever rows they are in. The four rows of 64 are
-// lent, and hold the points and the results of the run.
-fn sample_run(
-    words: &[u32; 192],
-    numbers: &[f64; 256],
-    count: usize,
-    origin: Vec3,
-    cell: f64,
-    n: Vec3i,
-    at: usize,
-    len: usize,
-    scratch: &mut [f64; 4096],
-    px: &mut [f64; 64],
-    py: &mut [f64; 64],
-    pz: &mut [f64; 64],
-    results: &mut [f64; 64],
-    values: &mut [f64],
-)
-    requires { ⌜ Lent n (length (now values)) ⌝ }
-    requires { ⌜ (at + len ≤ length (now values)) × (len ≤ 64) ⌝ }
-    ensures { λ _. ⌜ now (values .exit) ≡ filled at len (flatAt (flatIn words numbers) (min count 64) origin cell n) (now (values .entry)) ⌝ }
-{
-    fill_points(origin, cell, n, at, len, px, py, pz);
-    model::evaluate_row_into(words, numbers, count, px, py, pz, len, scratch, results);
-    slices::copy_floats(results, values, at, len);
-}
-
-// The values at all places, in runs of up to 64.
+// The values at all places, in runs of up to 64, whatever rows their places are in. Four rows of 64
+// hold the points and the results of a run.
 fn sample_places(
     words: &[u32; 192],
     numbers: &[f64; 256],
@@ -134,35 +108,32 @@ fn sample_places(
     origin: Vec3,
     cell: f64,
     n: Vec3i,
-    scratch: &mut [f64; 4096],
-    px: &mut [f64; 64],
-    py: &mut [f64; 64],
-    pz: &mut [f64; 64],
-    results: &mut [f64; 64],
     values: &mut [f64],
 )
     requires { ⌜ Lent n (length (now values)) ⌝ }
     ensures { λ _. ⌜ now (values .exit) ≡ tabulate (pointsOf n) (flatAt (flatIn words numbers) (min count 64) origin cell n) ⌝ }
 {
+    let mut scratch = [0.0; 4096];
+    let mut px = [0.0; 64];
+    let mut py = [0.0; 64];
+    let mut pz = [0.0; 64];
+    let mut results = [0.0; 64];
     let mut at = 0;
     while at < values.len() {
         let len = lesser(values.len() - at, 64);
-        sample_run(
+        fill_points(origin, cell, n, at, len, &mut px, &mut py, &mut pz);
+        model::evaluate_row_into(
             words,
             numbers,
             count,
-            origin,
-            cell,
-            n,
-            at,
+            &px,
+            &py,
+            &pz,
             len,
-            scratch,
-            px,
-            py,
-            pz,
-            results,
-            values,
+            &mut scratch,
+            &mut results,
         );
+        slices::copy_floats(&results, values, at, len);
         at += len;
     }
 }
@@ -204,24 +175,6 @@ pub fn sample(
     let mut numbers = [0.0; 256];
     model::lay_out(model, &mut words, &mut numbers);
     let count = model.count as usize;
-    let mut scratch = [0.0; 4096];
-    let mut px = [0.0; 64];
-    let mut py = [0.0; 64];
-    let mut pz = [0.0; 64];
-    let mut results = [0.0; 64];
-    sample_places(
-        &words,
-        &numbers,
-        count,
-        origin,
-        cell,
-        n,
-        &mut scratch,
-        &mut px,
-        &mut py,
-        &mut pz,
-        &mut results,
-        values,
-    );
+    sample_places(&words, &numbers, count, origin, cell, n, values);
     Outcome::Done
 }

@@ -6,13 +6,14 @@ ghost use lib.ListN.{length, set};
 ghost use Rattle.float.specs.Zero.{plusZero};
 ghost use Rattle.geometry.specs.Values.{vec3};
 ghost use Rattle.model.specs.Part.{partIn};
-ghost use Rattle.model.specs.Flat.{flatOf, layoutOf, codeOf, firstInput, secondInput, vectorOf, numberOf};
+ghost use Rattle.model.specs.Flat.{flatOf, flatIn, layoutOf, codeOf, firstInput, secondInput, vectorOf, numberOf, partFrom, placed, partAt};
 use super::ImplicitModel;
 use super::ModelComponent;
 use super::Part;
+use super::codes;
 use geometry::Vec3;
 
-// A part's entries.
+// A part's entries: its code of codes.rt, its inputs' places, its vector and its number.
 pub struct Entry {
     pub code: u32,
     pub first: u32,
@@ -56,7 +57,7 @@ pub fn entries(part: Part) -> Entry
 {
     match part {
         Part::Constant(value) => shape(
-            0,
+            codes::CONSTANT,
             Vec3 {
                 x: 0.0,
                 y: 0.0,
@@ -64,13 +65,34 @@ pub fn entries(part: Part) -> Entry
             },
             value,
         ),
-        Part::Sphere(centre, radius) => shape(1, centre, radius),
-        Part::Plane(normal, offset) => shape(2, normal, offset),
-        Part::Min(a, b) => operation(3, a, b),
-        Part::Max(a, b) => operation(4, a, b),
-        Part::Add(a, b) => operation(5, a, b),
-        Part::Sub(a, b) => operation(6, a, b),
-        Part::Neg(a) => operation(7, a, 0),
+        Part::Sphere(centre, radius) => shape(codes::SPHERE, centre, radius),
+        Part::Plane(normal, offset) => shape(codes::PLANE, normal, offset),
+        Part::Min(a, b) => operation(codes::MIN, a, b),
+        Part::Max(a, b) => operation(codes::MAX, a, b),
+        Part::Add(a, b) => operation(codes::ADD, a, b),
+        Part::Sub(a, b) => operation(codes::SUB, a, b),
+        Part::Neg(a) => operation(codes::NEG, a, 0),
+    }
+}
+
+// The entries at place p of the flat arrays.
+pub fn entry_at(words: &[u32; 192], numbers: &[f64; 256], p: usize) -> Entry
+    requires { ⌜ p < 64 ⌝ }
+    ensures { λ r. ⌜ placed p (partFrom (r .code) (r .vector) (r .number) (r .first) (r .second)) ≡ partAt (flatIn words numbers) p ⌝ }
+{
+    let code = words[p];
+    let first = words[64 + p];
+    let second = words[128 + p];
+    let x = numbers[p];
+    let y = numbers[64 + p];
+    let z = numbers[128 + p];
+    let number = numbers[192 + p];
+    Entry {
+        code,
+        first,
+        second,
+        vector: Vec3 { x, y, z },
+        number,
     }
 }
 

@@ -2,6 +2,7 @@
 // model_component.rs.
 use geometry::Vec3;
 
+mod codes; // codes.rt: the code of each sort of part
 mod evaluations; // evaluations.rt: the calls that evaluate, at a point and at a row of points
 mod layout; // layout.rt: a part's places in the flat arrays
 mod lanes; // lanes.rt: a part's values at a row of points

@@ -28,7 +28,7 @@ cast-count c = search needs
 
 sample-places-requires : tie.Need-sample-places-requires
 sample-places-requires c κs =
-    let s = c .before .before .before .before .before .before .before .before .before .before .before .before in
+    let s = c .before .before .before .before .before .before .before in
     let none = sym (s .before .sample-cause .ensures) ∙ s .if1 .left in
     lent _ _ (passed _ _ _ _ _ none .right-length)
 
@@ -39,7 +39,7 @@ returns-2 : tie.Need-returns-2
 unfolding sampleOutcome
 returns-2 c =
     let places = c .before .before in
-    let laid = places .before .before .before .before .before .before .before .before .before .before in
+    let laid = places .before .before .before .before .before in
     let s = laid .before .before .before in
     let a = s .before .before .before .args in
     let none = sym (s .before .sample-cause .ensures) ∙ s .if1 .left in
