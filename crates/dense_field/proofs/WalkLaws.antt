@@ -24,7 +24,6 @@ use Rattle.dense_field.specs.declared.PointStep.the-variants as point
 use Rattle.dense_field.specs.declared.CellStep.the-variants as cell
 use Rattle.dense_field.specs.declared.OctetStep.{OctetStep}
 use Rattle.dense_field.specs.declared.OctetStep.the-variants as octet
-use Rattle.dense_field.specs.declared.OctetWalk.{OctetWalk}
 use Rattle.dense_field.specs.Field.{pointsOf, valuesRefused}
 use Rattle.dense_field.specs.Walks.{countRefused, walkRefused, walkPoint, walkCell, pointStep, cellStep, octetStep}
 use Rattle.dense_field.specs.Octets.{octetOf}

@@ -32,7 +32,7 @@ use Rattle.plans.specs.Sparse.{sparse}
 use Rattle.sparse_field.specs.Records.{jobIn, recordIn, byFlag, noRecord, noModel}
 use Rattle.sparse_field.specs.Calls.{Handed, handed, called}
 use Rattle.sparse_field.specs.Inner.Parts.{openedRecord, openedMemory}
-use Rattle.sparse_field.specs.Lists.{Held}
+use Rattle.sparse_field.specs.CallLists.{Held}
 use Rattle.sparse_field.proofs.Opening.{sized, nothing}
 use Rattle.plans.proofs.Lawful.{sparse-laws, long-enough}
 use Rattle.sparse_field.proofs.CallLaws.{refusedBy, acceptedWith, step-none, step-impossible, step-accepted, drop-accepted}
@@ -41,7 +41,7 @@ use Rattle.field_host.specs.Given.{inputGiven}
 use Rattle.field_host.specs.Carried.{Carried, inputIn, fits, flagged, recordGiven, unread, decoded, encoded}
 use Rattle.field_host.specs.Hosted.{answerNumber, leftBy, carriedAfter, hosted}
 use Rattle.field_host.specs.Demand.{NoJob, HostDemandThree, HostDropLeavesZeros, HostEqualBudgets, HostFinishedField, recordAfter}
-use Rattle.field_host.specs.Lists.{HostCall, opensWith, stepsBy, dropsAll, callOf, Station, answerOf, onStation, engineAt}
+use Rattle.field_host.specs.HostLists.{HostCall, opensWith, stepsBy, dropsAll, callOf, Station, answerOf, onStation, engineAt}
 use Rattle.field_host.proofs.RecordBack.{record-back}
 use Rattle.field_host.proofs.Unread.{no-flag}
 

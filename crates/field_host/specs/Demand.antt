@@ -18,7 +18,7 @@ use Rattle.sparse_field.specs.declared.Record.{Record}
 use Rattle.plans.specs.Plan.{planOf}
 use Rattle.plans.specs.Sparse.{sparse}
 use Rattle.field_host.specs.Carried.{decoded}
-use Rattle.field_host.specs.Lists.{HostCall, dropsAll, callOf, Station, onStation, engineAt}
+use Rattle.field_host.specs.HostLists.{HostCall, dropsAll, callOf, Station, onStation, engineAt}
 
 -- arrays without a job: the first word is 0, whatever else they hold
 abbrev pub NoJob : Station → Type 0

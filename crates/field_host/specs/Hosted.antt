@@ -10,7 +10,7 @@ use Rattle.schedule.specs.declared.Answer.{Answer}
 use Rattle.schedule.specs.declared.Answer.the-variants.{Accepted, Refused}
 use Rattle.sparse_field.specs.declared.Outcome.{Outcome}
 use Rattle.sparse_field.specs.Calls.{Handed, called}
-use Rattle.sparse_field.specs.Lists.{Call}
+use Rattle.sparse_field.specs.CallLists.{Call}
 use Rattle.field_host.specs.Carried.{Carried, encoded, fits, decoded}
 
 -- the number of an answer, 0 for an accepted call

@@ -23,10 +23,10 @@ ghost use Rattle.field_host.specs.Carried.{
 };
 use crate::given::input_given;
 use grid::GridCounts;
+use input::Input;
 use input::Lengths;
 use schedule::Counts;
 use schedule::Cursor;
-use input::Input;
 use sparse_field::Record;
 
 // Whether the words are those of some record: a flag of 0 or 1, block sizes and a count of 32 bits, one

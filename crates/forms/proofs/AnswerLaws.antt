@@ -11,7 +11,7 @@ use Rattle.forms.specs.declared.End.{End}
 use Rattle.forms.specs.declared.End.the-variants.{At, Off}
 use Rattle.forms.specs.Fronts as fronts
 use Rattle.forms.specs.Forms as forms
-use Rattle.forms.specs.Inner.Answers.{Finds, ReadsTo}
+use Rattle.forms.specs.Inner.Places.{Finds, ReadsTo}
 
 module _ (text : List ℕ) (f : fronts.Front) (r : Found) (finds : Finds text f r) where
   pub finds-same : (g : fronts.Front) → g ≡ f → Finds text g r

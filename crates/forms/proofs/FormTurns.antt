@@ -11,7 +11,7 @@ use lib.Seq.{sets, getD-drop, drop-drop, take-suc-set, drop-set-lt}
 use Rattle.forms.specs.Fronts as fronts
 use Rattle.forms.specs.Forms.{Piece, pieceOf, isField, spellPiece, after, spell, fields, Line, off, line, readPiece, withNumber, onFront, readForm}
 use Rattle.forms.specs.declared.End.the-variants.{At}
-use Rattle.forms.specs.Inner.Answers.{ReadsTo}
+use Rattle.forms.specs.Inner.Places.{ReadsTo}
 use Rattle.forms.proofs.Stores.{sets-append}
 use Rattle.forms.proofs.Turns.{drop-here, drop-end}
 

@@ -13,7 +13,7 @@ use Rattle.float.specs.Zero.{plusZero}
 use Rattle.model.specs.declared.Part.the-variants.{Constant}
 use Rattle.job_text.specs.Parts.{patternFrom, Spelt, PartLine, none, part, readPart}
 use Rattle.job_text.specs.Reading.{Parts, offAt, parts, withPart, onPart, readParts, componentOf, componentsOf, patternsOf, offReading, readJob}
-use Rattle.job_text.specs.Inner.Answers.{IsPart, modelReading}
+use Rattle.job_text.specs.Inner.TextAnswers.{IsPart, modelReading}
 
 -- ---- an array that holds a list's values at its front
 

@@ -13,7 +13,7 @@ use Rattle.forms.proofs.Cases.{below-or}
 use Rattle.float.specs.Zero.{plusZero}
 use Rattle.lists.specs.Tabulate.{tabulate}
 use Rattle.lists.proofs.Tables.{tabulate-cong}
-use Rattle.schedule.specs.Schedule.{filled, zeros, decision}
+use Rattle.schedule.specs.Schedule.{cornersHeld, zeros, decision}
 use Rattle.schedule.specs.Plan.{Plan}
 use Rattle.grid.specs.declared.Verdict.{Verdict}
 use Rattle.grid.specs.declared.Verdict.the-variants.{Constant, Leaf}
@@ -46,7 +46,7 @@ pub plan-constants : (i : Input) → Constants (planOf i)
 unfolding planWith
 plan-constants i v c k x is =
     let P = planOf i in
-    verdict-kind (i .band .min) (i .band .max) (boxOf (i .grid) v c) (map (filled P v 0 zeros) (octet (i .grid .inner) c)) is
+    verdict-kind (i .band .min) (i .band .max) (boxOf (i .grid) v c) (map (cornersHeld P v 0 zeros) (octet (i .grid .inner) c)) is
 
 -- ---- the place of a child among all children
 

@@ -12,7 +12,7 @@ use Rattle.job_text.specs.Lines.{limit, boundsForm, cellForm, blocksForm
 use Rattle.job_text.specs.Parts.{Spelt}
 use Rattle.job_text.specs.Reading.{Written, Read, Parts, offAt, parts, readParts, onLine, onParts, readText, gridOf, bandOf, readingOf}
 use Rattle.job_text.specs.declared.Reading.{Reading}
-use Rattle.job_text.specs.Inner.Answers.{modelReading}
+use Rattle.job_text.specs.Inner.TextAnswers.{modelReading}
 
 -- a job as it is written, from its lines' numbers
 abbrev pub writtenWith : (bounds cell blocks band : List ℕ) → List Spelt → Written

@@ -7,7 +7,7 @@ use Rattle.float.specs.Zero.{plusZero}
 use Rattle.schedule.specs.declared.Cursor.{Cursor}
 use Rattle.schedule.specs.declared.Cursor.the-variants.{End, Corner, Point}
 use Rattle.schedule.specs.Memory.{State}
-use Rattle.schedule.specs.Schedule.{Event, Site, childrenFrom, clearCorners, corner, cornersFrom, evaluate, filled, nodesFrom, point, pointsFrom, work}
+use Rattle.schedule.specs.Schedule.{Event, Site, childrenFrom, clearCorners, corner, cornersFrom, evaluate, cornersHeld, nodesFrom, point, pointsFrom, work}
 use Rattle.schedule.specs.Plan.{Plan}
 
 -- the cursor at an evaluation's site (rule S12)
@@ -35,7 +35,7 @@ childrenLeft P v c read = childrenFrom P read v (P .children - c) c ++ (work cle
 unfoldable pub eventsFrom : Plan → Cursor → (ℕ → Float) → List Event
 unfolding cornersFrom pointsFrom childrenLeft
 eventsFrom P End read = []
-eventsFrom P (Corner v i) read = cornersFrom P v (P .corners - i) i ++ childrenLeft P v 0 (filled P v i read)
+eventsFrom P (Corner v i) read = cornersFrom P v (P .corners - i) i ++ childrenLeft P v 0 (cornersHeld P v i read)
 eventsFrom P (Point v c p) read = pointsFrom P v c (P .leafPoints - p) p ++ childrenLeft P v (suc c) read
 
 -- what the corners hold in a state

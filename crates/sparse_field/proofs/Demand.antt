@@ -21,7 +21,7 @@ use Rattle.plans.specs.Plan.{planOf}
 use Rattle.plans.specs.Sparse.{sparse}
 use Rattle.sparse_field.specs.Records.{jobIn, recordIn, byFlag, recordOut}
 use Rattle.sparse_field.specs.Calls.{called, handed}
-use Rattle.sparse_field.specs.Lists.{Call, Held, onHeld, engineIn}
+use Rattle.sparse_field.specs.CallLists.{Call, Held, onHeld, engineIn}
 use Rattle.sparse_field.specs.Demand.{DemandThree, DropLeavesZeros, EqualBudgets, FinishedField}
 use Rattle.plans.proofs.Lawful.{sparse-laws, long-enough}
 

@@ -10,7 +10,7 @@ use Rattle.input.specs.declared.Lengths.{Lengths}
 use Rattle.schedule.specs.Opened.{lengthsOf, stateAt}
 use Rattle.schedule.specs.Finished.{Finished}
 use Rattle.schedule.specs.JobRecord.{job, isFinished}
-use Rattle.schedule.specs.Calls.{Outcome, opens, steps}
+use Rattle.schedule.specs.Calls.{Reply, opens, steps}
 use Rattle.schedule.specs.declared.Answer.the-variants.{Accepted}
 use Rattle.schedule.specs.Engine.{Engine, engineCall}
 use Rattle.schedule.specs.Ledger.{jobLedger, ledgerOpen, ledgerStep, ledgerCall, firstLedger}
@@ -66,7 +66,7 @@ module _ (i : Input) (m : Memory) (none : sparse .cause (lengthsOf m) i ≡ 0) w
   unfolding called
   job-finished n enough =
       let r = recordAfter l i 0 in
-      let to : Outcome (Engine sparse) → Handed = λ o. handed r (o .answer) (o .next) in
+      let to : Reply (Engine sparse) → Handed = λ o. handed r (o .answer) (o .next) in
       ap (λ x. to (engineCall sparse (steps n) (record { jobRecord = x; memory = stateAt P l 0 .memory }))) (record-forth (job (jobAt sparse l i 0)))
       ∙ ap to (stepped-through n enough)
 

@@ -7,8 +7,8 @@ use crate::held::JOB;
 use crate::held::NEXT;
 use crate::records;
 use crate::words;
-use schedule::Answer;
 use input::Input;
+use schedule::Answer;
 use sparse_field::Outcome;
 use sparse_field::Record;
 

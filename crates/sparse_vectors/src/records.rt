@@ -7,16 +7,16 @@ use crate::held::JOB;
 use crate::held::LENGTHS;
 use crate::numbers;
 use geometry::BoundingBox;
-use input::Band;
 use grid::Grid;
 use grid::GridCounts;
+use input::Band;
+use input::Input;
 use input::Lengths;
 use model::ImplicitModel;
 use model::ModelComponent;
 use model::Part;
 use schedule::Counts;
 use schedule::Cursor;
-use input::Input;
 use sparse_field::Record;
 
 fn grid_at(held: &[u64; 686], at: usize) -> Grid

@@ -2,7 +2,7 @@
 use mathlib.Core.Path.{_≡_, sym, _∙_}
 use Prim.Native.Nat.{_-_, _≤_}
 use lib.ListN.{length, drop}
-use Rattle.forms.specs.Inner.Answers.{Finds}
+use Rattle.forms.specs.Inner.Places.{Finds}
 use Rattle.forms.specs.Fronts.{decimalAfter}
 use Rattle.forms.proofs.Turns.{after-turn, after-past, after-ends, after-all}
 use borrow.Author.Needs.{needs}

@@ -1,5 +1,5 @@
 -- `read_decimal` meets its contract: one law for each way out.
-use Rattle.forms.specs.Inner.Answers.{Finds}
+use Rattle.forms.specs.Inner.Places.{Finds}
 use Rattle.forms.proofs.AnswerLaws.{finds-same}
 use Rattle.forms.proofs.Turns.{front-ended, front-nought, front-none, front-large, front-first}
 use borrow.Author.Needs.{needs}

@@ -2,7 +2,7 @@
 use mathlib.Core.Path.{refl}
 use Prim.Native.Nat.{_-_}
 use lib.ListN.{length}
-use Rattle.forms.specs.Inner.Answers.{ReadsTo}
+use Rattle.forms.specs.Inner.Places.{ReadsTo}
 use Rattle.forms.proofs.AnswerLaws.{finds-off, finds-number}
 use Rattle.forms.proofs.FormTurns.{Kept, kept-first, kept-room, kept-off, kept-turn, kept-done}
 use borrow.Author.Needs.{needs}

@@ -2,7 +2,7 @@
 use mathlib.Core.Path.{_≡_, sym, _∙_}
 use Prim.Native.Nat.{_+_, _*_, _^_, _≤_, _<_}
 use lib.ListN.{length, drop}
-use Rattle.forms.specs.Inner.Answers.{Finds}
+use Rattle.forms.specs.Inner.Places.{Finds}
 use Rattle.forms.specs.Fronts.{hexAfter}
 use Rattle.forms.proofs.Turns.{hex-ended, hex-turn, hex-stop, hex-done, room-one, room-turn}
 use borrow.Author.Needs.{needs}

@@ -5,7 +5,7 @@ use native.Mathlib.Omega.{arith}
 use lib.ListN.{drop}
 use borrow.Author.Needs.{needs}
 use Rattle.forms.proofs.AnswerLaws.{reads-off}
-use Rattle.job_text.specs.Inner.Answers.{ReadsPartTo}
+use Rattle.job_text.specs.Inner.TextAnswers.{ReadsPartTo}
 use Rattle.job_text.proofs.PartTurns.{Among, among-off, among-none, found-fits, found-part}
 use Rattle.job_text.proofs.parts.part_line.Statement.{statement}
 use Rattle.job_text.proofs.parts.part_line.Tie as tie

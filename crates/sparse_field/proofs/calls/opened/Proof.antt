@@ -4,7 +4,6 @@ use native.Mathlib.Omega.{arith}
 use Rattle.input.specs.declared.Input.{Input}
 use Rattle.input.specs.declared.Lengths.{Lengths}
 use Rattle.input.proofs.Clear.{Clear}
-use Rattle.schedule.specs.Memory.{Memory}
 use Rattle.schedule.specs.Opened.{lengthsOf}
 use Rattle.schedule.specs.Lent.{memoryOf}
 use Rattle.plans.specs.Plan.{planOf, valueOf, decideBy}

@@ -4,13 +4,13 @@ use mathlib.Core.List.{List}
 use lib.Ieee.{Float}
 use Rattle.model.specs.Flat.{Flat}
 use Rattle.schedule.specs.Memory.{Memory}
-use Rattle.schedule.specs.Calls.{opens, steps, drops, Outcome}
+use Rattle.schedule.specs.Calls.{opens, steps, drops, Reply}
 use Rattle.schedule.specs.declared.Answer.{Answer}
 use Rattle.schedule.specs.declared.Answer.the-variants.{Accepted, Refused}
 use Rattle.schedule.specs.Engine.{Engine}
 use Rattle.plans.specs.Sparse.{sparse}
 use Rattle.sparse_field.specs.Records.{recordIn}
-use Rattle.sparse_field.specs.Lists.{Call}
+use Rattle.sparse_field.specs.CallLists.{Call}
 use Rattle.field_host.specs.Given.{inputGiven}
 use Rattle.field_host.specs.Carried.{Carried, decoded}
 use Rattle.field_host.specs.Hosted.{hosted}
@@ -38,7 +38,7 @@ answerOf zero = Accepted
 answerOf (suc n) = Refused (suc n)
 
 -- one call: what the contracts of the C functions say
-abbrev pub onStation : HostCall → Station → Outcome Station
+abbrev pub onStation : HostCall → Station → Reply Station
 onStation c s =
     let h = hosted (callOf c) (s .carried) (s .memory) in
     record { answer = answerOf (h .number); next = record { carried = h .carried; memory = h .memory } }

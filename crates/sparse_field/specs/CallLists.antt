@@ -17,7 +17,7 @@ pub record Held : Type 0 where
   pub memory : Memory
 
 -- one call: what the contracts of open, step and drop say
-abbrev pub onHeld : Call → Held → calls.Outcome Held
+abbrev pub onHeld : Call → Held → calls.Reply Held
 onHeld c s =
     let h = called c (s .held) (s .memory) in
     record { answer = h .outcome .answer; next = record { held = h .outcome .next; memory = h .memory } }
