@@ -13,7 +13,6 @@ use borrow.Author.Tests.{lt-ltb, le-ltb}
 use Rattle.lists.specs.Filled.{filled}
 use Rattle.geometry.specs.declared.BoundingBox.{BoundingBox}
 use Rattle.grid.specs.declared.Grid.{Grid}
-use Rattle.input.specs.declared.Band.{Band}
 use Rattle.grid.specs.Blocks.{cube}
 use Rattle.grid.specs.Nodes.{nodesOf}
 use Rattle.grid.specs.Boxes.{nodeBox, childBox}
@@ -31,7 +30,7 @@ use Rattle.engine.specs.declared.Progress.{Progress}
 use Rattle.schedule.specs.declared.Cursor.the-variants.{Point}
 use Rattle.engine.specs.declared.Stop.the-variants.{Through, At}
 use Rattle.schedule.specs.Lent.{memoryOf}
-use Rattle.plans.specs.Plan.{boxOf, planWith, decideBy}
+use Rattle.plans.specs.Plan.{boxOf, planWith}
 use Rattle.geometry.specs.Values.{at}
 use Rattle.engine.specs.Inner.Progress.{Sized, Ready, readingIn, ChildrenAdvanced, leafProgress}
 use Rattle.engine.proofs.Turns.{progress, turn-active, turn-skip, turn-constant, turn-leaf, filledStore}
@@ -68,10 +67,10 @@ pub place-few : (g : Grid) (v c : ℕ) → Sized g → v < nodesOf g → c < cub
 place-few g v c sized hv hc = omega (arith, mul-le-mul-right (cube (g .inner)) hv, sized .children)
 
 -- there are few active children
-pub active-most : (g : Grid) (decide : BoundingBox → List Float → Verdict) (value : Float → Float → Float → Float) → Sized g
+pub active-few : (g : Grid) (decide : BoundingBox → List Float → Verdict) (value : Float → Float → Float → Float) → Sized g
     → activeAll (planWith g decide value) ≤ 16777216
 unfolding planWith countAll
-active-most g decide value sized =
+active-few g decide value sized =
     let P : Plan = planWith g decide value in
     omega (
       arith,
@@ -79,17 +78,13 @@ active-most g decide value sized =
       sumFrom-most (λ v. countOf (P .active) v (P .children)) (P .children) (λ v. sumBits-most (P .active v) (P .children)) (P .nodes) 0,
     )
 
--- the same of a band's decision, for the crate above
-pub active-few : (g : Grid) (band : Band) (value : Float → Float → Float → Float) → Sized g → activeAll (planWith g (decideBy band) value) ≤ 16777216
-active-few g band = active-most g (decideBy band)
-
 -- so are the leaves before a child
 pub leaves-few : (g : Grid) (decide : BoundingBox → List Float → Verdict) (value : Float → Float → Float → Float) (v c leaves : ℕ) (m : Memory)
     → Sized g → c < cube (g .inner) → Ready (planWith g decide value) v c leaves m → leaves ≤ 16777216
 unfolding planWith
 leaves-few g decide value v c leaves m sized below ready =
     let P : Plan = planWith g decide value in
-    omega (arith, ready .atMost, active-most g decide value sized, before-most P (P .active) v c (ready .node) (omega arith))
+    omega (arith, ready .atMost, active-few g decide value sized, before-most P (P .active) v c (ready .node) (omega arith))
 
 -- a number that is not 0
 nonzero-above : (k : ℕ) → (k ≡ 0 → ⊥) → nonzero k ≡ true

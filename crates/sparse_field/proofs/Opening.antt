@@ -80,7 +80,7 @@ valid-startable P (Point v c p) n valid most least = (valid .0, valid .1, omega 
 
 -- there are few active children
 pub active-within : (i : Input) → Sized (i .grid) → activeAll (planOf i) ≤ 16777216
-active-within i size = active-few (i .grid) (i .band) (valueOf (i .model)) size
+active-within i size = active-few (i .grid) (decideBy (i .band)) (valueOf (i .model)) size
 
 -- ---- the start of a job
 
