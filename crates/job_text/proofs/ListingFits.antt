@@ -147,7 +147,12 @@ pub listing-fits : (i : Input) (nan : ℕ) → sparse .cause programLengths i �
 unfolding planWith
 listing-fits i nan none =
     let n = no-cause i programLengths none in
-    listing-small (planOf i) nan (n .lent .kinds) (omega (arith, n .lent .store, ap (λ k. k * cube (i .grid .leaf)) (active-all (i .grid) (decideBy (i .band)) (valueOf (i .model)))))
+    listing-small (planOf i) nan (n .lent .kinds) (omega (
+      arith,
+      n .lent .store,
+      ap (λ k. k * cube (i .grid .leaf))
+          (active-all (i .grid) (decideBy (i .band)) (valueOf (i .model))),
+    ))
 
 -- so do the lines of refusals
 pub refused-fits : (number : ℕ) → length (spell refusedForm (number ∷ [])) ≤ 31

@@ -148,7 +148,8 @@ listing-measured total children points nan k m =
     (line-length children points nan m) total 0)
 
 -- the first line, from its counts
-pub done-spelling : (k : Counts) {xs : List ℕ} → xs ≡ k .grid .nodes ∷ k .grid .active ∷ k .leaves ∷ k .sampled ∷ k .evaluations ∷ [] → spell doneForm xs ≡ doneLine k
+pub done-spelling : (k : Counts) {xs : List ℕ} → xs ≡ k .grid .nodes ∷ k .grid .active ∷ k .leaves ∷ k .sampled ∷ k .evaluations ∷ []
+    → spell doneForm xs ≡ doneLine k
 unfolding doneLine
 done-spelling k numbers = ap (spell doneForm) numbers
 

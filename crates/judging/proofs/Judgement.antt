@@ -48,7 +48,9 @@ sampled-by s q m above e = one (eqb (s / m) q) refl
         let same = eqb-true (s / m) q t in
         t ∙ sym (eq-eqb s (q * m) (omega (arith, div-add-mod' s m, ap (λ (x : ℕ). x * m) same)))
     one false t =
-        t ∙ sym (ne-eqb s (q * m) (λ same. eqb-false (s / m) q t (ap (λ (x : ℕ). x / m) (same ∙ sym (add-zero (q * m))) ∙ mul-add-div-right {m = m} above q 0 ∙ ap (λ (x : ℕ). q + x) (div-eq-of-lt above) ∙ add-zero q)))
+        t ∙ sym (ne-eqb s (q * m) (λ same. eqb-false (s / m) q t
+        (ap (λ (x : ℕ). x / m) (same ∙ sym (add-zero (q * m))) ∙ mul-add-div-right {m = m} above q 0
+        ∙ ap (λ (x : ℕ). q + x) (div-eq-of-lt above) ∙ add-zero q)))
 
 pub not-sampled : (s q m : ℕ) → 0 < m → (s % m ≡ 0 → ⊥) → false ≡ eqb s (q * m)
 not-sampled s q m above ne =
@@ -60,7 +62,8 @@ module _ (P : Plan) where
   abbrev upTo : ℕ → ℕ
   upTo n = sumBelow (λ j. bit (activeAt P j)) n
 
-  up-to-child : (v : ℕ) → v < P .nodes → upTo (v * P .children) ≡ activeBefore P v 0 → (c : ℕ) → c ≤ P .children → upTo (v * P .children + c) ≡ activeBefore P v c
+  up-to-child : (v : ℕ) → v < P .nodes → upTo (v * P .children) ≡ activeBefore P v 0 → (c : ℕ) → c ≤ P .children
+      → upTo (v * P .children + c) ≡ activeBefore P v c
   up-to-child v hv base zero h = rw (add-zero (v * P .children)) base
   up-to-child v hv base (suc c) h =
       let before = up-to-child v hv base c (omega arith) in
@@ -160,7 +163,8 @@ module _ (g : Grid) (v : ℕ) where
     unfolding validCursor planWith
     point-active h m e = rw (lt-ltb v (nodesOf g) h, lt-ltb c (cube (g .inner)) m, e) refl
 
-    pub point-place : v < nodesOf g → c < cube (g .inner) → active g v c ≡ true → {b : Bool} → b ≡ ltb p (cube (g .leaf)) → b ≡ validCursor (gridPlan g) (Point v c p)
+    pub point-place : v < nodesOf g → c < cube (g .inner) → active g v c ≡ true → {b : Bool} → b ≡ ltb p (cube (g .leaf))
+        → b ≡ validCursor (gridPlan g) (Point v c p)
     unfolding validCursor planWith
     point-place h m e k = rw (lt-ltb v (nodesOf g) h, lt-ltb c (cube (g .inner)) m, e) k
 

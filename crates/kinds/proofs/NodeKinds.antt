@@ -50,7 +50,8 @@ module _ (g : Grid) (v : ℕ) (xs ys zs : List Bool) {s : Float} {nodes at : Vec
       let ch = childIndices n c in
       let x = hx (ch .i) (column-below c n n above above) ∙ (λ t. axisActive (g .bounds .min .x) (g .bounds .max .x) (hs t) n (place t .i) (ch .i)) in
       let y = hy (ch .j) (line-below c n n above above) ∙ (λ t. axisActive (g .bounds .min .y) (g .bounds .max .y) (hs t) n (place t .j) (ch .j)) in
-      let z = hz (ch .k) (div-lt-iff-lt-mul area .1 (omega (arith, mul-assoc n n n))) ∙ (λ t. axisActive (g .bounds .min .z) (g .bounds .max .z) (hs t) n (place t .k) (ch .k)) in
+      let z = hz (ch .k) (div-lt-iff-lt-mul area .1 (omega (arith, mul-assoc n n n)))
+      ∙ (λ t. axisActive (g .bounds .min .z) (g .bounds .max .z) (hs t) n (place t .k) (ch .k)) in
       turned (tableTest xs (ch .i)) (tableTest ys (ch .j)) (tableTest zs (ch .k))
       ∙ (λ t. x t && y t && z t)
       ∙ sym (by-axes g v c)
@@ -85,7 +86,8 @@ module _ (g : Grid) (total : ℕ) (e : total ≡ nodesOf g * cube (g .inner)) wh
 
   -- a slice whose nodes are set, and which is then zeroed from there on
   pub all-set : (l part rest : List ℕ) {r d : ℕ} → total ≤ length l → r ≡ total → part ≡ flagsFrom (gridTest g) r 0 → d ≡ length (part ++ drop total l) - total
-      → rest ≡ replicate (length (take d (drop total (part ++ drop total l)))) 0 → putMid total d (part ++ drop total l) rest ≡ flagsFrom (activeChild g) (length l) 0
+      → rest ≡ replicate (length (take d (drop total (part ++ drop total l)))) 0
+      → putMid total d (part ++ drop total l) rest ≡ flagsFrom (activeChild g) (length l) 0
   all-set l part rest {r} {d} long hr hp hd hrest =
       let flags : part ≡ flagsFrom (gridTest g) total 0 = hp ∙ ap (λ (k : ℕ). flagsFrom (gridTest g) k 0) hr in
       let size : length part ≡ total = ap length flags ∙ length-flags (gridTest g) total 0 in
@@ -95,7 +97,8 @@ module _ (g : Grid) (total : ℕ) (e : total ≡ nodesOf g * cube (g .inner)) wh
       let whole : length (part ++ drop total l) ≡ length l = omega (arith, length-append part (drop total l)) in
       let many : length (drop total l) ≤ d = omega arith in
       let zeros : rest ≡ replicate (length l - total) 0 =
-      hrest ∙ ap (λ (k : List ℕ). replicate (length (take d k)) 0) back ∙ ap (λ (k : List ℕ). replicate (length k) 0) (take-all d (drop total l) many) ∙ ap (λ (k : ℕ). replicate k 0) left in
+      hrest ∙ ap (λ (k : List ℕ). replicate (length (take d k)) 0) back
+      ∙ ap (λ (k : List ℕ). replicate (length k) 0) (take-all d (drop total l) many) ∙ ap (λ (k : ℕ). replicate k 0) left in
       let none : drop d (drop total (part ++ drop total l)) ≡ [] = ap (drop d) back ∙ drop-of-length-le (drop total l) {i = d} many in
       let sum : total + (length l - total) ≡ length l = omega arith in
       (λ t. (front ∙ flags) t ++ (zeros t ++ none t))
@@ -116,7 +119,8 @@ module _ (g : Grid) (total : ℕ) (e : total ≡ nodesOf g * cube (g .inner)) wh
       let nodes : agreesFrom (activeChild g) 0 (take total l) ≡ true =
       agrees-cong (activeChild g) (gridTest g) 0 0 (take total l) (λ j below. rw (zero-add j) (sym (in-nodes j (omega arith)))) ∙ h in
       let tail : agreesFrom (λ _. false) 0 (drop total l) ≡ agreesFrom (activeChild g) (0 + length (take total l)) (drop total l) =
-      agrees-cong (λ _. false) (activeChild g) 0 (0 + length (take total l)) (drop total l) (λ j below. sym (past-nodes (0 + length (take total l) + j) (omega arith))) in
+      agrees-cong (λ _. false) (activeChild g) 0 (0 + length (take total l)) (drop total l)
+      (λ j below. sym (past-nodes (0 + length (take total l) + j) (omega arith))) in
       ap (agreesFrom (λ _. false) 0) (take-all (length l - total) (drop total l) (omega (arith, length-drop total l)))
       ∙ tail
       ∙ ap (λ (b : Bool). b && agreesFrom (activeChild g) (0 + length (take total l)) (drop total l)) (sym nodes)

@@ -42,8 +42,10 @@ needed-cong n act other same corner =
 
 -- ---- the kinds of one node
 
-module _ (g : Grid) (decide : BoundingBox → List Float → Verdict) (value : Float → Float → Float → Float) (l : List ℕ) (right : ActiveKinds (planWith g decide value) l)
-    (long : nodesOf g * cube (g .inner) ≤ length l) (v : ℕ) (below : v < nodesOf g) {first d : ℕ} (from : first ≡ v * cube (g .inner)) (size : d ≡ cube (g .inner)) where
+module _ (g : Grid) (decide : BoundingBox → List Float → Verdict) (value : Float → Float → Float → Float) (l : List ℕ)
+    (right : ActiveKinds (planWith g decide value) l)
+    (long : nodesOf g * cube (g .inner) ≤ length l) (v : ℕ) (below : v < nodesOf g) {first d : ℕ} (from : first ≡ v * cube (g .inner))
+    (size : d ≡ cube (g .inner)) where
   -- a kind of the part is nonzero exactly where the child is active
   pub part-active : (c : ℕ) → c < cube (g .inner) → kinds.nonzero (take d (drop first l)) c ≡ active g v c
   unfolding kinds.nonzero planWith

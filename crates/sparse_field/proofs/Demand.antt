@@ -47,11 +47,13 @@ refused-kept (opens i) e = by (sparse .cause _ i)
 refused-kept (steps n) e = by (e .jobRecord)
   where
     judged : (j : Job sparse) (b : Bool)
-        → KeptIfRefused (engineStepJob sparse n j (e .memory) b .answer) (engineStepJob sparse n j (e .memory) b .next) (record { jobRecord = job j; memory = e .memory })
+        → KeptIfRefused (engineStepJob sparse n j (e .memory) b .answer) (engineStepJob sparse n j (e .memory) b .next)
+        (record { jobRecord = job j; memory = e .memory })
     judged j true = refl
     judged j false = tt
 
-    by : (r : JobRecord sparse) → KeptIfRefused (engineStep sparse n r (e .memory) .answer) (engineStep sparse n r (e .memory) .next) (record { jobRecord = r; memory = e .memory })
+    by : (r : JobRecord sparse)
+        → KeptIfRefused (engineStep sparse n r (e .memory) .answer) (engineStep sparse n r (e .memory) .next) (record { jobRecord = r; memory = e .memory })
     by noJob = refl
     by (job j) = judged j (impossible sparse j (e .memory))
 refused-kept drops e = tt

@@ -51,7 +51,11 @@ module _ (i : Input) (m : Memory) (none : sparse .cause (lengthsOf m) i ≡ 0) w
 
   -- the engine's step from there
   stepped-through : (n : ℕ) → total (planOf i) ≤ n
-      → engineCall sparse (steps n) (engineAt sparse (lengthsOf m) i 0) ≡ record { answer = Accepted; next = engineAt sparse (lengthsOf m) i (total (planOf i)) }
+      → engineCall sparse (steps n) (engineAt sparse (lengthsOf m) i 0) ≡ record {
+        answer = Accepted;
+        next = engineAt sparse (lengthsOf m) i
+            (total (planOf i));
+      }
   unfolding ledgerCall ledgerStep
   stepped-through n enough =
       let all : 0 + min n (total P - 0) ≡ total P = omega arith in
@@ -71,7 +75,8 @@ module _ (i : Input) (m : Memory) (none : sparse .cause (lengthsOf m) i ≡ 0) w
       ∙ ap to (stepped-through n enough)
 
   -- what such a record and memory are
-  pub finished-possible : impossible sparse (jobAt sparse (lengthsOf m) i (total (planOf i))) (stateAt (planOf i) (lengthsOf m) (total (planOf i)) .memory) ≡ false
+  pub finished-possible : impossible sparse (jobAt sparse (lengthsOf m) i (total (planOf i)))
+      (stateAt (planOf i) (lengthsOf m) (total (planOf i)) .memory) ≡ false
   finished-possible = reachable-possible sparse l i sparse-laws none (total P) (omega arith)
 
   pub finished-flag : isFinished (jobAt sparse (lengthsOf m) i (total (planOf i))) ≡ true

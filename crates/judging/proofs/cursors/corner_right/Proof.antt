@@ -78,8 +78,13 @@ part-is-needed-end c = omega (arith, part c)
 is-needed-requires : tie.Need-is-needed-requires
 is-needed-requires c κs =
     let p = c .before in
-    let n = inner-block _ (start p .pre .two) in
-    (omega (arith, n .least), n .most, simp (length-take, length-drop) (omega (arith, part p, p .cube-of2 .ensures)), omega (arith, p .before .before .cube-of .ensures))
+    let n = inner-block _ (start p .pre .two) in (
+      omega (arith, n .least),
+      n .most,
+      simp (length-take, length-drop) (omega (arith, part p, p .cube-of2 .ensures)),
+      omega
+          (arith, p .before .before .cube-of .ensures),
+    )
 
 returns-3 : tie.Need-returns-3
 returns-3 c =

@@ -26,10 +26,12 @@ unfolding validCursor
 returns c = let g = c .before .before .before .args .g in ap (λ x. validCursor (gridPlan g) x) (sym (c .enum-told .given .1))
 
 returns-2 : tie.Need-returns-2
-returns-2 c = let g = c .before .before .before .before .before .args .g in c .corner-right .ensures ∙ ap (λ x. validCursor (gridPlan g) x) (sym (c .before .before .cursor .given .1))
+returns-2 c = let g = c .before .before .before .before .before .args .g in c .corner-right .ensures
+    ∙ ap (λ x. validCursor (gridPlan g) x) (sym (c .before .before .cursor .given .1))
 
 returns-3 : tie.Need-returns-3
-returns-3 c = let g = c .before .before .before .before .before .args .g in c .point-right .ensures ∙ ap (λ x. validCursor (gridPlan g) x) (sym (c .before .before .cursor2 .given .1))
+returns-3 c = let g = c .before .before .before .before .before .args .g in c .point-right .ensures
+    ∙ ap (λ x. validCursor (gridPlan g) x) (sym (c .before .before .cursor2 .given .1))
 
 pub cursor-right-spec : {M : Type 1} → statement M
 cursor-right-spec =

@@ -39,7 +39,8 @@ loop-again c =
     let l = b .before .args .kinds .now in (
       omega arith,
       ⊎-elim (λ w. omega arith) (λ w. omega arith) (c .if1 .came),
-      ⊎-elim (λ w. count-more l (b .loop .i) (b .loop .inv .2) (w .0 .taken) (w .1)) (λ w. count-skip l (b .loop .i) (b .loop .inv .2) (w .0 .left) (w .1)) (c .if1 .came),
+      ⊎-elim (λ w. count-more l (b .loop .i) (b .loop .inv .2) (w .0 .taken) (w .1))
+          (λ w. count-skip l (b .loop .i) (b .loop .inv .2) (w .0 .left) (w .1)) (c .if1 .came),
     )
 
 returns : tie.Need-returns Inv-loop μ-loop

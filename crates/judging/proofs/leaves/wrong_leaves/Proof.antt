@@ -20,7 +20,8 @@ returns c =
     let g = s .args .g in
     let a = s .args .cursor in
     let n = s .args .leaves in
-    leaves-many (ltb (activeUpTo (gridPlan g) a) n) (insideChild a) (eqb n 0) (lt-ltb (activeUpTo (gridPlan g) a) n (omega (arith, c .before .active-up-to .ensures)))
+    leaves-many (ltb (activeUpTo (gridPlan g) a) n) (insideChild a) (eqb n 0)
+    (lt-ltb (activeUpTo (gridPlan g) a) n (omega (arith, c .before .active-up-to .ensures)))
 
 inside-child-requires : tie.Need-inside-child-requires
 inside-child-requires c κs = search needs
@@ -31,7 +32,9 @@ returns-2 c =
     let g = s .args .g in
     let a = s .args .cursor in
     let n = s .args .leaves in
-    leaves-none (ltb (activeUpTo (gridPlan g) a) n) (insideChild a) (eqb n 0) (le-ltb (activeUpTo (gridPlan g) a) n (omega (arith, c .before .before .before .active-up-to .ensures))) (sym (c .before .inside-child .ensures) ∙ c .if2 .taken)
+    leaves-none (ltb (activeUpTo (gridPlan g) a) n) (insideChild a) (eqb n 0)
+    (le-ltb (activeUpTo (gridPlan g) a) n (omega (arith, c .before .before .before .active-up-to .ensures)))
+    (sym (c .before .inside-child .ensures) ∙ c .if2 .taken)
 
 returns-3 : tie.Need-returns-3
 returns-3 c =
@@ -39,7 +42,9 @@ returns-3 c =
     let g = s .args .g in
     let a = s .args .cursor in
     let n = s .args .leaves in
-    leaves-right (ltb (activeUpTo (gridPlan g) a) n) (insideChild a) (eqb n 0) (le-ltb (activeUpTo (gridPlan g) a) n (omega (arith, c .before .before .before .active-up-to .ensures))) (sym (c .before .inside-child .ensures) ∙ c .if2 .left)
+    leaves-right (ltb (activeUpTo (gridPlan g) a) n) (insideChild a) (eqb n 0)
+    (le-ltb (activeUpTo (gridPlan g) a) n (omega (arith, c .before .before .before .active-up-to .ensures)))
+    (sym (c .before .inside-child .ensures) ∙ c .if2 .left)
 
 pub wrong-leaves-spec : {M : Type 1} → statement M
 wrong-leaves-spec =

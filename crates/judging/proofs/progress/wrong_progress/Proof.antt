@@ -23,7 +23,8 @@ returns c =
     let a = s .args .cursor in
     let P = gridPlan g in
     let n = t .leaves in
-    joined-first (not (sameCounts t (countsWith P n (t .evaluations)))) (ltb (evaluationsBound P) (t .evaluations)) (not (validCursor P a)) (ltb (activeUpTo P a) n) (insideChild a && eqb n 0) (ap not (sym (c .before .counts-right .ensures)) ∙ c .if1 .taken)
+    joined-first (not (sameCounts t (countsWith P n (t .evaluations)))) (ltb (evaluationsBound P) (t .evaluations)) (not (validCursor P a))
+    (ltb (activeUpTo P a) n) (insideChild a && eqb n 0) (ap not (sym (c .before .counts-right .ensures)) ∙ c .if1 .taken)
 
 evaluations-bound-requires : tie.Need-evaluations-bound-requires
 evaluations-bound-requires c κs = let p = c .before .before .before .pre in (p .two, p .five)
@@ -36,7 +37,9 @@ returns-2 c =
     let a = s .args .cursor in
     let P = gridPlan g in
     let n = t .leaves in
-    joined-second (not (sameCounts t (countsWith P n (t .evaluations)))) (ltb (evaluationsBound P) (t .evaluations)) (not (validCursor P a)) (ltb (activeUpTo P a) n) (insideChild a && eqb n 0) (ap not (sym (c .before .before .before .before .counts-right .ensures)) ∙ c .before .before .before .if1 .left) (lt-ltb (evaluationsBound P) (t .evaluations) (omega (arith, c .before .before .evaluations-bound .ensures)))
+    joined-second (not (sameCounts t (countsWith P n (t .evaluations)))) (ltb (evaluationsBound P) (t .evaluations)) (not (validCursor P a))
+    (ltb (activeUpTo P a) n) (insideChild a && eqb n 0) (ap not (sym (c .before .before .before .before .counts-right .ensures))
+    ∙ c .before .before .before .if1 .left) (lt-ltb (evaluationsBound P) (t .evaluations) (omega (arith, c .before .before .evaluations-bound .ensures)))
 
 cursor-right-requires : tie.Need-cursor-right-requires
 cursor-right-requires c κs = c .before .before .before .before .before .before .pre
@@ -49,10 +52,18 @@ returns-3 c =
     let a = s .args .cursor in
     let P = gridPlan g in
     let n = t .leaves in
-    joined-third (not (sameCounts t (countsWith P n (t .evaluations)))) (ltb (evaluationsBound P) (t .evaluations)) (not (validCursor P a)) (ltb (activeUpTo P a) n) (insideChild a && eqb n 0) (ap not (sym (c .before .before .before .before .before .before .counts-right .ensures)) ∙ c .before .before .before .before .before .if1 .left) (le-ltb (evaluationsBound P) (t .evaluations) (omega (arith, c .before .before .before .before .evaluations-bound .ensures))) (ap not (sym (c .before .cursor-right .ensures)) ∙ c .if3 .taken)
+    joined-third (not (sameCounts t (countsWith P n (t .evaluations)))) (ltb (evaluationsBound P) (t .evaluations)) (not (validCursor P a))
+    (ltb (activeUpTo P a) n) (insideChild a && eqb n 0) (ap not
+    (sym (c .before .before .before .before .before .before .counts-right .ensures))
+    ∙ c .before .before .before .before .before .if1 .left) (le-ltb (evaluationsBound P) (t .evaluations)
+    (omega (arith, c .before .before .before .before .evaluations-bound .ensures))) (ap not (sym (c .before .cursor-right .ensures)) ∙ c .if3 .taken)
 
 wrong-leaves-requires : tie.Need-wrong-leaves-requires
-wrong-leaves-requires c κs = (c .before .before .before .before .before .before .before .before .pre, sym (c .before .cursor-right .ensures) ∙ not-false _ (c .if3 .left))
+wrong-leaves-requires c κs = (
+  c .before .before .before .before .before .before .before .before .pre,
+  sym (c .before .cursor-right .ensures)
+      ∙ not-false _ (c .if3 .left),
+)
 
 returns-4 : tie.Need-returns-4
 returns-4 c =
@@ -62,7 +73,12 @@ returns-4 c =
     let a = s .args .cursor in
     let P = gridPlan g in
     let n = t .leaves in
-    joined-rest (not (sameCounts t (countsWith P n (t .evaluations)))) (ltb (evaluationsBound P) (t .evaluations)) (not (validCursor P a)) (ltb (activeUpTo P a) n) (insideChild a && eqb n 0) (ap not (sym (c .before .before .before .before .before .before .before .counts-right .ensures)) ∙ c .before .before .before .before .before .before .if1 .left) (le-ltb (evaluationsBound P) (t .evaluations) (omega (arith, c .before .before .before .before .before .evaluations-bound .ensures))) (ap not (sym (c .before .before .cursor-right .ensures)) ∙ c .before .if3 .left) (c .wrong-leaves .ensures)
+    joined-rest (not (sameCounts t (countsWith P n (t .evaluations)))) (ltb (evaluationsBound P) (t .evaluations)) (not (validCursor P a))
+    (ltb (activeUpTo P a) n) (insideChild a && eqb n 0) (ap not
+    (sym (c .before .before .before .before .before .before .before .counts-right .ensures))
+    ∙ c .before .before .before .before .before .before .if1 .left) (le-ltb (evaluationsBound P) (t .evaluations)
+    (omega (arith, c .before .before .before .before .before .evaluations-bound .ensures))) (ap not
+    (sym (c .before .before .cursor-right .ensures)) ∙ c .before .if3 .left) (c .wrong-leaves .ensures)
 
 pub wrong-progress-spec : {M : Type 1} → statement M
 wrong-progress-spec =

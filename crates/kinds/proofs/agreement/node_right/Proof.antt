@@ -38,7 +38,8 @@ returns c =
     let s = c .before .before .before .before .before .before .before .before .before .before .before .before .before in
     let a = s .args in
     c .slabs-right .ensures
-    ∙ node-agrees (a .g) (a .v) (c .before .before .before .before .before .before .axis-table .result) (c .before .before .before .before .before .axis-table2 .result) (c .before .before .before .before .axis-table3 .result)
+    ∙ node-agrees (a .g) (a .v) (c .before .before .before .before .before .before .axis-table .result)
+    (c .before .before .before .before .before .axis-table2 .result) (c .before .before .before .before .axis-table3 .result)
     (c .before .before .before .before .before .before .before .before .before .node-size .ensures)
     (c .before .before .before .before .before .before .before .before .node-counts .ensures)
     (c .before .before .before .before .before .before .before .indices .ensures)

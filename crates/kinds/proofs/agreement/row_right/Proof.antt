@@ -40,7 +40,8 @@ returns-2 : tie.Need-returns-2 Inv-loop μ-loop
 returns-2 c =
     let b = c .before .before .before .before in
     let s = b .before .before .before in
-    differs-one (tableTest (s .args .xs .now)) (s .args .row .now) (b .loop .i) (omega arith) (compared-other (getD (s .args .row .now) (b .loop .i) 0) (tableTest (s .args .xs .now) (b .loop .i)) (c .if2 .taken))
+    differs-one (tableTest (s .args .xs .now)) (s .args .row .now) (b .loop .i) (omega arith)
+    (compared-other (getD (s .args .row .now) (b .loop .i) 0) (tableTest (s .args .xs .now) (b .loop .i)) (c .if2 .taken))
     ∙ ap (λ (b : Bool). agreesFrom (λ i. b && tableTest (s .args .xs .now) i) 0 (s .args .row .now)) (sym (not-false (s .args .met) (b .before .if1 .left)))
 
 add-i : tie.Need-add-i Inv-loop μ-loop
@@ -52,8 +53,11 @@ loop-less c = search needs
 loop-again : tie.Need-loop-again Inv-loop μ-loop
 loop-again c =
     let b = c .before .before .before .before in
-    let s = b .before .before .before in
-    (omega arith, agrees-one (tableTest (s .args .xs .now)) (s .args .row .now) (b .loop .i) (omega arith) (b .loop .inv .1) (compared-same (getD (s .args .row .now) (b .loop .i) 0) (tableTest (s .args .xs .now) (b .loop .i)) (c .if2 .left)))
+    let s = b .before .before .before in (
+      omega arith,
+      agrees-one (tableTest (s .args .xs .now)) (s .args .row .now) (b .loop .i) (omega arith) (b .loop .inv .1)
+          (compared-same (getD (s .args .row .now) (b .loop .i) 0) (tableTest (s .args .xs .now) (b .loop .i)) (c .if2 .left)),
+    )
 
 returns-3 : tie.Need-returns-3 Inv-loop μ-loop
 returns-3 c =

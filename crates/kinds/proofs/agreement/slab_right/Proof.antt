@@ -25,7 +25,9 @@ all-zero-requires c κs = search needs
 returns : tie.Need-returns Inv-loop μ-loop
 returns c =
     let a = c .before .before .before .args in
-    c .all-zero .ensures ∙ ap (λ (b : Bool). agreesFrom (λ i. b && slabTest (a .n) (a .xs .now) (a .ys .now) i) 0 (a .slab .now)) (sym (not-true (a .met) (c .before .if1 .taken)))
+    c .all-zero .ensures
+    ∙ ap (λ (b : Bool). agreesFrom (λ i. b && slabTest (a .n) (a .xs .now) (a .ys .now) i) 0 (a .slab .now))
+    (sym (not-true (a .met) (c .before .if1 .taken)))
 
 loop-holds : tie.Need-loop-holds Inv-loop μ-loop
 loop-holds c =

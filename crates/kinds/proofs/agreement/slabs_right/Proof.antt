@@ -110,7 +110,8 @@ returns-2 c =
     let b = c .before in
     let a = b .before .before .args in
     let all : a .n * (a .n * a .n) ≤ b .loop .k * (a .n * a .n) = mul-le-mul-right (a .n * a .n) (omega arith) in
-    agrees-all (nodeTest (a .n) (a .xs .now) (a .ys .now) (a .zs .now)) (a .part .now) (b .loop .k * (a .n * a .n)) (omega (arith, mul-assoc (a .n) (a .n) (a .n))) (b .loop .inv .1)
+    agrees-all (nodeTest (a .n) (a .xs .now) (a .ys .now) (a .zs .now)) (a .part .now) (b .loop .k * (a .n * a .n))
+    (omega (arith, mul-assoc (a .n) (a .n) (a .n))) (b .loop .inv .1)
 
 pub slabs-right-spec : {M : Type 1} → statement M
 slabs-right-spec =

@@ -40,7 +40,9 @@ returns : tie.Need-returns
 returns c =
     let a = c .before .before .before .before .before .before .before .before .before .before .before .before .before .before .before .before .args in
     c .before .before .set-slabs .ensures
-    ∙ node-flags (a .g) (a .v) (c .before .before .before .before .before .before .before .before .before .axis-table .result) (c .before .before .before .before .before .before .before .before .axis-table2 .result) (c .before .before .before .before .before .before .before .axis-table3 .result)
+    ∙ node-flags (a .g) (a .v) (c .before .before .before .before .before .before .before .before .before .axis-table .result)
+    (c .before .before .before .before .before .before .before .before .axis-table2 .result)
+    (c .before .before .before .before .before .before .before .axis-table3 .result)
     (c .before .before .before .before .before .before .before .before .before .before .before .before .node-size .ensures)
     (c .before .before .before .before .before .before .before .before .before .before .before .node-counts .ensures)
     (c .before .before .before .before .before .before .before .before .before .before .indices .ensures)

@@ -31,7 +31,8 @@ returns c =
     let r = length (s .args .row .now) in
     c .before .before .zero-bytes .ensures
     ∙ flags-none r 0
-    ∙ ap (λ (b : Bool). flagsFrom (λ i. b && tableTest (s .args .xs .now) i) r 0) (sym (not-true (s .args .met) (c .before .before .before .before .if1 .taken)))
+    ∙ ap (λ (b : Bool). flagsFrom (λ i. b && tableTest (s .args .xs .now) i) r 0)
+    (sym (not-true (s .args .met) (c .before .before .before .before .if1 .taken)))
 
 loop-holds : tie.Need-loop-holds Inv-loop μ-loop
 loop-holds c = (search needs, flagged-none _ _)

@@ -103,8 +103,11 @@ loop-again c =
     let n = a .n in
     let f : ℕ → ℕ → Bool = λ j i. tableTest (a .ys .now) j && tableTest (a .xs .now) i in
     let below : l .j * n + n ≤ a .n * n = row-below n (l .j) (a .n) (omega arith) in
-    let size : l .j * n + n - l .j * n ≡ n = omega arith in
-    (omega arith, rows-more n f (a .slab .now) (l .j) (omega arith) size (row-length n f (a .slab .now) (l .j) (omega arith) size (l .inv .1)) (l .inv .1) (c .before .before .set-row .ensures))
+    let size : l .j * n + n - l .j * n ≡ n = omega arith in (
+      omega arith,
+      rows-more n f (a .slab .now) (l .j) (omega arith) size
+          (row-length n f (a .slab .now) (l .j) (omega arith) size (l .inv .1)) (l .inv .1) (c .before .before .set-row .ensures),
+    )
 
 same-length-2 : tie.Need-same-length-2 Inv-loop μ-loop
 same-length-2 c =

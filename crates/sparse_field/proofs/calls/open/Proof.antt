@@ -41,7 +41,8 @@ returns : tie.Need-returns
 returns c =
     let s = c .before .before .before .before .before .before .before .before .before .before .before .before .before .before .before in
     let a = s .args in
-    let refusal = sym (ap (refusalOf (a .input)) (c .before .before .before .before .lengths-of .ensures)) ∙ sym (c .before .before .before .open-refusal .ensures) ∙ c .before .refusal .given .1 in
+    let refusal = sym (ap (refusalOf (a .input)) (c .before .before .before .before .lengths-of .ensures))
+    ∙ sym (c .before .before .before .open-refusal .ensures) ∙ c .before .refusal .given .1 in
     let done = open-refused (a .input) (a .found) (memory s) _ refusal in
     (sym (ap (λ h. h .outcome) done), sym (ap (λ h. h .memory) done))
 
@@ -52,7 +53,8 @@ opened-requires : tie.Need-opened-requires
 opened-requires c κs =
     let s = c .before .before .before .before .before .before .before .before .before .before .before .before .before .before .before .before .before .before .before in
     let a = s .args in
-    let refusal = sym (ap (refusalOf (a .input)) (c .before .before .before .before .before .before .before .before .lengths-of .ensures)) ∙ sym (c .before .before .before .before .before .before .before .open-refusal .ensures) ∙ c .before .before .before .before .before .enum-told .given .1 in
+    let refusal = sym (ap (refusalOf (a .input)) (c .before .before .before .before .before .before .before .before .lengths-of .ensures))
+    ∙ sym (c .before .before .before .before .before .before .before .open-refusal .ensures) ∙ c .before .before .before .before .before .enum-told .given .1 in
     (c .before .before .before .before .before .before .before .before .lengths-of .ensures, ap numberOf refusal)
 
 same-length-6 : tie.Need-same-length-6

@@ -57,7 +57,8 @@ run-job-requires c κs =
     )
 
 grid-counts-requires : tie.Need-grid-counts-requires
-grid-counts-requires c κs = let p = prepared (c .before .before .before .before .before .before .before .before .before .before) in (clear p .two, clear p .five)
+grid-counts-requires c κs = let p = prepared (c .before .before .before .before .before .before .before .before .before .before) in
+    (clear p .two, clear p .five)
 
 record-of-requires : tie.Need-record-of-requires
 record-of-requires c κs =

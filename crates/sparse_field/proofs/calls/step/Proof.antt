@@ -47,7 +47,9 @@ returns-2 : tie.Need-returns-2
 returns-2 c =
     let s = c .before .before .before .before .before .before .before .before .before .before .before .before .before .before in
     let a = s .args in
-    let done = step-impossible (a .budget) (a .found) (memory s) (not-false (a .found .job) (c .before .before .before .before .before .before .before .if1 .left)) (sym (c .before .is-impossible .ensures) ∙ c .if2 .taken) in
+    let done = step-impossible (a .budget) (a .found) (memory s)
+    (not-false (a .found .job) (c .before .before .before .before .before .before .before .if1 .left))
+    (sym (c .before .is-impossible .ensures) ∙ c .if2 .taken) in
     (sym (ap (λ h. h .outcome) done), sym (ap (λ h. h .memory) done))
 
 stepped-requires : tie.Need-stepped-requires
@@ -72,7 +74,8 @@ returns-3 : tie.Need-returns-3
 returns-3 c =
     let s = c .before .before .before .before .before .before .before .before .before .before .before .before .before .before .before .before .before .before .before .before .before .before .before .before .before .before .before .before .before .before in
     let a = s .args in
-    let done = step-accepted (a .budget) (a .found) (memory s) (not-false (a .found .job) (c .before .before .before .before .before .before .before .before .before .before .before .before .before .before .before .before .before .before .before .before .before .before .before .if1 .left)) (sym (c .before .before .before .before .before .before .before .before .before .before .before .before .before .before .before .before .before .is-impossible .ensures) ∙ c .before .before .before .before .before .before .before .before .before .before .before .before .before .before .before .before .if2 .left) in (
+    let done = step-accepted (a .budget) (a .found) (memory s)
+    (not-false (a .found .job) (c .before .before .before .before .before .before .before .before .before .before .before .before .before .before .before .before .before .before .before .before .before .before .before .if1 .left)) (sym (c .before .before .before .before .before .before .before .before .before .before .before .before .before .before .before .before .before .is-impossible .ensures) ∙ c .before .before .before .before .before .before .before .before .before .before .before .before .before .before .before .before .if2 .left) in (
       ap (λ r. record { answer = Accepted; next = r }) (c .before .before .before .before .before .before .before .before .before .before .stepped .ensures .0) ∙ sym (ap (λ h. h .outcome) done),
       c .before .before .before .before .before .before .before .before .before .before .stepped .ensures .1 ∙ sym (ap (λ h. h .memory) done),
     )
