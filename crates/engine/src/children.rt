@@ -11,8 +11,6 @@ ghost use Rattle.schedule.specs.Lent.{held, entered, left};
 ghost use Rattle.rows.specs.Inner.FlatValue.{valueIn};
 ghost use Rattle.geometry.specs.Values.{at};
 ghost use Rattle.engine.specs.Inner.Progress.{planIn, planNow, Sized, Ready, ChildrenAdvanced, leafProgress};
-use crate::EMPTY;
-use crate::LEAF;
 use crate::LeafVisit;
 use crate::Progress;
 use crate::Stop;
@@ -126,7 +124,7 @@ fn child_turn(
     let leaves = visit.leaves;
     let left = visit.left;
     let j = visit.node * grid::cube_of(n as usize) + c;
-    if kinds[j] == EMPTY {
+    if kinds[j] == grid::EMPTY {
         return Progress {
             leaves,
             left,
@@ -148,7 +146,7 @@ fn child_turn(
             }
         }
         Verdict::Leaf => {
-            kinds[j] = LEAF;
+            kinds[j] = grid::LEAF;
             places[j] = leaves as u32;
             let made = leaves + 1;
             let leaf = LeafVisit {

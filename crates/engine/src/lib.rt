@@ -11,12 +11,6 @@ mod nodes; // nodes.rt: node after node, from a cursor on
 
 pub use jobs::run_job;
 
-// The kind of a child that is not active (rule S2).
-pub const EMPTY: u8 = 0;
-
-// The kind of a leaf (rule S2).
-pub const LEAF: u8 = 2;
-
 // What the work is about, beside the arrays of its model: the grid, the band, and how many parts the
 // model has.
 pub struct Task {

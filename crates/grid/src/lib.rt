@@ -67,6 +67,14 @@ pub enum CornerList {
     Refused(u32),
 }
 
+// The kinds of a child (rule S2): it is not active; it is active and not decided, or a constant; it is a
+// leaf.
+pub const EMPTY: u8 = 0;
+
+pub const ACTIVE: u8 = 1;
+
+pub const LEAF: u8 = 2;
+
 // What an active child becomes: a constant, with its kind and its number, or a leaf.
 pub enum Verdict {
     Constant(u8, f64),

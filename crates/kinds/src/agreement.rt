@@ -17,7 +17,7 @@ fn all_zero(kinds: &[u8]) -> bool
 {
     let mut i: usize = 0;
     while i < kinds.len() {
-        if kinds[i] != 0 {
+        if kinds[i] != grid::EMPTY {
             return false;
         }
         i += 1;
@@ -35,7 +35,7 @@ fn row_right(xs: &[bool; 64], met: bool, row: &[u8]) -> bool
     }
     let mut i: usize = 0;
     while i < row.len() {
-        if (row[i] != 0) != xs[i] {
+        if (row[i] != grid::EMPTY) != xs[i] {
             return false;
         }
         i += 1;

@@ -17,9 +17,9 @@ fn flag(active: bool) -> u8
     ensures { λ r. ⌜ r ≡ bit active ⌝ }
 {
     if active {
-        return 1;
+        return grid::ACTIVE;
     }
-    0
+    grid::EMPTY
 }
 
 // Sets the kinds of a row of children by the first axis. None is active where the row is not met.
