@@ -1,5 +1,4 @@
 pub mod WalkLaws
-pub mod CutLaws
 pub mod CountLaws
 pub mod Lending
 pub mod Edges

@@ -108,7 +108,8 @@ found n c len e = one (valuesRefused n len) (cellInside n c) refl refl e
 pub stepped : (n c next : Vec3i) (len : ℕ) → octetStep n len c ≡ octet.Cell next → Found n c len
 unfolding octetStep
 stepped n c next len e =
-    one (valuesRefused n len) (eqb (n .i - 1) 0 || eqb (n .j - 1) 0 || not (ltb (c .k) (n .k - 1))) (not (ltb (c .i) (n .i - 1)) || not (ltb (c .j) (n .j - 1))) refl refl refl e
+    one (valuesRefused n len) (eqb (n .i - 1) 0 || eqb (n .j - 1) 0 || not (ltb (c .k) (n .k - 1)))
+    (not (ltb (c .i) (n .i - 1)) || not (ltb (c .j) (n .j - 1))) refl refl refl e
   where
     one : (a b d : Bool) → valuesRefused n len ≡ a → (eqb (n .i - 1) 0 || eqb (n .j - 1) 0 || not (ltb (c .k) (n .k - 1))) ≡ b
         → (not (ltb (c .i) (n .i - 1)) || not (ltb (c .j) (n .j - 1))) ≡ d

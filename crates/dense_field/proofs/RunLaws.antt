@@ -64,7 +64,8 @@ module _ (n : Vec3i) (x-above : 0 < n .i) (y-above : 0 < n .j) where
   row-point : (p s : ℕ) {v : Vec3i} → v ≡ pointAt n p → v .i + s < n .i → vec3i (v .i + s) (v .j) (v .k) ≡ pointAt n (p + s)
   unfolding placeOf
   row-point p s {v} e below =
-      let here : placeOf (v .i) (v .j) (v .k) (n .i) (n .j) ≡ p = ap (λ (w : Vec3i). placeOf (w .i) (w .j) (w .k) (n .i) (n .j)) e ∙ place-of-indices (n .i) (n .j) p in
+      let here : placeOf (v .i) (v .j) (v .k) (n .i) (n .j) ≡ p =
+      ap (λ (w : Vec3i). placeOf (w .i) (w .j) (w .k) (n .i) (n .j)) e ∙ place-of-indices (n .i) (n .j) p in
       let there : placeOf (v .i + s) (v .j) (v .k) (n .i) (n .j) ≡ p + s = omega arith in
       sym (indices-of-place (n .i) (n .j) (v .i + s) (v .j) (v .k) below (indices p e .j-in)) ∙ ap (pointAt n) there
 
@@ -87,15 +88,19 @@ module _ (n : Vec3i) (x-above : 0 < n .i) (y-above : 0 < n .j) where
       → pz' ≡ filled t count (λ q. axisPoint (origin .z) cell (v .k)) pz
       → RunPoints origin cell n at (t + count) px' py' pz'
   unfolding fieldPoint
-  more-points origin cell at t count {v} {px} {py} {pz} {px'} {py'} {pz'} here fits short so-far x-long y-long z-long x y z = record { point = λ q below. one q below (ltb q t) refl }
+  more-points origin cell at t count {v} {px} {py} {pz} {px'} {py'} {pz'} here fits short so-far x-long y-long z-long x y z =
+      record { point = λ q below. one q below (ltb q t) refl }
     where
       earlier : (q : ℕ) (l : List Float) {l' : List Float} (g : ℕ → Float) → l' ≡ filled t count g l → q < t → getD l' q past ≡ getD l q past
       earlier q l g e h = ap (λ (k : List Float). getD k q past) e ∙ getD-unfilled t count g l q past (λ from. omega arith)
 
-      now-set : (q : ℕ) → q < t + count → (l : List Float) {l' : List Float} (g : ℕ → Float) → length l ≡ 64 → l' ≡ filled t count g l → t ≤ q → getD l' q past ≡ g q
+      now-set :
+          (q : ℕ) → q < t + count → (l : List Float) {l' : List Float} (g : ℕ → Float) → length l ≡ 64
+          → l' ≡ filled t count g l → t ≤ q → getD l' q past ≡ g q
       now-set q below l g long e h = ap (λ (k : List Float). getD k q past) e ∙ getD-filled t count g l q past h below (omega arith)
 
-      one : (q : ℕ) → q < t + count → (b : Bool) → ltb q t ≡ b → vec3 (getD px' q past) (getD py' q past) (getD pz' q past) ≡ placePoint origin cell n (at + q)
+      one : (q : ℕ) → q < t + count → (b : Bool) → ltb q t ≡ b
+          → vec3 (getD px' q past) (getD py' q past) (getD pz' q past) ≡ placePoint origin cell n (at + q)
       one q below true test =
           let h : q < t = ltb-true q t test in
           (λ s. vec3 (earlier q px _ x h s) (earlier q py _ y h s) (earlier q pz _ z h s)) ∙ so-far .point q h
@@ -105,9 +110,16 @@ module _ (n : Vec3i) (x-above : 0 < n .i) (y-above : 0 < n .j) where
           (λ s. vec3 (now-set q below px _ x-long x h s) (now-set q below py _ y-long y h s) (now-set q below pz _ z-long z h s))
           ∙ ap (fieldPoint origin cell) (row-point (at + t) (q - t) here (omega arith) ∙ ap (pointAt n) there)
 
+-- a row of results stays as long as it was
+pub results-long : (l : Flat) (m len : ℕ) (px py pz before : List Float) {results : List Float}
+    → results ≡ modelRow l m len px py pz before → length before ≡ 64 → length results ≡ 64
+unfolding modelRow
+results-long l m len px py pz before row long = ap length row ∙ filled-length _ _ _ _ ∙ long
+
 -- the results of a run at its places
-pub run-filled : (l : Flat) (m : ℕ) (origin : Vec3) (cell : Float) (n : Vec3i) (at len : ℕ) (before values : List Float) {px py pz results last : List Float}
-    → len ≤ 64 → length results ≡ 64 → RunPoints origin cell n at len px py pz
+pub run-filled : (l : Flat) (m : ℕ) (origin : Vec3) (cell : Float) (n : Vec3i) (at len : ℕ) (before values : List Float)
+    {px py pz results last : List Float}
+    → len ≤ 64 → length before ≡ 64 → RunPoints origin cell n at len px py pz
     → results ≡ modelRow l m (min len 64) px py pz before
     → last ≡ filled at len (λ q. getD results (q - at) past) values
     → last ≡ filled at len (flatAt l m origin cell n) values
@@ -115,7 +127,6 @@ unfolding modelRow flatAt
 run-filled l m origin cell n at len before values {px} {py} {pz} {results} short long points row copied =
     let value : ℕ → Float = λ s. modelValue (partsOf l m) m (getD px s past) (getD py s past) (getD pz s past) in
     let cut : min len 64 ≡ len = min-eq-left short in
-    let before-long : length before ≡ 64 = sym (ap length row ∙ filled-length 0 (min len 64) value before) ∙ long in
     copied
     ∙ filled-same at len (λ q. getD results (q - at) past) (flatAt l m origin cell n) values
     (λ q from below.

@@ -27,7 +27,10 @@ use Rattle.dense_field.proofs.Lending.{lent}
 -- what is read past the end does not count where the six neighbours stand in the list
 pub neighbours-read : (n : Vec3i) (vs : List Float) (p : ℕ) → Between n p 1 (length vs) (length vs)
     → (let at : ℕ → Float = λ q. getD vs q nan in
-    add binary64 (add binary64 (add binary64 (add binary64 (add binary64 (at (p + 1)) (at (p - 1))) (at (p + n .i))) (at (p - n .i))) (at (p + n .i * n .j))) (at (p - n .i * n .j)))
+    add binary64
+    (add binary64
+    (add binary64 (add binary64 (add binary64 (at (p + 1)) (at (p - 1))) (at (p + n .i))) (at (p - n .i)))
+    (at (p + n .i * n .j))) (at (p - n .i * n .j)))
     ≡ neighbourSum n vs p
 unfolding neighbourSum
 neighbours-read n vs p w =
@@ -123,12 +126,16 @@ module _ (n : Vec3i) where
         let place : s + 1 + (n .i - 2) ≡ s + m = omega arith in
         let whole : m + 1 ≡ n .i = omega arith in
         let begun : a ≡ filled s 1 g l =
-        first ∙ (rw none at (stretch true (valueOf vs) stays j k 0 1 l hj (omega arith) (λ i above below. out-i n (vec3i i j k) (only-first i (n .i) (omega arith))))) in
+        first
+        ∙ (rw none at
+        (stretch true (valueOf vs) stays j k 0 1 l hj (omega arith)
+        (λ i above below. out-i n (vec3i i j k) (only-first i (n .i) (omega arith))))) in
         let middled : b ≡ filled s m g l =
         filled-more s 1 (n .i - 2) g l begun
         (middle
         ∙ stretch false (blendedAt n f vs) inner j k 1 (n .i - 2) a hj (omega arith)
-        (λ i above below. not-out n (vec3i i j k) (edge-none i (n .i) (omega arith) (omega arith)) (edge-none j (n .j) j-above j-below) (edge-none k (n .k) k-above k-below)))
+        (λ i above below. not-out n (vec3i i j k) (edge-none i (n .i) (omega arith) (omega arith))
+        (edge-none j (n .j) j-above j-below) (edge-none k (n .k) k-above k-below)))
         refl in
         filled-more s m 1 g l middled
         (last

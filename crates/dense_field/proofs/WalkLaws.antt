@@ -1,4 +1,5 @@
--- Walks: what holds where cause 11 does not apply, and that a walk from its start visits every point, or cell, once, in order, and then is done. So does the octet walker.
+-- Walks: what holds where cause 11 does not apply, and that a walk from its start visits every point, or cell, once,
+-- in order, and then is done. So does the octet walker.
 use mathlib.Core.Path.{_≡_, refl, sym, ap, _∙_}
 use mathlib.Core.Bool.{Bool, true, false, not, cond, _||_}
 use Prim.Native.Nat.{ℕ, zero, suc, _+_, _-_, _*_, _≤_, _<_}
@@ -23,7 +24,6 @@ use Rattle.dense_field.specs.declared.PointStep.the-variants as point
 use Rattle.dense_field.specs.declared.CellStep.the-variants as cell
 use Rattle.dense_field.specs.declared.OctetStep.{OctetStep}
 use Rattle.dense_field.specs.declared.OctetStep.the-variants as octet
-use Rattle.dense_field.specs.declared.OctetWalk.{OctetWalk}
 use Rattle.dense_field.specs.Field.{pointsOf, valuesRefused}
 use Rattle.dense_field.specs.Walks.{countRefused, walkRefused, walkPoint, walkCell, pointStep, cellStep, octetStep}
 use Rattle.dense_field.specs.Octets.{octetOf}
@@ -145,7 +145,12 @@ module _ (b : BoundingBox) (n : Vec3i) (box-passed : boxRefused b ≡ false) whe
     unfolding firstOf pointStep
     point-at p h =
         let v = indicesOf p (n .i) (n .j) in
-        simp (box-passed, walk-goes 2 n v s (column-below p (n .i) (n .j) x-some y-some) (line-below p (n .i) (n .j) x-some y-some), lt-ltb _ _ (slab-below p (n .i) (n .j) x-some y-some (n .k) h))
+        simp (
+          box-passed,
+          walk-goes 2 n v s (column-below p (n .i) (n .j) x-some y-some)
+              (line-below p (n .i) (n .j) x-some y-some),
+          lt-ltb _ _ (slab-below p (n .i) (n .j) x-some y-some (n .k) h),
+        )
         (ap (point.Point (walkPoint b n v)) (next-index n p x-some y-some))
 
     point-end : pointStep b n (vec3i 0 0 (n .k)) ≡ point.Done (vec3i 0 0 (n .k))
@@ -185,7 +190,11 @@ module _ (b : BoundingBox) (n : Vec3i) (box-passed : boxRefused b ≡ false) whe
     unfolding firstOf cellStep
     cell-at p h =
         let v = indicesOf p (n .i) (n .j) in
-        simp (box-passed, walk-goes 1 n v s (column-below p (n .i) (n .j) x-one y-one) (line-below p (n .i) (n .j) x-one y-one), lt-ltb _ _ (slab-below p (n .i) (n .j) x-one y-one (n .k) h))
+        simp (
+          box-passed,
+          walk-goes 1 n v s (column-below p (n .i) (n .j) x-one y-one) (line-below p (n .i) (n .j) x-one y-one),
+          lt-ltb _ _ (slab-below p (n .i) (n .j) x-one y-one (n .k) h),
+        )
         (ap (cell.Cell (walkCell b n v)) (next-index n p x-one y-one))
 
     cell-end : cellStep b n (vec3i 0 0 (n .k)) ≡ cell.Done (vec3i 0 0 (n .k))
@@ -229,7 +238,14 @@ module _ (n : Vec3i) (vs : List Float) (passed : valuesRefused n (length vs) ≡
   octet-at : (p : ℕ) → p < pointsOf cells → octetStep n (length vs) (cellIndex p) ≡ octet.Cell (cellIndex (suc p))
   unfolding octetStep
   octet-at p h =
-      simp (passed, ne-eqb (cells .i) 0 (λ e. omega arith), ne-eqb (cells .j) 0 (λ e. omega arith), lt-ltb _ _ (column-below p (cells .i) (cells .j) x-cell y-cell), lt-ltb _ _ (line-below p (cells .i) (cells .j) x-cell y-cell), lt-ltb _ _ (slab-below p (cells .i) (cells .j) x-cell y-cell (cells .k) h))
+      simp (
+        passed,
+        ne-eqb (cells .i) 0 (λ e. omega arith),
+        ne-eqb (cells .j) 0 (λ e. omega arith),
+        lt-ltb _ _ (column-below p (cells .i) (cells .j) x-cell y-cell),
+        lt-ltb _ _ (line-below p (cells .i) (cells .j) x-cell y-cell),
+        lt-ltb _ _ (slab-below p (cells .i) (cells .j) x-cell y-cell (cells .k) h),
+      )
       (ap octet.Cell (next-index cells p x-cell y-cell))
 
   octet-end : octetStep n (length vs) (vec3i 0 0 (cells .k)) ≡ octet.Done (vec3i 0 0 (cells .k))
@@ -292,7 +308,10 @@ module _ (n : Vec3i) (vs : List Float) (passed : valuesRefused n (length vs) ≡
   done-at-once = simp (passed) (one (eqb (n .i - 1) 0) (eqb (n .j - 1) 0) (ltb 0 (n .k - 1)) refl refl refl)
     where
       one : (x y z : Bool) → eqb (n .i - 1) 0 ≡ x → eqb (n .j - 1) 0 ≡ y → ltb 0 (n .k - 1) ≡ z
-          → cond (x || y || not z) (octet.Done (vec3i 0 0 0)) (cond (not (ltb 0 (n .i - 1)) || not (ltb 0 (n .j - 1))) (octet.Refused 10) (octet.Cell (nextIndices (vec3i 0 0 0) (n .i - 1) (n .j - 1)))) ≡ octet.Done (vec3i 0 0 0)
+          → cond (x || y || not z) (octet.Done (vec3i 0 0 0))
+          (cond (not (ltb 0 (n .i - 1)) || not (ltb 0 (n .j - 1))) (octet.Refused 10)
+          (octet.Cell (nextIndices (vec3i 0 0 0) (n .i - 1) (n .j - 1))))
+          ≡ octet.Done (vec3i 0 0 0)
       one true y z ex ey ez = refl
       one false true z ex ey ez = refl
       one false false false ex ey ez = refl

@@ -1,4 +1,6 @@
--- An octet walker, taken apart for a call of `octet_step`: what the call is passed, what it asks, and what it says. The walker is Copy: what it owns is had twice, one copy is kept whole, and the other's fields, in the callee's order, go to the callee beside the lifetime's token.
+-- An octet walker, taken apart for a call of `octet_step`: what the call is passed, what it asks, and what it says.
+-- The walker is Copy: what it owns is had twice, one copy is kept whole, and the other's fields, in the callee's
+-- order, go to the callee beside the lifetime's token.
 -- Assumes nothing.
 use mathlib.Core.Path.{_≡_}
 use mathlib.Core.List.{[], _∷_}
@@ -44,7 +46,9 @@ module _ {M : Type 1} (𝓤 : URA M) (H : Heap 𝓤) (A : Atoms 𝓤) (mem : Mem
   abbrev pub OctetAt : Contract 𝓤
   OctetAt = tripleOf 𝓤 H A octet.signature (octet.spec 𝓤 H A mem run)
 
-module _ {M : Type 1} (𝓤 : URA M) (H : Heap 𝓤) (A : Atoms 𝓤) (W : Given 𝓤 H A) (mem : Memory → SProp 𝓤) (run : Routine → Fun 𝓤) (α : NamedLft) (q : Share) (d : DenseCellValueIterator) where
+module _
+    {M : Type 1} (𝓤 : URA M) (H : Heap 𝓤) (A : Atoms 𝓤) (W : Given 𝓤 H A) (mem : Memory → SProp 𝓤)
+    (run : Routine → Fun 𝓤) (α : NamedLft) (q : Share) (d : DenseCellValueIterator) where
   -- the machine value of the values
   abbrev values : Val
   values = sliceVal (d .«data» .ptr) (length (d .«data» .now))
@@ -73,7 +77,11 @@ module _ {M : Type 1} (𝓤 : URA M) (H : Heap 𝓤) (A : Atoms 𝓤) (W : Given
   to = (((α .lft, tt), (q, tt), tt, args, passed), tt)
 
   asked : ent 𝓤 (onEntry 𝓤 H A octet.signature (α .lft, tt) (q, tt) args passed) (OctetAt 𝓤 H A mem run .pre to)
-  asked = qed W ((‵ (flft (α .lft) q) ⊛ ‵ ftrue) ∷ ‵ (owns (P.the-row ∷ ShrSlice (named 0) (α .lft) f64 ∷ P.the-row ∷ []) args passed) ∷ []) ∵ join ! $ frame ! $ done !
+  asked =
+      qed W
+      ((‵ (flft (α .lft) q) ⊛ ‵ ftrue) ∷ ‵
+      (owns (P.the-row ∷ ShrSlice (named 0) (α .lft) f64 ∷ P.the-row ∷ []) args passed) ∷ []) ∵ join ! $
+      frame ! $ done !
 
   -- what the walker owns gives what the callee asks, and is kept
   pub apart : ent 𝓤 (⋆ 𝓤 H A (‵ Own ∷ (‵ (flft (α .lft) q) ⊛ ‵ ftrue) ∷ [])) (sep 𝓤 (OctetAt 𝓤 H A mem run .pre to) (sem 𝓤 H A Own))

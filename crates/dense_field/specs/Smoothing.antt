@@ -22,7 +22,9 @@ neighbourSum n vs p =
     let at : ℕ → Float = λ q. getD vs q plusZero in
     let row = n .i in
     let slab = n .i * n .j in
-    add binary64 (add binary64 (add binary64 (add binary64 (add binary64 (at (p + 1)) (at (p - 1))) (at (p + row))) (at (p - row))) (at (p + slab))) (at (p - slab))
+    add binary64
+    (add binary64 (add binary64 (add binary64 (add binary64 (at (p + 1)) (at (p - 1))) (at (p + row))) (at (p - row)))
+    (at (p + slab))) (at (p - slab))
 
 -- (1 - f) × v + f × (sum / 6) (rule D7)
 unfoldable pub blended : (f v sum : Float) → Float

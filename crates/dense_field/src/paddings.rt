@@ -2,7 +2,7 @@
 // slab those of one k.
 ghost use mathlib.Core.Path.{_≡_};
 ghost use mathlib.Core.Bool.{cond};
-ghost use Prim.Native.Nat.{_+_, _*_, _≤_, _<_};
+ghost use Prim.Native.Nat.{_+_, _*_, _<_};
 ghost use lib.ListN.{length};
 ghost use Rattle.lists.specs.Filled.{filled};
 ghost use Rattle.dense_field.specs.Field.{valuesRefused};
@@ -12,18 +12,6 @@ ghost use Rattle.dense_field.specs.Padding.{paddedAt, padded};
 use crate::Outcome;
 use crate::counts;
 use geometry::Vec3i;
-
-// Sets `count` values from `at` on.
-pub fn fill(value: f64, values: &mut [f64], at: usize, count: usize)
-    requires { ⌜ at + count ≤ length (now values) ⌝ }
-    ensures { λ _. ⌜ now (values .exit) ≡ filled at count (λ _. value) (now (values .entry)) ⌝ }
-{
-    let mut i = 0;
-    while i < count {
-        values[at + i] = value;
-        i += 1;
-    }
-}
 
 // One row of an inner slab: all of an outer row, and the two ends of an inner one.
 fn pad_row(n: Vec3i, value: f64, values: &mut [f64], j: usize, k: usize)
@@ -35,11 +23,11 @@ fn pad_row(n: Vec3i, value: f64, values: &mut [f64], j: usize, k: usize)
     let row = n.i;
     let at = k * (n.i * n.j) + j * row;
     if j == 0 {
-        fill(value, values, at, row);
+        slices::fill_floats(value, values, at, row);
         return;
     }
     if j + 1 == n.j {
-        fill(value, values, at, row);
+        slices::fill_floats(value, values, at, row);
         return;
     }
     values[at] = value;
@@ -54,11 +42,11 @@ fn pad_slab(n: Vec3i, value: f64, values: &mut [f64], k: usize)
 {
     let slab = n.i * n.j;
     if k == 0 {
-        fill(value, values, k * slab, slab);
+        slices::fill_floats(value, values, k * slab, slab);
         return;
     }
     if k + 1 == n.k {
-        fill(value, values, k * slab, slab);
+        slices::fill_floats(value, values, k * slab, slab);
         return;
     }
     let mut j = 0;

@@ -4,14 +4,13 @@
 ghost use mathlib.Core.Path.{_≡_};
 ghost use mathlib.Core.Bool.{cond};
 ghost use mathlib.Core.List.{map};
-ghost use Prim.Native.Nat.{min, _+_, _-_, _*_, _≤_, _<_};
+ghost use Prim.Native.Nat.{min, _+_, _*_, _≤_, _<_, _-_};
 ghost use lib.Dec.{eqb};
-ghost use lib.ListN.{length, getD};
+ghost use lib.ListN.{length};
 ghost use Rattle.lists.specs.Tabulate.{tabulate};
 ghost use Rattle.lists.specs.Filled.{filled};
-ghost use Rattle.geometry.specs.Index.{indicesOf};
 ghost use Rattle.model.specs.Flat.{flatIn};
-ghost use Rattle.model.specs.Part.{past, partIn};
+ghost use Rattle.model.specs.Part.{partIn};
 ghost use Rattle.dense_field.specs.Field.{pointsOf};
 ghost use Rattle.dense_field.specs.Inner.Lent.{Lent, Run};
 ghost use Rattle.dense_field.specs.Runs.{sampleCause, sampleOutcome};
@@ -19,7 +18,6 @@ ghost use Rattle.dense_field.specs.Inner.Runs.{axisPoint, RunPoints, fla
 ghost use Rattle.dense_field.specs.Sampling.{sampled};
 use crate::Outcome;
 use crate::counts;
-use crate::paddings;
 use geometry::Vec3;
 use geometry::Vec3i;
 use model::ImplicitModel;
@@ -63,19 +61,9 @@ fn fill_stretch(
 {
     fill_along(origin.x, cell, first.i, px, at, count);
     let y = axis_point(origin.y, cell, first.j);
-    paddings::fill(y, py, at, count);
+    slices::fill_floats(y, py, at, count);
     let z = axis_point(origin.z, cell, first.k);
-    paddings::fill(z, pz, at, count);
-}
-
-// The indices of a place.
-fn point_at(n: Vec3i, at: usize) -> Vec3i
-    requires { ⌜ (0 < n .i) × (0 < n .j) × (n .i * n .j ≤ 16777216) ⌝ }
-    ensures { λ r. ⌜ r ≡ indicesOf at (n .i) (n .j) ⌝ }
-{
-    let slab = n.i * n.j;
-    let rest = at % slab;
-    Vec3i::new(rest % n.i, rest / n.i, at / slab)
+    slices::fill_floats(z, pz, at, count);
 }
 
 // The lesser of two numbers above 0.
@@ -100,7 +88,7 @@ fn fill_points(
     requires { ⌜ Run n at len ⌝ }
     ensures { λ _. ⌜ RunPoints origin cell n at len (now (px .exit)) (now (py .exit)) (now (pz .exit)) ⌝ }
 {
-    let mut first = point_at(n, at);
+    let mut first = geometry::indices(at, n.i, n.j);
     let mut t: usize = 0;
     while t < len {
         let count = lesser(n.i - first.i, len - t);
@@ -111,46 +99,8 @@ fn fill_points(
     }
 }
 
-// Copies `count` results to the values from `at` on.
-fn copy_run(results: &[f64], values: &mut [f64], at: usize, count: usize)
-    requires { ⌜ (count ≤ length (now results)) × (at + count ≤ length (now values)) ⌝ }
-    ensures { λ _. ⌜ now (values .exit) ≡ filled at count (λ q. getD (now (results .entry)) (q - at) past) (now (values .entry)) ⌝ }
-{
-    let mut t = 0;
-    while t < count {
-        values[at + t] = results[t];
-        t += 1;
-    }
-}
-
-// The values at the `len` places from `at` on, whatever rows they are in. The four rows of 64 are
-// lent, and hold the points and the results of the run.
-fn sample_run(
-    words: &[u32; 192],
-    numbers: &[f64; 256],
-    count: usize,
-    origin: Vec3,
-    cell: f64,
-    n: Vec3i,
-    at: usize,
-    len: usize,
-    scratch: &mut [f64; 4096],
-    px: &mut [f64; 64],
-    py: &mut [f64; 64],
-    pz: &mut [f64; 64],
-    results: &mut [f64; 64],
-    values: &mut [f64],
-)
-    requires { ⌜ Lent n (length (now values)) ⌝ }
-    requires { ⌜ (at + len ≤ length (now values)) × (len ≤ 64) ⌝ }
-    ensures { λ _. ⌜ now (values .exit) ≡ filled at len (flatAt (flatIn words numbers) (min count 64) origin cell n) (now (values .entry)) ⌝ }
-{
-    fill_points(origin, cell, n, at, len, px, py, pz);
-    model::evaluate_row_into(words, numbers, count, px, py, pz, len, scratch, results);
-    copy_run(results, values, at, len);
-}
-
-// The values at all places, in runs of up to 64.
+// The values at all places, in runs of up to 64, whatever rows their places are in. Four rows of 64
+// hold the points and the results of a run.
 fn sample_places(
     words: &[u32; 192],
     numbers: &[f64; 256],
@@ -158,35 +108,32 @@ fn sample_places(
     origin: Vec3,
     cell: f64,
     n: Vec3i,
-    scratch: &mut [f64; 4096],
-    px: &mut [f64; 64],
-    py: &mut [f64; 64],
-    pz: &mut [f64; 64],
-    results: &mut [f64; 64],
     values: &mut [f64],
 )
     requires { ⌜ Lent n (length (now values)) ⌝ }
     ensures { λ _. ⌜ now (values .exit) ≡ tabulate (pointsOf n) (flatAt (flatIn words numbers) (min count 64) origin cell n) ⌝ }
 {
+    let mut scratch = [0.0; 4096];
+    let mut px = [0.0; 64];
+    let mut py = [0.0; 64];
+    let mut pz = [0.0; 64];
+    let mut results = [0.0; 64];
     let mut at = 0;
     while at < values.len() {
         let len = lesser(values.len() - at, 64);
-        sample_run(
+        fill_points(origin, cell, n, at, len, &mut px, &mut py, &mut pz);
+        model::evaluate_row_into(
             words,
             numbers,
             count,
-            origin,
-            cell,
-            n,
-            at,
+            &px,
+            &py,
+            &pz,
             len,
-            scratch,
-            px,
-            py,
-            pz,
-            results,
-            values,
+            &mut scratch,
+            &mut results,
         );
+        slices::copy_floats(&results, values, at, len);
         at += len;
     }
 }
@@ -228,24 +175,6 @@ pub fn sample(
     let mut numbers = [0.0; 256];
     model::lay_out(model, &mut words, &mut numbers);
     let count = model.count as usize;
-    let mut scratch = [0.0; 4096];
-    let mut px = [0.0; 64];
-    let mut py = [0.0; 64];
-    let mut pz = [0.0; 64];
-    let mut results = [0.0; 64];
-    sample_places(
-        &words,
-        &numbers,
-        count,
-        origin,
-        cell,
-        n,
-        &mut scratch,
-        &mut px,
-        &mut py,
-        &mut pz,
-        &mut results,
-        values,
-    );
+    sample_places(&words, &numbers, count, origin, cell, n, values);
     Outcome::Done
 }

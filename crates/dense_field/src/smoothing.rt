@@ -16,22 +16,7 @@ fn copy_values(old: &[f64], new: &mut [f64], at: usize, count: usize)
     requires { ⌜ (at + count ≤ length (now old)) × (length (now new) ≡ length (now old)) ⌝ }
     ensures { λ _. ⌜ now (new .exit) ≡ filled at count (valueOf (now (old .entry))) (now (new .entry)) ⌝ }
 {
-    let mut i = 0;
-    while i < count {
-        new[at + i] = old[at + i];
-        i += 1;
-    }
-}
-
-// Sets every value to +0.
-fn clear(values: &mut [f64])
-    ensures { λ _. ⌜ now (values .exit) ≡ replicate (length (now (values .entry))) plusZero ⌝ }
-{
-    let mut i = 0;
-    while i < values.len() {
-        values[i] = 0.0;
-        i += 1;
-    }
+    slices::copy_floats(&old[at..], new, at, count);
 }
 
 // The sum of a point's six neighbours.
@@ -177,6 +162,6 @@ pub fn smooth(
     }
     let count = values.len();
     smooth_rounds(n, factor, rounds, values, &mut scratch[..count]);
-    clear(scratch);
+    slices::zero_floats(scratch);
     Outcome::Done
 }

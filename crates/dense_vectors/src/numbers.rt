@@ -81,15 +81,6 @@ pub fn box_at(fields: &[u64; 160], at: usize) -> BoundingBox
     BoundingBox::new(point_at(fields, at), point_at(fields, at + 3))
 }
 
-// Sets every value of a slice.
-pub fn set_all(values: &mut [f64], value: f64) {
-    let mut i = 0;
-    while i < values.len() {
-        values[i] = value;
-        i += 1;
-    }
-}
-
 // Sets a slice to the floats from a place on.
 pub fn values_at(fields: &[u64; 160], at: usize, values: &mut [f64])
     requires { ⌜ at + length (now values) ≤ 160 ⌝ }

@@ -81,7 +81,7 @@ pub fn sample(fields: &[u64; 160], values: &mut [f64], answers: &mut [u64; 160])
     let cell = numbers::float_at(fields, 3);
     let n = numbers::counts_at(fields, 4);
     let model = model_at(fields, numbers::short_at(fields, 8));
-    numbers::set_all(values, BEFORE);
+    slices::fill_floats(BEFORE, values, 0, len);
     let done = dense_field::sample(model, origin, cell, n, values);
     answers[0] = numbers::outcome(done);
     numbers::put_values(answers, 1, values, len);

@@ -72,7 +72,8 @@ pub fn smooth(
     let factor = numbers::float_at(fields, 3);
     let rounds = numbers::short_at(fields, 4);
     numbers::values_at(fields, 6, values);
-    numbers::set_all(scratch, BEFORE);
+    let room = scratch.len();
+    slices::fill_floats(BEFORE, scratch, 0, room);
     let done = dense_field::smooth(n, factor, rounds, values, scratch);
     answers[0] = numbers::outcome(done);
     answers[1] = scratch_after(scratch);

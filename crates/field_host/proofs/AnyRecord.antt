@@ -5,9 +5,10 @@ use Rattle.schedule.specs.Memory.{Memory}
 use Rattle.schedule.specs.Opened.{lengthsOf}
 use Rattle.schedule.specs.Calls.{opens, drops}
 use Rattle.schedule.specs.Engine.{engineCall, engineOpen}
-use Rattle.sparse_field.specs.declared.Input.{Input}
+use Rattle.input.specs.declared.Input.{Input}
 use Rattle.sparse_field.specs.declared.Record.{Record}
-use Rattle.sparse_field.specs.Records.{sparse, recordIn, noRecord}
+use Rattle.plans.specs.Sparse.{sparse}
+use Rattle.sparse_field.specs.Records.{recordIn, noRecord}
 use Rattle.sparse_field.specs.Calls.{handed, called}
 use Rattle.field_host.specs.Carried.{Carried, decoded}
 use Rattle.field_host.specs.Hosted.{Hosted, answerNumber, leftBy, hostedBy, hosted}

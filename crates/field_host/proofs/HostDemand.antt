@@ -14,8 +14,9 @@ use Rattle.model.specs.declared.ModelComponent.{ModelComponent}
 use Rattle.model.specs.Flat.{Flat, flatOf}
 use Rattle.model.proofs.Accepted.{count-le}
 use Rattle.schedule.specs.Memory.{Memory}
-use Rattle.schedule.specs.Opened.{Lengths, lengthsOf, stateAt}
-use Rattle.schedule.specs.Calls.{opens, steps, drops, refused, run}
+use Rattle.input.specs.declared.Lengths.{Lengths}
+use Rattle.schedule.specs.Opened.{lengthsOf, stateAt}
+use Rattle.schedule.specs.Calls.{opens, steps, run}
 use Rattle.schedule.specs.Engine.{advanced, engineCall, engineOpen, engineStepJob}
 use Rattle.schedule.specs.Possible.{impossible}
 use Rattle.schedule.specs.Ledger.{noEntry, entry}
@@ -24,21 +25,23 @@ use Rattle.schedule.specs.JobRecord.{noJob, atEnd}
 use Rattle.schedule.specs.Implements.{Implements}
 use Rattle.schedule.proofs.Implements.{implements-ledger, implements-drop, implements-elements, implements-finished}
 use Rattle.schedule.proofs.Possible.{possible}
-use Rattle.sparse_field.specs.declared.Input.{Input}
+use Rattle.input.specs.declared.Input.{Input}
 use Rattle.sparse_field.specs.declared.Record.{Record}
-use Rattle.sparse_field.specs.Plan.{planOf}
-use Rattle.sparse_field.specs.Records.{sparse, lent, jobIn, recordIn, cursorIn, byFlag, noRecord, noModel}
+use Rattle.plans.specs.Plan.{planOf}
+use Rattle.plans.specs.Sparse.{sparse}
+use Rattle.sparse_field.specs.Records.{jobIn, recordIn, byFlag, noRecord, noModel}
 use Rattle.sparse_field.specs.Calls.{Handed, handed, called}
 use Rattle.sparse_field.specs.Inner.Parts.{openedRecord, openedMemory}
-use Rattle.sparse_field.specs.Lists.{Held, answerIn}
-use Rattle.sparse_field.proofs.Opening.{sized, nothing, sparse-laws, long-enough}
+use Rattle.sparse_field.specs.CallLists.{Held}
+use Rattle.sparse_field.proofs.Opening.{sized, nothing}
+use Rattle.plans.proofs.Lawful.{sparse-laws, long-enough}
 use Rattle.sparse_field.proofs.CallLaws.{refusedBy, acceptedWith, step-none, step-impossible, step-accepted, drop-accepted}
 use Rattle.sparse_field.proofs.Demand.{implemented}
 use Rattle.field_host.specs.Given.{inputGiven}
 use Rattle.field_host.specs.Carried.{Carried, inputIn, fits, flagged, recordGiven, unread, decoded, encoded}
 use Rattle.field_host.specs.Hosted.{answerNumber, leftBy, carriedAfter, hosted}
 use Rattle.field_host.specs.Demand.{NoJob, HostDemandThree, HostDropLeavesZeros, HostEqualBudgets, HostFinishedField, recordAfter}
-use Rattle.field_host.specs.Lists.{HostCall, opensWith, stepsBy, dropsAll, callOf, Station, answerOf, onStation, engineAt}
+use Rattle.field_host.specs.HostLists.{HostCall, opensWith, stepsBy, dropsAll, callOf, Station, answerOf, onStation, engineAt}
 use Rattle.field_host.proofs.RecordBack.{record-back}
 use Rattle.field_host.proofs.Unread.{no-flag}
 
@@ -58,7 +61,7 @@ back r c = record-back r (c .inner) (c .leaf) (c .count) (c .long)
 no-cause-codable : (i : Input) (l : Lengths) → sparse .cause l i ≡ 0 → length (i .model .parts) ≡ 64 → Codable i
 no-cause-codable i l none long =
     let free = nothing i l none in
-    let size = sized (i .grid) free in
+    let size = sized i free in
     record {
       inner = omega (arith, size .innerMost);
       leaf = omega (arith, size .leafMost);
@@ -99,7 +102,7 @@ module _ (s : Station) where
 
   -- of what a call hands back: its number is its answer, and the arrays read as its record
   record HandedOn (h : Handed) : Type 0 where
-    answer : answerOf (answerNumber (h .outcome .answer)) ≡ answerIn (h .outcome .answer)
+    answer : answerOf (answerNumber (h .outcome .answer)) ≡ h .outcome .answer
     next : decoded (carriedAfter (h .outcome) old) ≡ h .outcome .next
 
   refused-on : (n : ℕ) → HandedOn (refusedBy (suc n) found m)
@@ -175,4 +178,4 @@ pub host-finished-field : HostFinishedField
 host-finished-field cs s none flag ends =
     let r = recordAfter cs s in
     implements-finished sparse HostCall Station callOf engineAt onStation host-implemented sparse-laws s (no-job s none) long-enough cs (jobIn r)
-    (ap (λ b. byFlag b r) flag) (ap (λ a. atEnd (cursorIn a)) ends)
+    (ap (λ b. byFlag b r) flag) (ap (λ a. atEnd a) ends)

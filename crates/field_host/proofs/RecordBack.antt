@@ -1,4 +1,5 @@
--- Encoding a record and decoding it gives it back: for every record of 64 parts whose block sizes and part count have 32 bits, as the code's have by their types.
+-- Encoding a record and decoding it gives it back: for every record of 64 parts whose block sizes and part count have
+-- 32 bits, as the code's have by their types.
 use mathlib.Core.Path.{_≡_, refl, sym, _∙_}
 use mathlib.Core.Bool.{Bool, true, false}
 use mathlib.Core.List.{List, [], _∷_, map}
@@ -18,8 +19,8 @@ use Rattle.model.specs.Part.{past, partIn}
 use Rattle.model.specs.Model.{partOf}
 use Rattle.model.specs.Flat.{codeOf, firstInput, secondInput, vectorOf, numberOf, wordEntries, numberEntries, layoutOf, partFrom}
 use Rattle.model.proofs.EntryRows.{first-row, row-entry}
-use Rattle.sparse_field.specs.declared.Cursor.{Cursor}
-use Rattle.sparse_field.specs.declared.Cursor.the-variants.{End, Corner, Point}
+use Rattle.schedule.specs.declared.Cursor.{Cursor}
+use Rattle.schedule.specs.declared.Cursor.the-variants.{End, Corner, Point}
 use Rattle.sparse_field.specs.declared.Record.{Record}
 use Rattle.field_host.specs.Given.{partCoded, partGiven, componentGiven, inputGiven}
 use Rattle.field_host.specs.Carried.{flagWord, flagged, cursorTag, cursorNode, cursorPlace, cursorPoint, cursorOf, wordsOf, fits, decoded, encoded}

@@ -1,4 +1,5 @@
--- What is handed in is judged: a part's code that does not exist is cause 4, a first word of 0 is no job, and words with a job that no record has are refused by 8.
+-- What is handed in is judged: a part's code that does not exist is cause 4, a first word of 0 is no job, and words
+-- with a job that no record has are refused by 8.
 use Prim.Native.Nat.{ℕ, _<_}
 use mathlib.Core.Path.{_≡_, refl, sym, ap, _∙_}
 use mathlib.Core.Bool.{Bool, true, false, not, cond}
@@ -16,13 +17,14 @@ use Rattle.model.specs.Flat.{Flat}
 use Rattle.model.proofs.InOrder.{ordered-at}
 use Rattle.model.proofs.Accepted.{count-le, in-order}
 use Rattle.grid.specs.Blocks.{isBlock}
-use Rattle.grid.specs.Causes.{refusedByTwo}
+use Rattle.grid.specs.Limits.{refusedByTwo}
 use Rattle.schedule.specs.Memory.{Memory}
 use Rattle.schedule.specs.Opened.{lengthsOf}
 use Rattle.schedule.specs.Calls.{steps}
 use Rattle.schedule.specs.Possible.{impossible}
 use Rattle.schedule.proofs.Possible.{possible}
-use Rattle.sparse_field.specs.Records.{sparse, jobIn}
+use Rattle.plans.specs.Sparse.{sparse}
+use Rattle.sparse_field.specs.Records.{jobIn}
 use Rattle.sparse_field.specs.Calls.{called}
 use Rattle.sparse_field.proofs.Opening.{nothing}
 use Rattle.sparse_field.proofs.CallLaws.{step-none, step-impossible}

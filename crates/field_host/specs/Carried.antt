@@ -9,11 +9,11 @@ use lib.Ieee.{Float}
 use Rattle.lists.specs.Slices.{LentSlice}
 use Rattle.model.specs.Part.{partIn}
 use Rattle.model.specs.Flat.{flatOf, layoutOf}
-use Rattle.grid.specs.declared.Lengths.{Lengths}
-use Rattle.sparse_field.specs.declared.Input.{Input}
-use Rattle.sparse_field.specs.declared.Counts.{Counts}
-use Rattle.sparse_field.specs.declared.Cursor.{Cursor}
-use Rattle.sparse_field.specs.declared.Cursor.the-variants.{End, Corner, Point}
+use Rattle.input.specs.declared.Lengths.{Lengths}
+use Rattle.input.specs.declared.Input.{Input}
+use Rattle.schedule.specs.declared.Counts.{Counts}
+use Rattle.schedule.specs.declared.Cursor.{Cursor}
+use Rattle.schedule.specs.declared.Cursor.the-variants.{End, Corner, Point}
 use Rattle.sparse_field.specs.declared.Record.{Record}
 use Rattle.sparse_field.specs.Records.{noRecord}
 use Rattle.field_host.specs.Given.{inputGiven}
@@ -71,7 +71,7 @@ wordsOf r =
     flagWord (r .job)
     ∷ r .input .grid .inner ∷ r .input .grid .leaf ∷ r .input .model .count
     ∷ r .lengths .kinds ∷ r .lengths .numbers ∷ r .lengths .places ∷ r .lengths .store ∷ r .lengths .corners
-    ∷ r .counts .nodes ∷ r .counts .active ∷ r .counts .leaves ∷ r .counts .sampled ∷ r .counts .evaluations
+    ∷ r .counts .grid .nodes ∷ r .counts .grid .active ∷ r .counts .leaves ∷ r .counts .sampled ∷ r .counts .evaluations
     ∷ cursorWords (r .cursor)
 
 abbrev pub settingsOf : Input → List Float
@@ -103,7 +103,7 @@ lengthsGiven ws =
 
 abbrev pub countsGiven : List ℕ → Counts
 countsGiven ws =
-    record { nodes = getD ws 9 0; active = getD ws 10 0; leaves = getD ws 11 0; sampled = getD ws 12 0; evaluations = getD ws 13 0 }
+    record { grid = record { nodes = getD ws 9 0; active = getD ws 10 0 }; leaves = getD ws 11 0; sampled = getD ws 12 0; evaluations = getD ws 13 0 }
 
 unfoldable pub cursorOf : (tag node place point : ℕ) → Cursor
 cursorOf zero node place point = End

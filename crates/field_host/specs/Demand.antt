@@ -12,13 +12,13 @@ use Rattle.schedule.specs.Calls.{run}
 use Rattle.schedule.specs.Ledger.{noEntry, entry, ledgerCall, firstLedger}
 use Rattle.schedule.specs.Agree.{Agree}
 use Rattle.schedule.specs.Implements.{viewRun}
-use Rattle.sparse_field.specs.declared.Input.{Input}
-use Rattle.sparse_field.specs.declared.Cursor.the-variants.{End}
+use Rattle.input.specs.declared.Input.{Input}
+use Rattle.schedule.specs.declared.Cursor.the-variants.{End}
 use Rattle.sparse_field.specs.declared.Record.{Record}
-use Rattle.sparse_field.specs.Plan.{planOf}
-use Rattle.sparse_field.specs.Records.{sparse}
+use Rattle.plans.specs.Plan.{planOf}
+use Rattle.plans.specs.Sparse.{sparse}
 use Rattle.field_host.specs.Carried.{decoded}
-use Rattle.field_host.specs.Lists.{HostCall, dropsAll, callOf, Station, onStation, engineAt}
+use Rattle.field_host.specs.HostLists.{HostCall, dropsAll, callOf, Station, onStation, engineAt}
 
 -- arrays without a job: the first word is 0, whatever else they hold
 abbrev pub NoJob : Station → Type 0

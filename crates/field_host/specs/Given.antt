@@ -13,7 +13,7 @@ use Rattle.geometry.specs.declared.Vec3i.{Vec3i}
 use Rattle.geometry.specs.declared.BoundingBox.{BoundingBox}
 use Rattle.geometry.specs.Values.{vec3, vec3i, box}
 use Rattle.grid.specs.declared.Grid.{Grid}
-use Rattle.sparse_field.specs.declared.Input.{Input}
+use Rattle.input.specs.declared.Input.{Input}
 use Rattle.model.specs.declared.Part.{Part}
 use Rattle.model.specs.declared.Part.the-variants.{Neg}
 use Rattle.model.specs.declared.ModelComponent.{ModelComponent}

@@ -5,12 +5,12 @@ use mathlib.Core.List.{List, [], _∷_}
 use lib.Dec.{eqb}
 use lib.ListN.{getD}
 use Rattle.schedule.specs.Memory.{Memory}
-use Rattle.sparse_field.specs.declared.Counts.{Counts}
-use Rattle.sparse_field.specs.declared.Answer.{Answer}
-use Rattle.sparse_field.specs.declared.Answer.the-variants.{Accepted, Refused}
+use Rattle.schedule.specs.declared.Counts.{Counts}
+use Rattle.schedule.specs.declared.Answer.{Answer}
+use Rattle.schedule.specs.declared.Answer.the-variants.{Accepted, Refused}
 use Rattle.sparse_field.specs.declared.Outcome.{Outcome}
 use Rattle.sparse_field.specs.Calls.{Handed, called}
-use Rattle.sparse_field.specs.Lists.{Call}
+use Rattle.sparse_field.specs.CallLists.{Call}
 use Rattle.field_host.specs.Carried.{Carried, encoded, fits, decoded}
 
 -- the number of an answer, 0 for an accepted call
@@ -45,4 +45,4 @@ unfoldable pub wordsNumber : List ℕ → ℕ
 wordsNumber ws = cond (eqb (getD ws 0 0) 0) 7 (cond (fits ws) 0 8)
 
 abbrev pub countsList : Counts → List ℕ
-countsList c = c .nodes ∷ c .active ∷ c .leaves ∷ c .sampled ∷ c .evaluations ∷ []
+countsList c = c .grid .nodes ∷ c .grid .active ∷ c .leaves ∷ c .sampled ∷ c .evaluations ∷ []

@@ -3,6 +3,6 @@ pub mod Given
 pub mod Carried
 pub mod Hosted
 pub mod Answers
-pub mod Lists
+pub mod HostLists
 pub mod Demand
 pub mod Needed

@@ -9,7 +9,7 @@ ghost use Rattle.field_host.specs.Carried.{carriedIn, carriedOut};
 ghost use Rattle.field_host.specs.Hosted.{answerNumber, carriedAfter, hosted};
 use crate::given::input_given;
 use crate::record;
-use sparse_field::Answer;
+use schedule::Answer;
 use sparse_field::Outcome;
 
 // Writes the record that an accepted call hands back, and answers the call's number.

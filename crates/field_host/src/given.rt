@@ -5,12 +5,12 @@ ghost use Rattle.model.specs.Flat.{flatIn, partFrom};
 ghost use Rattle.field_host.specs.Given.{inputLent, boxGiven, boxIn, partCoded, componentGiven, modelGiven};
 use geometry::BoundingBox;
 use geometry::Vec3;
-use grid::Band;
 use grid::Grid;
+use input::Band;
+use input::Input;
 use model::ImplicitModel;
 use model::ModelComponent;
 use model::Part;
-use sparse_field::Input;
 
 // The box of two ends.
 pub fn box_of(x0: f64, y0: f64, z0: f64, x1: f64, y1: f64, z1: f64) -> BoundingBox

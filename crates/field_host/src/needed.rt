@@ -1,31 +1,12 @@
 // How long the slices of a job have to be.
 ghost use mathlib.Core.Path.{_≡_};
-ghost use mathlib.Core.Bool.{false};
-ghost use Rattle.grid.specs.Causes.{refusedByTwo, refusedByFive};
 ghost use Rattle.field_host.specs.Given.{inputLent};
-ghost use Rattle.field_host.specs.Needed.{neededLengths, lengthList, anyRefusal, refusalNumber, lengthsLeft};
+ghost use Rattle.field_host.specs.Needed.{anyRefusal, lengthsLeft};
+ghost use Rattle.input.specs.Causes.{numberOf};
 use crate::given::input_given;
-use grid::Grid;
-use grid::Lengths;
-use grid::Refusal;
-use sparse_field::Input;
-
-// The lengths that a grid's jobs need.
-fn needed_lengths(g: Grid) -> Lengths
-    requires { ⌜ (refusedByTwo g ≡ false) × (refusedByFive g ≡ false) ⌝ }
-    ensures { λ r. ⌜ r ≡ neededLengths g ⌝ }
-{
-    let inner = g.inner as usize;
-    let children = grid::node_total(g) * grid::cube_of(inner);
-    let store = grid::active_children(g) as usize * grid::cube_of(g.leaf as usize);
-    Lengths {
-        kinds: children,
-        numbers: children,
-        places: children,
-        store,
-        corners: grid::cube_of(inner + 1),
-    }
-}
+use input::Input;
+use input::Lengths;
+use input::Refusal;
 
 // The cause that an open of the input meets on the longest slices.
 fn any_refusal(input: Input) -> Refusal
@@ -39,7 +20,7 @@ fn any_refusal(input: Input) -> Refusal
         store: most,
         corners: most,
     };
-    grid::open_refusal(input.grid, input.band, input.model, longest)
+    input::open_refusal(input, longest)
 }
 
 // Writes the lengths of kinds, numbers, places, store and corners that an open of this input needs.
@@ -54,7 +35,7 @@ pub extern "C" fn jisampode_lengths(
     count: u32,
     lengths: &mut [usize; 5],
 ) -> u32
-    ensures answer { λ r. ⌜ r ≡ refusalNumber (anyRefusal (inputLent settings inner leaf parts reals count)) ⌝ }
+    ensures answer { λ r. ⌜ r ≡ numberOf (anyRefusal (inputLent settings inner leaf parts reals count)) ⌝ }
     ensures lengths { λ _. ⌜ now (lengths .exit)
         ≡ lengthsLeft (now (lengths .entry)) (anyRefusal (inputLent settings inner leaf parts reals count))
         (inputLent settings inner leaf parts reals count .grid) ⌝ }
@@ -64,7 +45,7 @@ pub extern "C" fn jisampode_lengths(
     if let Refusal::By(number) = refusal {
         return number;
     }
-    let l = needed_lengths(input.grid);
+    let l = input::needed_lengths(input.grid);
     *lengths = [l.kinds, l.numbers, l.places, l.store, l.corners];
     0
 }

@@ -27,7 +27,14 @@ pub extern "C" fn jisampode_counts(record_words: &[u64; 18], counts: &mut [u64; 
     let number = words_number(record_words);
     if number == 0 {
         let c = record::counts_given(record_words);
-        *counts = [c.nodes, c.active, c.leaves, c.sampled, c.evaluations];
+        let counted = c.grid;
+        *counts = [
+            counted.nodes,
+            counted.active,
+            c.leaves,
+            c.sampled,
+            c.evaluations,
+        ];
     }
     number
 }

@@ -22,10 +22,11 @@ ghost use Rattle.field_host.specs.Carried.{
   encoded,
 };
 use crate::given::input_given;
-use grid::Lengths;
-use sparse_field::Counts;
-use sparse_field::Cursor;
-use sparse_field::Input;
+use grid::GridCounts;
+use input::Input;
+use input::Lengths;
+use schedule::Counts;
+use schedule::Cursor;
 use sparse_field::Record;
 
 // Whether the words are those of some record: a flag of 0 or 1, block sizes and a count of 32 bits, one
@@ -66,8 +67,10 @@ pub fn counts_given(words: &[u64; 18]) -> Counts
     ensures { λ r. ⌜ r ≡ countsGiven (now (words .entry)) ⌝ }
 {
     Counts {
-        nodes: words[9],
-        active: words[10],
+        grid: GridCounts {
+            nodes: words[9],
+            active: words[10],
+        },
         leaves: words[11],
         sampled: words[12],
         evaluations: words[13],
@@ -199,6 +202,7 @@ fn put_words(r: Record, words: &mut [u64; 18])
     let model = input.model;
     let l = r.lengths;
     let c = r.counts;
+    let counted = c.grid;
     let cursor = r.cursor;
     let at = cursor_words(cursor);
     *words = [
@@ -211,8 +215,8 @@ fn put_words(r: Record, words: &mut [u64; 18])
         l.places as u64,
         l.store as u64,
         l.corners as u64,
-        c.nodes,
-        c.active,
+        counted.nodes,
+        counted.active,
         c.leaves,
         c.sampled,
         c.evaluations,

@@ -5,3 +5,7 @@ pub mod Bits
 pub mod Count
 pub mod Whole
 pub mod Exact
+pub mod FloatOrder
+pub mod FloatRounding
+pub mod Unsigned
+pub mod AbsOrder

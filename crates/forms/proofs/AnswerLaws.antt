@@ -11,7 +11,7 @@ use Rattle.forms.specs.declared.End.{End}
 use Rattle.forms.specs.declared.End.the-variants.{At, Off}
 use Rattle.forms.specs.Fronts as fronts
 use Rattle.forms.specs.Forms as forms
-use Rattle.forms.specs.Inner.Answers.{Finds, ReadsTo}
+use Rattle.forms.specs.Inner.Places.{Finds, ReadsTo}
 
 module _ (text : List ℕ) (f : fronts.Front) (r : Found) (finds : Finds text f r) where
   pub finds-same : (g : fronts.Front) → g ≡ f → Finds text g r
@@ -42,7 +42,14 @@ line-same t same = rw same
 pub six-numbers : (xs : List ℕ) → length xs ≡ 6 → xs ≡ getD xs 0 0 ∷ getD xs 1 0 ∷ getD xs 2 0 ∷ getD xs 3 0 ∷ getD xs 4 0 ∷ getD xs 5 0 ∷ []
 six-numbers xs six =
     drop-cons xs 0 0 (omega arith)
-    ∙ rw (drop-cons xs 1 0 (omega arith), drop-cons xs 2 0 (omega arith), drop-cons xs 3 0 (omega arith), drop-cons xs 4 0 (omega arith), drop-cons xs 5 0 (omega arith), drop-of-length-le xs none)
+    ∙ rw (
+      drop-cons xs 1 0 (omega arith),
+      drop-cons xs 2 0 (omega arith),
+      drop-cons xs 3 0 (omega arith),
+      drop-cons xs 4 0 (omega arith),
+      drop-cons xs 5 0 (omega arith),
+      drop-of-length-le xs none,
+    )
   where
     none : length xs ≤ 6
     none = omega arith

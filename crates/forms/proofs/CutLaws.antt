@@ -14,8 +14,10 @@ use Rattle.forms.specs.Forms.{Piece, hex, decimal, byte, isField, Line, 
 use Rattle.forms.specs.Fitting.{mostPiece, mostOf}
 use Rattle.forms.specs.Inner.Cuts.{endsDecimal, separated, cutFront, cutLine}
 use Rattle.forms.proofs.Cases.{below-or, equal-or, never}
-use Rattle.forms.proofs.NumberLaws.{hex-digit, hex-other, decimal-digit, decimal-past, decimal-ends, decimal-first, decimal-large, decimal-none, decimal-nought, digit-some}
-use Rattle.forms.proofs.FormLaws.{byte-read, byte-other, front-most, and-left, separated-rest}
+use Rattle.forms.proofs.NumberLaws.{hex-digit, hex-other, decimal-digit, decimal-past, decimal-ends, decimal-first, decimal-large}
+use Rattle.forms.proofs.NumberLaws.{decimal-none, decimal-nought, digit-some}
+use Rattle.lists.proofs.Tests.{and-left}
+use Rattle.forms.proofs.FormLaws.{byte-read, byte-other, front-most, separated-rest}
 
 -- ---- a number
 
@@ -35,7 +37,8 @@ hex-cut (suc k) zero v t enough = absurd (omega arith)
 hex-cut (suc k) (suc m) v [] enough = refl
 hex-cut (suc k) (suc m) v (b ∷ t) enough =
     below-or (digitOf b) 16
-    (λ digit. rw (hex-digit b (take m t) k v digit, hex-digit b t k v digit) (hex-cut k m (v * 16 + digitOf b) t (omega arith) ∙ sym (cut-next m (length t) (hexAfter k (v * 16 + digitOf b) t))))
+    (λ digit. rw (hex-digit b (take m t) k v digit, hex-digit b t k v digit)
+    (hex-cut k m (v * 16 + digitOf b) t (omega arith) ∙ sym (cut-next m (length t) (hexAfter k (v * 16 + digitOf b) t))))
     (λ other. rw (hex-other b (take m t) k v other, hex-other b t k v other))
 
 past-more : (limit m v d : ℕ) → limit < v * 10 ^ suc m → limit < (v * 10 + d) * 10 ^ m
@@ -45,7 +48,9 @@ past-more limit m v d past =
     omega (arith, rw (power, ← mul-assoc v 10 (10 ^ m)) at past, mul-le-mul-right (10 ^ m) less)
 
 -- with m digits more the number is above the limit
-decimal-cut-after : (limit m v : ℕ) (t : List ℕ) → v ≤ limit → limit < v * 10 ^ m → decimalAfter limit v (take m t) ≡ cutFront m (length t) (decimalAfter limit v t)
+decimal-cut-after :
+    (limit m v : ℕ) (t : List ℕ) → v ≤ limit → limit < v * 10 ^ m
+    → decimalAfter limit v (take m t) ≡ cutFront m (length t) (decimalAfter limit v t)
 unfolding decimalAfter cutFront
 decimal-cut-after limit zero v t within past = absurd (omega arith)
 decimal-cut-after limit (suc m) v [] within past = rw take-nil
@@ -113,7 +118,9 @@ cut-with false x m n k (line xs rest) within = let same : m + k - n + length res
 module _ (limit w : ℕ) (some : 0 < w) (small : limit < 10 ^ w) (bound : limit < 10 ^ 19) where
   front-cut : (p : Piece) (form : List Piece) (m : ℕ) (t : List ℕ) → mostOf w (p ∷ form) ≤ m
       → ((k : ℕ) (s : List ℕ) → mostOf w form ≤ k → readForm limit form (take k s) ≡ cutLine k (length s) (readForm limit form s))
-      → (f : fronts.Front) → readPiece limit p t ≡ f → onFront p (cutFront m (length t) f) (readForm limit form) ≡ cutLine m (length t) (onFront p f (readForm limit form))
+      → (f : fronts.Front) → readPiece limit p t ≡ f
+      → onFront p (cutFront m (length t) f) (readForm limit form)
+      ≡ cutLine m (length t) (onFront p f (readForm limit form))
   unfolding onFront cutFront cutLine mostOf
   front-cut p form m t enough ih fronts.off is = refl
   front-cut p form m t enough ih (fronts.number x rest) is =
@@ -121,7 +128,9 @@ module _ (limit w : ℕ) (some : 0 < w) (small : limit < 10 ^ w) (bound : limit 
       ap (withNumber (isField p) x) (ih (m + length rest - length t) rest (omega arith))
       ∙ cut-with (isField p) x m (length t) (length rest) (readForm limit form rest) (omega arith)
 
-  pub form-cut : (form : List Piece) (m : ℕ) (t : List ℕ) → separated form ≡ true → mostOf w form ≤ m → readForm limit form (take m t) ≡ cutLine m (length t) (readForm limit form t)
+  pub form-cut :
+      (form : List Piece) (m : ℕ) (t : List ℕ) → separated form ≡ true → mostOf w form ≤ m
+      → readForm limit form (take m t) ≡ cutLine m (length t) (readForm limit form t)
   unfolding readForm cutLine
   form-cut [] m t apart enough = let same : m + length t - length t ≡ m = omega arith in rw same
   form-cut (p ∷ form) m t apart enough =

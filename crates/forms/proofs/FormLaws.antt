@@ -2,14 +2,16 @@
 use mathlib.Core.Path.{_≡_, refl, sym, ap, _∙_}
 use Prim.Native.Nat.{ℕ, suc, _+_, _^_, _≤_, _<_}
 use native.Mathlib.Omega.{arith}
-use mathlib.Core.Bool.{Bool, true, false, _&&_, cond}
+use mathlib.Core.Bool.{Bool, true, false, cond}
 use mathlib.Core.List.{List, [], _∷_, _++_, append-assoc}
 use borrow.Author.Tests.{eq-eqb, ne-eqb}
 use lib.ListN.{length, getD, take, drop, length-append, length-drop}
 use lib.Seq.{take-all}
+use Rattle.lists.proofs.Tests.{and-left, and-right}
 use Rattle.forms.specs.Digits.{hexOf, decimalCount, decimalOf}
 use Rattle.forms.specs.Fronts as fronts
-use Rattle.forms.specs.Forms.{Piece, hex, decimal, byte, spellPiece, isField, after, spell, fields, Line, off, line, readPiece, withNumber, onFront, readForm}
+use Rattle.forms.specs.Forms.{Piece, hex, decimal, byte, spellPiece, isField, after, spell, fields, Line, off, line, readPiece}
+use Rattle.forms.specs.Forms.{withNumber, onFront, readForm}
 use Rattle.forms.specs.Fitting.{FitsPiece, Fits, Spells, mostPiece, mostOf}
 use Rattle.forms.specs.Inner.Cuts.{endsNumber, endsDecimal, separated}
 use Rattle.forms.proofs.Cases.{equal-or, never}
@@ -44,14 +46,6 @@ unfolding readPiece spellPiece FitsPiece EndsAfter kept isField
 piece-spelled limit hex x t small fits ends = hex-spelled x t fits
 piece-spelled limit decimal x t small fits ends = decimal-spelled limit x t fits (omega arith) ends
 piece-spelled limit (byte b) x t small fits ends = byte-read limit b b t refl
-
-pub and-left : (a b : Bool) → (a && b) ≡ true → a ≡ true
-and-left true b both = refl
-and-left false b both = both
-
-and-right : (a b : Bool) → (a && b) ≡ true → b ≡ true
-and-right true b both = both
-and-right false b both = never both
 
 pub separated-rest : (p : Piece) (form : List Piece) → separated (p ∷ form) ≡ true → separated form ≡ true
 unfolding separated
@@ -158,7 +152,9 @@ unfolding withNumber
 with-number true x xs t = refl
 with-number false x xs t = refl
 
-module _ (limit : ℕ) (p : Piece) (form : List Piece) (small : limit < 10 ^ 19) (ih : (t xs rest : List ℕ) → readForm limit form t ≡ line xs rest → Spells limit form xs t rest) where
+module _
+    (limit : ℕ) (p : Piece) (form : List Piece) (small : limit < 10 ^ 19)
+    (ih : (t xs rest : List ℕ) → readForm limit form t ≡ line xs rest → Spells limit form xs t rest) where
   line-before : (t : List ℕ) (x : ℕ) (next xs rest : List ℕ) → readPiece limit p t ≡ fronts.number x next
       → (l : Line) → readForm limit form next ≡ l → withNumber (isField p) x l ≡ line xs rest → Spells limit (p ∷ form) xs t rest
   unfolding withNumber

@@ -11,7 +11,7 @@ use lib.Seq.{sets, getD-drop, drop-drop, take-suc-set, drop-set-lt}
 use Rattle.forms.specs.Fronts as fronts
 use Rattle.forms.specs.Forms.{Piece, pieceOf, isField, spellPiece, after, spell, fields, Line, off, line, readPiece, withNumber, onFront, readForm}
 use Rattle.forms.specs.declared.End.the-variants.{At}
-use Rattle.forms.specs.Inner.Answers.{ReadsTo}
+use Rattle.forms.specs.Inner.Places.{ReadsTo}
 use Rattle.forms.proofs.Stores.{sets-append}
 use Rattle.forms.proofs.Turns.{drop-here, drop-end}
 
@@ -31,11 +31,15 @@ pieces-done form i within past = ap (map pieceOf) (drop-end form i within past)
 abbrev pub spellFrom : (form numbers : List ℕ) → (i count : ℕ) → List ℕ
 spellFrom form numbers i count = spell (piecesFrom form i) (drop count numbers)
 
-after-drop : (b : Bool) (numbers : List ℕ) (count next : ℕ) → next ≡ cond b (count + 1) count → cond b (drop 1 (drop count numbers)) (drop count numbers) ≡ drop next numbers
+after-drop :
+    (b : Bool) (numbers : List ℕ) (count next : ℕ) → next ≡ cond b (count + 1) count
+    → cond b (drop 1 (drop count numbers)) (drop count numbers) ≡ drop next numbers
 after-drop true numbers count next is = rw is (drop-drop 1 count numbers)
 after-drop false numbers count next is = rw is
 
-spell-turn : (form numbers : List ℕ) (i count next x : ℕ) → i < length form → x ≡ getD numbers count 0 → next ≡ cond (isField (pieceOf (getD form i 0))) (count + 1) count
+spell-turn :
+    (form numbers : List ℕ) (i count next x : ℕ) → i < length form → x ≡ getD numbers count 0
+    → next ≡ cond (isField (pieceOf (getD form i 0))) (count + 1) count
     → spellFrom form numbers i count ≡ spellPiece (pieceOf (getD form i 0)) x ++ spellFrom form numbers (i + 1) next
 unfolding spell after
 spell-turn form numbers i count next x more is goes =
@@ -46,7 +50,8 @@ module _ (form numbers : List ℕ) (i count x : ℕ) (more : i < length form) (i
   pub length-turn : (next : ℕ) → next ≡ cond (isField (pieceOf (getD form i 0))) (count + 1) count
       → length (spellFrom form numbers i count) ≡ length (spellPiece (pieceOf (getD form i 0)) x) + length (spellFrom form numbers (i + 1) next)
   length-turn next goes =
-      ap length (spell-turn form numbers i count next x more is goes) ∙ length-append (spellPiece (pieceOf (getD form i 0)) x) (spellFrom form numbers (i + 1) next)
+      ap length (spell-turn form numbers i count next x more is goes)
+      ∙ length-append (spellPiece (pieceOf (getD form i 0)) x) (spellFrom form numbers (i + 1) next)
 
   pub piece-within : length (spellPiece (pieceOf (getD form i 0)) x) ≤ length (spellFrom form numbers i count)
   piece-within = omega (arith, length-turn (cond (isField (pieceOf (getD form i 0))) (count + 1) count) refl)
@@ -119,11 +124,16 @@ drop-zeros zero = refl
 drop-zeros (suc n) = let less : suc n - 1 ≡ n = omega arith in rw less
 
 -- a piece with a number takes one of those that are left
-fields-turn : (form : List ℕ) (i : ℕ) → i < length form → fields (piecesFrom form i) ≡ cond (isField (pieceOf (getD form i 0))) (1 + fields (piecesFrom form (i + 1))) (fields (piecesFrom form (i + 1)))
+fields-turn :
+    (form : List ℕ) (i : ℕ) → i < length form
+    → fields (piecesFrom form i)
+    ≡ cond (isField (pieceOf (getD form i 0))) (1 + fields (piecesFrom form (i + 1))) (fields (piecesFrom form (i + 1)))
 unfolding fields
 fields-turn form i more = rw (pieces-turn form i more)
 
-module _ (limit : ℕ) (text form : List ℕ) (at place i count : ℕ) (values : List ℕ) (more : i < length form) (k : Kept limit text form at place i count values) where
+module _
+    (limit : ℕ) (text form : List ℕ) (at place i count : ℕ) (values : List ℕ) (more : i < length form)
+    (k : Kept limit text form at place i count values) where
   pub kept-room : fields (map pieceOf form) ≤ 6 → isField (pieceOf (getD form i 0)) ≡ true → count < 6
   kept-room few is = omega (arith, k .count-left, rw is at (fields-turn form i more))
 
@@ -132,7 +142,9 @@ module _ (limit : ℕ) (text form : List ℕ) (at place i count : ℕ) (values :
   kept-off none = sym (k .whole) ∙ rw (pieces-turn form i more, none)
 
   module _ (x next : ℕ) (read : readPiece limit (pieceOf (getD form i 0)) (drop place text) ≡ fronts.number x (drop next text)) where
-    read-turn : readForm limit (piecesFrom form i) (drop place text) ≡ withNumber (isField (pieceOf (getD form i 0))) x (readForm limit (piecesFrom form (i + 1)) (drop next text))
+    read-turn :
+        readForm limit (piecesFrom form i) (drop place text)
+        ≡ withNumber (isField (pieceOf (getD form i 0))) x (readForm limit (piecesFrom form (i + 1)) (drop next text))
     unfolding readForm onFront
     read-turn = rw (pieces-turn form i more, read)
 
@@ -170,7 +182,9 @@ module _ (limit : ℕ) (text form : List ℕ) (at place i count : ℕ) (values :
           → Kept limit text form at next (i + 1) count' values'
       kept-turn count' values' stored goes = rw (stored, goes) (by (isField (pieceOf (getD form i 0))) refl)
         where
-          by : (b : Bool) → isField (pieceOf (getD form i 0)) ≡ b → Kept limit text form at next (i + 1) (cond b (count + 1) count) (cond b (set values count x) values)
+          by :
+              (b : Bool) → isField (pieceOf (getD form i 0)) ≡ b
+              → Kept limit text form at next (i + 1) (cond b (count + 1) count) (cond b (set values count x) values)
           by true is = kept-number is
           by false is = kept-byte is
 

@@ -10,7 +10,8 @@ use Rattle.forms.specs.Digits.{digitByte, digitOf, digits, hexOf, decima
 use Rattle.forms.specs.Fronts.{off, number, hexAfter, hexFront, decimalAfter, decimalFront}
 use Rattle.forms.specs.Inner.Cuts.{endsNumber}
 use Rattle.forms.proofs.Cases.{below-or, equal-or}
-use Rattle.forms.proofs.DigitLaws.{digit-of-byte, byte-of-digit, digits-more, count-one, count-next, tenth-below, zero-decimal, decimal-one, decimal-more, byte-number}
+use Rattle.forms.proofs.DigitLaws.{digit-of-byte, byte-of-digit, digits-more, count-one, count-next, tenth-below, zero-decimal}
+use Rattle.forms.proofs.DigitLaws.{decimal-one, decimal-more, byte-number}
 
 pub off-number : {A : Type 0} {x : ℕ} {t : List ℕ} → off ≡ number x t → A
 off-number same = let none : _≡_ {A = ℕ} 0 1 = cc in absurd (omega arith)
@@ -149,7 +150,9 @@ decimal-spelled limit x t within below ends =
     (λ some. decimal-so-far limit 19 x t some below within ∙ decimal-stops limit x t ends)
 
 -- what is read of a text, whose digits before make v, are the digits of the number
-decimal-kept : (limit : ℕ) (all t : List ℕ) (v x : ℕ) (rest : List ℕ) → limit < 10 ^ 19 → 0 < v → v ≤ limit → all ≡ decimalOf v ++ t → decimalAfter limit v t ≡ number x rest
+decimal-kept :
+    (limit : ℕ) (all t : List ℕ) (v x : ℕ) (rest : List ℕ) → limit < 10 ^ 19 → 0 < v → v ≤ limit
+    → all ≡ decimalOf v ++ t → decimalAfter limit v t ≡ number x rest
     → (all ≡ decimalOf x ++ rest) × (x ≤ limit)
 unfolding decimalAfter
 decimal-kept limit all [] v x rest small some within is same = rw (← value-same same, ← rest-same same) (is, within)
@@ -165,7 +168,9 @@ decimal-kept limit all (b ∷ t) v x rest small some within is same =
     let stops : number v (b ∷ t) ≡ number x rest = sym (decimal-ends b t limit v large) ∙ same in
     rw (← value-same stops, ← rest-same stops) (is, within))
 
-pub decimal-sound : (limit : ℕ) (t : List ℕ) (x : ℕ) (rest : List ℕ) → limit < 10 ^ 19 → decimalFront limit t ≡ number x rest → (t ≡ decimalOf x ++ rest) × (x ≤ limit)
+pub decimal-sound :
+    (limit : ℕ) (t : List ℕ) (x : ℕ) (rest : List ℕ) → limit < 10 ^ 19 → decimalFront limit t ≡ number x rest
+    → (t ≡ decimalOf x ++ rest) × (x ≤ limit)
 unfolding decimalFront
 decimal-sound limit [] x rest small same = off-number same
 decimal-sound limit (b ∷ t) x rest small same =

@@ -12,7 +12,8 @@ use Rattle.forms.specs.Fronts.{off, number, hexAfter, decimalAfter, deci
 use Rattle.forms.specs.Forms.{byte, readPiece}
 use Rattle.forms.proofs.Stores.{sets-last}
 use Rattle.forms.proofs.DigitLaws.{digits-length, count-next, tenth-below}
-use Rattle.forms.proofs.NumberLaws.{hex-digit, hex-other, decimal-digit, decimal-past, decimal-ends, decimal-first, decimal-large, decimal-none, decimal-nought}
+use Rattle.forms.proofs.NumberLaws.{hex-digit, hex-other, decimal-digit, decimal-past, decimal-ends, decimal-first, decimal-large}
+use Rattle.forms.proofs.NumberLaws.{decimal-none, decimal-nought}
 use Rattle.forms.proofs.FormLaws.{byte-read, byte-other}
 
 -- ---- the text from a place on
@@ -46,12 +47,16 @@ module _ (text : List ℕ) (place d : ℕ) (inside : place < length text) (is : 
   hex-stop zero v some other = absurd (omega arith)
   hex-stop (suc k) v some other = rw (drop-here text place inside) (hex-other (getD text place 0) (drop (place + 1) text) k v (omega arith))
 
-  pub after-turn : (limit v : ℕ) → d < 10 → v * 10 + d ≤ limit → decimalAfter limit (v * 10 + d) (drop (place + 1) text) ≡ decimalAfter limit v (drop place text)
+  pub after-turn :
+      (limit v : ℕ) → d < 10 → v * 10 + d ≤ limit
+      → decimalAfter limit (v * 10 + d) (drop (place + 1) text) ≡ decimalAfter limit v (drop place text)
   after-turn limit v digit within =
       rw (drop-here text place inside, is) (sym (decimal-digit (getD text place 0) (drop (place + 1) text) limit v (omega arith) (omega arith)))
 
   pub after-past : (limit v : ℕ) → d < 10 → limit < v * 10 + d → decimalAfter limit v (drop place text) ≡ off
-  after-past limit v digit past = rw (drop-here text place inside) (decimal-past (getD text place 0) (drop (place + 1) text) limit v (omega arith) (omega arith))
+  after-past limit v digit past =
+      rw (drop-here text place inside)
+      (decimal-past (getD text place 0) (drop (place + 1) text) limit v (omega arith) (omega arith))
 
   pub after-ends : (limit v : ℕ) → 10 ≤ d → decimalAfter limit v (drop place text) ≡ number v (drop place text)
   after-ends limit v other = rw (drop-here text place inside) (decimal-ends (getD text place 0) (drop (place + 1) text) limit v (omega arith))
@@ -71,16 +76,22 @@ pub front-ended : (text : List ℕ) (place limit : ℕ) → place ≤ length tex
 unfolding decimalFront
 front-ended text place limit within past = rw (drop-end text place within past)
 
-pub front-nought : (text : List ℕ) (place limit : ℕ) → place < length text → getD text place 0 ≡ 48 → decimalFront limit (drop place text) ≡ number 0 (drop (place + 1) text)
+pub front-nought :
+    (text : List ℕ) (place limit : ℕ) → place < length text → getD text place 0 ≡ 48
+    → decimalFront limit (drop place text) ≡ number 0 (drop (place + 1) text)
 front-nought text place limit inside is = rw (drop-here text place inside) (decimal-nought (getD text place 0) (drop (place + 1) text) limit is)
 
-pub after-all : (text : List ℕ) (place limit v : ℕ) → place ≤ length text → length text ≤ place → decimalAfter limit v (drop place text) ≡ number v (drop place text)
+pub after-all :
+    (text : List ℕ) (place limit v : ℕ) → place ≤ length text → length text ≤ place
+    → decimalAfter limit v (drop place text) ≡ number v (drop place text)
 unfolding decimalAfter
 after-all text place limit v within past = rw (drop-end text place within past)
 
 -- ---- one byte
 
-pub byte-here : (text : List ℕ) (place b : ℕ) → place < length text → getD text place 0 ≡ b → readPiece 0 (byte b) (drop place text) ≡ number 0 (drop (place + 1) text)
+pub byte-here :
+    (text : List ℕ) (place b : ℕ) → place < length text → getD text place 0 ≡ b
+    → readPiece 0 (byte b) (drop place text) ≡ number 0 (drop (place + 1) text)
 byte-here text place b inside is = rw (drop-here text place inside) (byte-read 0 b (getD text place 0) (drop (place + 1) text) is)
 
 pub byte-off : (text : List ℕ) (place b : ℕ) → place < length text → (getD text place 0 ≡ b → ⊥) → readPiece 0 (byte b) (drop place text) ≡ off

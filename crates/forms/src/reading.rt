@@ -4,7 +4,7 @@ ghost use mathlib.Core.Bool.{true, cond};
 ghost use Prim.Native.Nat.{_+_, _<_, _≤_};
 ghost use mathlib.Core.List.{map};
 ghost use lib.ListN.{length, drop, set};
-ghost use Rattle.forms.specs.Inner.Answers.{Finds, Reads};
+ghost use Rattle.forms.specs.Inner.Places.{Finds, Reads};
 ghost use Rattle.forms.specs.Forms.{byte, pieceOf, isField, fields, readPiece, readForm};
 ghost use Rattle.forms.specs.Fronts.{hexFront, decimalAfter, decimalFront};
 use crate::End;

@@ -34,3 +34,14 @@ module _ {A : Type 0} (refuse : ℕ → A) (answer : A) where
   first-has P own [] all = own
   first-has P own (cause true number ∷ causes) all = all .0
   first-has P own (cause false number ∷ causes) all = first-has P own causes (all .1)
+
+  -- the first cause of a list applies, or is passed over
+  pub first-applies : (applies : Bool) (number : ℕ) (causes : List Cause) → applies ≡ true
+      → firstOf (cause applies number ∷ causes) refuse answer ≡ refuse number
+  unfolding firstOf
+  first-applies applies number causes e = rw e refl
+
+  pub first-passed : (applies : Bool) (number : ℕ) (causes : List Cause) → applies ≡ false
+      → firstOf (cause applies number ∷ causes) refuse answer ≡ firstOf causes refuse answer
+  unfolding firstOf
+  first-passed applies number causes e = rw e refl

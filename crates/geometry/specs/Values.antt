@@ -1,4 +1,4 @@
--- A point, the indices of a grid and a box, from their parts.
+-- A point, the indices of a grid and a box, from their parts; a function's value at a point.
 use Prim.Native.Nat.{ℕ}
 use lib.Ieee.{Float}
 use Rattle.geometry.specs.declared.Vec3.{Vec3}
@@ -13,3 +13,7 @@ vec3i i j k = record { i = i; j = j; k = k }
 
 abbrev pub box : (min max : Vec3) → BoundingBox
 box min max = record { min = min; max = max }
+
+-- a function's value at a point
+abbrev pub at : (Float → Float → Float → Float) → Vec3 → Float
+at value p = value (p .x) (p .y) (p .z)

@@ -1,16 +1,17 @@
 // Points, boxes and grid indices by value, after vec3f.rs, vec3i.rs, bounding_box.rs and math_helper.rs.
 mod axes; // axes.rt: steps along an axis
 mod boxes; // boxes.rt: sizes of boxes, and which boxes meet
-mod indices; // indices.rt: indices of a grid, and places in a flat list
+mod places; // places.rt: indices of a grid, and places in a flat list
 mod points; // points.rt: points and distances
 mod refusals; // refusals.rt: the tests of causes 1 and 9
 
 pub use axes::along;
 pub use axes::along_end;
 pub use axes::step_along;
-pub use indices::index1d_from_index3d;
-pub use indices::index3d_from_index1d;
-pub use indices::next_indices;
+pub use places::index1d_from_index3d;
+pub use places::index3d_from_index1d;
+pub use places::indices;
+pub use places::next_indices;
 pub use refusals::box_refused;
 pub use refusals::cell_refused;
 pub use refusals::dimensions_refused;

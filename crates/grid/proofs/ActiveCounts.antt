@@ -1,6 +1,6 @@
 -- The active children of a node, and of the grid, are a product of counts along the three axes.
 use mathlib.Core.Path.{_≡_, sym, _∙_}
-use mathlib.Core.Bool.{Bool, true, false, cond, _&&_}
+use mathlib.Core.Bool.{Bool, _&&_}
 use Prim.Native.Nat.{ℕ, _+_, _*_, _≤_}
 use native.Mathlib.Nat.{mul-le-mul}
 use native.Mathlib.Numerals.{add-one}
@@ -10,15 +10,17 @@ use Rattle.geometry.specs.Index.{indicesOf}
 use Rattle.geometry.specs.Axis.{asFloat, stepAlong, along, alongEnd}
 use Rattle.geometry.specs.declared.Vec3i.{Vec3i}
 use Rattle.grid.specs.declared.Grid.{Grid}
-use Rattle.grid.specs.Ranges.{countBelow}
+use Rattle.lists.specs.Ranges.{countBelow}
 use Rattle.grid.specs.Blocks.{cube}
 use Rattle.grid.specs.Nodes.{sizeOf, nodeCounts, nodesOf}
 use Rattle.grid.specs.Boxes.{active, nodeIndices, childIndices, nodeLeast, nodeMost}
 use Rattle.grid.specs.Inner.Activity.{axisActive, axisCount, axisTotal}
-use Rattle.grid.specs.Counting.{sumBelow, activeIn, activeOf}
+use Rattle.lists.specs.Sums.{bit}
+use Rattle.grid.specs.Counting.{activeIn, activeOf}
 use Rattle.grid.proofs.Active.{by-axes}
-use Rattle.grid.proofs.RangeLists.{countBelow-cong, countBelow-le}
-use Rattle.grid.proofs.Sums.{sum-cong, sum-le, sum-places, count-places}
+use Rattle.lists.proofs.Ranges.{countBelow-cong, countBelow-le}
+use Rattle.lists.proofs.Sums.{sumBelow-cong, sumBelow-snoc, sumBelow-most}
+use Rattle.grid.proofs.PlaceSums.{sum-places, count-places}
 
 module _ (g : Grid) where
   pub active-in : (v : ℕ) → let at = nodeIndices g v in
@@ -54,7 +56,7 @@ module _ (g : Grid) where
       let x : ℕ → ℕ = axisCount (b .min .x) (b .max .x) s n in
       let y : ℕ → ℕ = axisCount (b .min .y) (b .max .y) s n in
       let z : ℕ → ℕ = axisCount (b .min .z) (b .max .z) s n in
-      sum-cong (m .i * m .j * m .k) (activeIn g) (λ v. let at = nodeIndices g v in x (at .i) * y (at .j) * z (at .k)) (λ v below. active-in v)
+      sumBelow-cong (m .i * m .j * m .k) (activeIn g) (λ v. let at = nodeIndices g v in x (at .i) * y (at .j) * z (at .k)) (λ v below. active-in v)
       ∙ sum-places (m .i) (m .j) (m .k) x y z
 
 -- how large the counts of an axis are
@@ -65,7 +67,7 @@ module _ (least most s : Float) (n : ℕ) where
 
   pub axisTotal-le : (nodes : ℕ) → axisTotal least most s n nodes ≤ nodes * n
   unfolding axisTotal
-  axisTotal-le nodes = sum-le nodes n (axisCount least most s n) axisCount-le
+  axisTotal-le nodes = sumBelow-most nodes n (axisCount least most s n) axisCount-le
 
 -- ---- one more child, and one more node, along an axis
 
@@ -75,31 +77,26 @@ module _ (least most s : Float) (n i : ℕ) where
       → step ≡ stepAlong (add binary64 least (mul binary64 fi s)) (add binary64 (add binary64 least (mul binary64 fi s)) s) n
       → fc ≡ asFloat c
       → r
-      ≡ cond (le least (add binary64 (add binary64 (add binary64 least (mul binary64 fi s)) (mul binary64 fc step)) step)
-      && le (add binary64 (add binary64 least (mul binary64 fi s)) (mul binary64 fc step)) most) 1 0
-      → r ≡ cond (axisActive least most s n i c) 1 0
+      ≡ bit (le least (add binary64 (add binary64 (add binary64 least (mul binary64 fi s)) (mul binary64 fc step)) step)
+      && le (add binary64 (add binary64 least (mul binary64 fi s)) (mul binary64 fc step)) most)
+      → r ≡ bit (axisActive least most s n i c)
   unfolding axisActive nodeLeast nodeMost along alongEnd
   axis-met c hi hs hc hr =
       let step =
       hs ∙ (λ t. stepAlong (add binary64 least (mul binary64 (hi t) s)) (add binary64 (add binary64 least (mul binary64 (hi t) s)) s) n) in
       hr
       ∙ (λ t.
-      cond (le least (add binary64 (add binary64 (add binary64 least (mul binary64 (hi t) s)) (mul binary64 (hc t) (step t))) (step t))
-      && le (add binary64 (add binary64 least (mul binary64 (hi t) s)) (mul binary64 (hc t) (step t))) most) 1 0)
+      bit (le least (add binary64 (add binary64 (add binary64 least (mul binary64 (hi t) s)) (mul binary64 (hc t) (step t))) (step t))
+      && le (add binary64 (add binary64 least (mul binary64 (hi t) s)) (mul binary64 (hc t) (step t))) most))
 
-  pub axis-count-more : (c : ℕ) {count r : ℕ} → count ≡ countBelow c (axisActive least most s n i) → r ≡ cond (axisActive least most s n i c) 1 0
+  pub axis-count-more : (c : ℕ) {count r : ℕ} → count ≡ countBelow c (axisActive least most s n i) → r ≡ bit (axisActive least most s n i c)
       → count + r ≡ countBelow (c + 1) (axisActive least most s n i)
-  unfolding countBelow
-  axis-count-more c hc hr = rw (add-one c) (λ t. hc t + hr t)
-
-pub bit-le : {r : ℕ} (b : Bool) → r ≡ cond b 1 0 → r ≤ 1
-bit-le true e = omega arith
-bit-le false e = omega arith
+  axis-count-more c hc hr = rw (add-one c) ((λ t. hc t + hr t) ∙ sym (sumBelow-snoc (λ k. bit (axisActive least most s n i k)) c))
 
 pub axis-total-more : (least most s : Float) (n i : ℕ) {total r : ℕ} → total ≡ axisTotal least most s n i → r ≡ axisCount least most s n i
     → total + r ≡ axisTotal least most s n (i + 1)
-unfolding axisTotal sumBelow
-axis-total-more least most s n i ht hr = rw (add-one i) (λ t. ht t + hr t)
+unfolding axisTotal
+axis-total-more least most s n i ht hr = rw (add-one i) ((λ t. ht t + hr t) ∙ sym (sumBelow-snoc (axisCount least most s n) i))
 
 -- ---- the products of the code, from what its calls return
 

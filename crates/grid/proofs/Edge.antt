@@ -17,8 +17,8 @@ use Rattle.float.specs.Zero.{plusZero}
 use Rattle.geometry.specs.declared.BoundingBox.{BoundingBox}
 use Rattle.geometry.specs.Distance.{distanceOf, distanceSquaredOf, square}
 use Rattle.grid.specs.Pruning.{halfDiagonal, folded, lowest, highest, pruned}
-use Rattle.grid.proofs.FloatOrder.{number, number-left, number-right, le-trans, le-refl, le-of-eq, le-of-lt, lt-excludes, le-of-not-lt}
-use Rattle.grid.proofs.FloatRounding.{hasSign, odd-has-sign, round-sign, difference-le-sum}
+use Rattle.float.proofs.FloatOrder.{number, number-left, number-right, le-trans, le-refl, le-of-eq, le-of-lt, lt-excludes, le-of-not-lt}
+use Rattle.float.proofs.FloatRounding.{hasSign, odd-has-sign, round-sign, difference-le-sum}
 
 -- ---- half a diagonal is a NaN or has a clear sign
 abbrev unsigned : Float → Bool

@@ -6,7 +6,7 @@ use lib.Ieee.{Float, binary64, add, div, ofBits}
 use Rattle.float.specs.Zero.{plusZero}
 use Rattle.grid.specs.Pruning.{folded, average}
 use Rattle.grid.proofs.Eight.{eight}
-use Rattle.grid.proofs.Literals.{eight-point}
+use Rattle.geometry.proofs.Literals.{eight-point}
 
 -- a fold from the first value on, in seven calls
 module _ (op : Float → Float → Float) (F : List Float → Float) (is : (c0 : Float) (rest : List Float) → F (c0 ∷ rest) ≡ folded op c0 rest) where

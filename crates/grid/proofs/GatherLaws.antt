@@ -7,10 +7,11 @@ use native.Mathlib.Numerals.{add-one}
 use native.Mathlib.Omega.{arith}
 use lib.ListN.{length, getD, take, set, length-set}
 use lib.Seq.{take-suc-set, getD-set-other}
-use Rattle.grid.specs.Ranges.{countBelow, listBelow}
+use Rattle.lists.specs.Sums.{sumFrom}
+use Rattle.lists.specs.Ranges.{countBelow, listBelow}
 use Rattle.grid.specs.CornerList.{nonzero}
 use Rattle.grid.proofs.MarkLaws.{is-nonzero, is-zero}
-use Rattle.grid.proofs.RangeLists.{listBelow-more, listBelow-skip, countBelow-more, countBelow-skip}
+use Rattle.lists.proofs.Ranges.{listBelow-more, listBelow-skip, countBelow-more, countBelow-skip}
 
 -- the places before `corner` have been read, and `count` of them moved
 pub record Gathering (before : List ℕ) (corner count : ℕ) (list : List ℕ) : Type 0 where
@@ -21,7 +22,7 @@ pub record Gathering (before : List ℕ) (corner count : ℕ) (list : List ℕ) 
   pub ahead : (p : ℕ) → corner ≤ p → getD list p 0 ≡ getD before p 0
 
 pub gathering-start : (before : List ℕ) → Gathering before 0 0 before
-unfolding countBelow listBelow
+unfolding sumFrom listBelow
 gathering-start before = record { few = omega arith; kept = refl; counted = refl; front = refl; ahead = λ p h. refl }
 
 same : {before : List ℕ} {corner count count′ : ℕ} {list list′ : List ℕ} → list′ ≡ list → count′ ≡ count

@@ -1,12 +1,7 @@
-pub mod FloatOrder
-pub mod FloatRounding
 pub mod Edge
-pub mod Division
-pub mod Whole
 pub mod Eight
 pub mod Octets
 pub mod Numbering
-pub mod Literals
 pub mod Counts
 pub mod Active
 pub mod Stepped
@@ -14,12 +9,10 @@ pub mod Folds
 pub mod Pruned
 pub mod Verdicts
 pub mod Needing
-pub mod RangeLists
 pub mod MarkLaws
 pub mod GatherLaws
 pub mod BlockLaws
 pub mod ListedCorners
-pub mod Sums
+pub mod PlaceSums
 pub mod ActiveCounts
-pub mod CauseLaws
-pub mod Clear
+pub mod LimitLaws

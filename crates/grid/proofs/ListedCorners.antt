@@ -5,17 +5,18 @@ use mathlib.Core.List.{List}
 use Prim.Native.Nat.{ℕ, _+_, _≤_, _<_}
 use native.Mathlib.Omega.{arith}
 use lib.Dec.{eqb, ltb}
-use lib.ListN.{length, getD, take}
+use lib.ListN.{length, getD, take, replicate, length-replicate}
 use lib.Seq.{getD-take}
 use borrow.Author.Tests.{ltb-false, eq-eqb, ne-eqb, lt-ltb, le-ltb}
+use Rattle.slices.proofs.Rest.{getD-same, setFrom, rest-length, rest-front, rest-same}
 use Rattle.geometry.specs.Causes.{firstOf}
-use Rattle.grid.specs.Ranges.{anyBelow, countBelow, listBelow}
+use Rattle.lists.specs.Ranges.{anyBelow, countBelow, listBelow, among}
 use Rattle.grid.specs.Blocks.{isBlock, cube}
-use Rattle.grid.specs.Corners.{among, needed}
+use Rattle.grid.specs.Corners.{needed}
 use Rattle.grid.specs.CornerList.{nonzero, cornerListCauses, cornerListOf, CornersOnce}
 use Rattle.grid.specs.declared.CornerList.the-variants.{Count, Refused}
-use Rattle.grid.specs.Inner.CornerMarks.{neededTo, Marks, ZeroFrom, Gathered}
-use Rattle.grid.proofs.RangeLists.{listBelow-cong, countBelow-cong, among-listBelow, no-repeat}
+use Rattle.grid.specs.Inner.CornerMarks.{neededTo, Marks, Gathered}
+use Rattle.lists.proofs.Ranges.{listBelow-cong, countBelow-cong, among-listBelow, no-repeat}
 use Rattle.grid.proofs.MarkLaws.{needed-within}
 
 -- ---- the answer
@@ -44,10 +45,14 @@ pub gathered-to : {m n count : ℕ} {before after : List ℕ} → m ≡ n → Ga
 gathered-to e g = rw (← e) g
 
 -- a list of zeros has no mark
-pub no-marks : (n : ℕ) (kinds before list : List ℕ) → cube (n + 1) ≤ length before → ZeroFrom 0 before list → Marks n kinds 0 list
+pub no-marks : (n : ℕ) (kinds before list : List ℕ) → cube (n + 1) ≤ length before → list ≡ replicate (length before) 0
+    → Marks n kinds 0 list
 unfolding neededTo anyBelow
-no-marks n kinds before list long z =
-    record { long = omega (arith, z .kept); marks = λ p h. z .rest p (omega arith) }
+no-marks n kinds before list long e =
+    record {
+      long = omega (arith, ap length e ∙ length-replicate (length before) 0);
+      marks = λ p h. ap (λ (l : List ℕ). getD l p 0) e ∙ getD-same (length before) p 0;
+    }
 
 module _ (n : ℕ) (kinds list : List ℕ) (m : Marks n kinds (cube n) list) where
   -- a mark stands where a corner is needed
@@ -59,13 +64,20 @@ module _ (n : ℕ) (kinds list : List ℕ) (m : Marks n kinds (cube n) list) whe
       bit true = refl
       bit false = refl
 
-  module _ (gathered listed : List ℕ) (count : ℕ) (g : Gathered (cube (n + 1)) list gathered count) (z : ZeroFrom count gathered listed) where
+  pub room : (gathered : List ℕ) (count : ℕ) → Gathered (cube (n + 1)) list gathered count → count ≤ length gathered
+  room gathered count g = omega (arith, g .few, m .long, g .kept)
+
+  module _ (gathered listed : List ℕ) (count : ℕ) (g : Gathered (cube (n + 1)) list gathered count) (z : listed ≡ setFrom count 0 gathered) where
+    pub kept : length listed ≡ length gathered
+    kept = ap length z ∙ rest-length count 0 gathered (room gathered count g)
+
     pub counted : count ≡ countBelow (cube (n + 1)) (needed n (nonzero kinds))
     counted = g .counted ∙ countBelow-cong (cube (n + 1)) (nonzero list) (needed n (nonzero kinds)) marked-needed
 
     in-front : take count listed ≡ listBelow (cube (n + 1)) (needed n (nonzero kinds))
     in-front =
-        z .front ∙ g .front ∙ listBelow-cong (cube (n + 1)) (nonzero list) (needed n (nonzero kinds)) marked-needed
+        ap (take count) z ∙ rest-front count 0 gathered (room gathered count g) ∙ g .front
+        ∙ listBelow-cong (cube (n + 1)) (nonzero list) (needed n (nonzero kinds)) marked-needed
 
     element : (p : ℕ) → p < count → getD listed p 0 ≡ getD (listBelow (cube (n + 1)) (needed n (nonzero kinds))) p 0
     element p h = sym (getD-take count listed p 0 h) ∙ ap (λ (l : List ℕ). getD l p 0) in-front
@@ -73,7 +85,7 @@ module _ (n : ℕ) (kinds list : List ℕ) (m : Marks n kinds (cube n) list) whe
     pub corners-once : CornersOnce (needed n (nonzero kinds)) count listed
     corners-once =
         record {
-          within = omega (arith, g .few, m .long, g .kept, z .kept);
+          within = omega (arith, room gathered count g, kept);
           exactly =
               λ corner.
               ap (among corner) in-front
@@ -83,7 +95,7 @@ module _ (n : ℕ) (kinds list : List ℕ) (m : Marks n kinds (cube n) list) whe
               λ p q hp hq same.
               no-repeat (needed n (nonzero kinds)) (cube (n + 1)) p q (omega (arith, counted)) (omega (arith, counted))
               (sym (element p hp) ∙ same ∙ element q hq);
-          rest = z .rest;
+          rest = λ p behind. ap (λ (l : List ℕ). getD l p 0) z ∙ rest-same count 0 gathered (room gathered count g) p behind;
         }
       where
         below : (corner : ℕ) (b : Bool) → ltb corner (cube (n + 1)) ≡ b → (b && needed n (nonzero kinds) corner) ≡ needed n (nonzero kinds) corner

@@ -1,6 +1,6 @@
 -- Marks at the corners of active children: what a mark changes, where a child's corners stand, and one child more.
 use mathlib.Core.Path.{_≡_, refl, ap, _∙_}
-use mathlib.Core.Bool.{Bool, true, false, cond, _&&_, _||_}
+use mathlib.Core.Bool.{Bool, true, false, cond, _&&_, _||_, and-false}
 use mathlib.Core.List.{List, [], _∷_}
 use Prim.Native.Nat.{ℕ, zero, suc, _+_, _*_, _/_, _%_, _≤_, _<_}
 use native.Mathlib.Nat.{mul-pos, mul-assoc, mul-le-mul, mul-le-mul-right, mod-lt, div-lt-iff-lt-mul, div-add-mod'}
@@ -14,13 +14,13 @@ use Rattle.geometry.specs.Values.{vec3i}
 use Rattle.geometry.specs.Index.{placeOf, indicesOf}
 use Rattle.geometry.specs.Octet.{octetOrder, octetPlaces}
 use Rattle.geometry.proofs.Inverse.{indices-of-place}
-use Rattle.grid.specs.Ranges.{anyBelow}
+use Rattle.lists.specs.Ranges.{anyBelow, among}
 use Rattle.grid.specs.Blocks.{cube}
 use Rattle.grid.specs.Boxes.{childIndices}
-use Rattle.grid.specs.Corners.{octet, among, needed}
+use Rattle.grid.specs.Corners.{octet, needed}
 use Rattle.grid.specs.CornerList.{nonzero}
 use Rattle.grid.specs.Inner.CornerMarks.{marked, eightFrom, neededTo, Marks}
-use Rattle.grid.proofs.RangeLists.{anyBelow-none}
+use Rattle.lists.proofs.Ranges.{anyBelow-none}
 
 -- ---- whether an element is nonzero
 
@@ -140,11 +140,7 @@ pub needed-within : (n : ℕ) (act : ℕ → Bool) (corner : ℕ) → cube (n + 
 unfolding needed
 needed-within n act corner past =
     anyBelow-none (cube n) (λ c. act c && among corner (octet n c))
-    (λ c h. rw (octet-from n c, among-eight (firstCorner n c) (n + 1) corner (omega (arith, octet-below n c h))) (none (act c)))
-  where
-    none : (b : Bool) → (b && false) ≡ false
-    none true = refl
-    none false = refl
+    (λ c h. rw (octet-from n c, among-eight (firstCorner n c) (n + 1) corner (omega (arith, octet-below n c h))) (and-false (act c)))
 
 -- ---- the marks of the children before c, and of c
 

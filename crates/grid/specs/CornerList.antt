@@ -6,9 +6,9 @@ use Prim.Native.Nat.{ℕ, _+_, _≤_, _<_}
 use lib.Dec.{eqb, ltb}
 use lib.ListN.{length, getD, take}
 use Rattle.geometry.specs.Causes.{Cause, cause, firstOf}
-use Rattle.grid.specs.Ranges.{countBelow}
+use Rattle.lists.specs.Ranges.{countBelow, among}
 use Rattle.grid.specs.Blocks.{isBlock, cube}
-use Rattle.grid.specs.Corners.{among, needed}
+use Rattle.grid.specs.Corners.{needed}
 use Rattle.grid.specs.declared.CornerList.{CornerList}
 use Rattle.grid.specs.declared.CornerList.the-variants.{Count, Refused}
 

@@ -1,8 +1,7 @@
 -- The corners of a node, and those that its active children need (rules G8 to G10).
 use Prim.Native.Nat.{ℕ, _+_}
-use mathlib.Core.Bool.{Bool, false, _&&_, _||_}
-use mathlib.Core.List.{List, [], _∷_}
-use lib.Dec.{eqb}
+use mathlib.Core.Bool.{Bool, _&&_}
+use mathlib.Core.List.{List}
 use lib.Ieee.{binary64, add, mul}
 use Rattle.geometry.specs.declared.Vec3.{Vec3}
 use Rattle.geometry.specs.declared.BoundingBox.{BoundingBox}
@@ -10,7 +9,7 @@ use Rattle.geometry.specs.Values.{vec3}
 use Rattle.geometry.specs.Index.{indicesOf}
 use Rattle.geometry.specs.Axis.{asFloat, stepAlong}
 use Rattle.geometry.specs.Octet.{octetPlaces}
-use Rattle.grid.specs.Ranges.{anyBelow, listBelow}
+use Rattle.lists.specs.Ranges.{anyBelow, listBelow, among}
 use Rattle.grid.specs.Blocks.{cube}
 use Rattle.grid.specs.Boxes.{childIndices}
 
@@ -27,11 +26,6 @@ cornerPoint b n corner =
 -- the eight corners of child c, in octet order (rule G10)
 unfoldable pub octet : (n c : ℕ) → List ℕ
 octet n c = octetPlaces (n + 1) (n + 1) (childIndices n c)
-
--- whether a number is in a list
-unfoldable pub among : ℕ → List ℕ → Bool
-among x [] = false
-among x (y ∷ l) = eqb x y || among x l
 
 -- whether one of a node's active children has the corner, from the test for active children (rule G9)
 unfoldable pub needed : (n : ℕ) → (ℕ → Bool) → ℕ → Bool

@@ -1,5 +1,4 @@
--- The grid of a sparse field (rules G1 to G18), and the causes of open.
-pub mod Ranges
+-- The grid of a sparse field (rules G1 to G18), and what a grid can be.
 pub mod Blocks
 pub mod Nodes
 pub mod Boxes
@@ -8,5 +7,5 @@ pub mod Leaves
 pub mod Pruning
 pub mod CornerList
 pub mod Counting
-pub mod Causes
+pub mod Limits
 pub mod Inner

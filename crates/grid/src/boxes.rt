@@ -4,7 +4,6 @@ ghost use Prim.Native.Nat.{_<_};
 ghost use Rattle.grid.specs.Boxes.{nodeLeast, nodeMost, nodeBoxAt, nodeBox, childBoxAt, childBox, active};
 ghost use Rattle.grid.specs.Inner.Activity.{axisActive};
 use crate::Grid;
-use crate::nodes::indices;
 use crate::nodes::node_counts;
 use crate::nodes::node_size;
 use geometry::BoundingBox;
@@ -49,7 +48,7 @@ pub fn node_box(g: Grid, v: usize) -> BoundingBox
     ensures { λ r. ⌜ r ≡ nodeBox g v ⌝ }
 {
     let n = node_counts(g);
-    node_box_at(g, indices(v, n.i, n.j))
+    node_box_at(g, geometry::indices(v, n.i, n.j))
 }
 
 // The box of the child at (i, j, k) of a node that has the box b and n children along an axis.
@@ -77,7 +76,7 @@ pub fn child_box(b: BoundingBox, n: u32, c: usize) -> BoundingBox
     requires { ⌜ 0 < n ⌝ }
     ensures { λ r. ⌜ r ≡ childBox b n c ⌝ }
 {
-    child_box_at(b, n, indices(c, n as usize, n as usize))
+    child_box_at(b, n, geometry::indices(c, n as usize, n as usize))
 }
 
 // Whether the bounds meet child c of node v.

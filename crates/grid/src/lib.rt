@@ -2,15 +2,20 @@
 // which are active, which corners they need, and when a child is pruned.
 use geometry::BoundingBox;
 
+mod activity; // activity.rt: how many children are active
 mod blocks; // blocks.rt: the sizes of blocks, and their cubes
 mod boxes; // boxes.rt: where nodes and children lie, and which are active
-mod causes; // causes.rt: the causes of open
-mod count; // count.rt: how many children are active
+mod limits; // limits.rt: what a grid can be: causes 1, 2 and 5
 mod needed; // needed.rt: the list of the corners that a node needs
 mod nodes; // nodes.rt: the size and the number of nodes
 mod points; // points.rt: corner points, leaf points and octets
 mod pruning; // pruning.rt: which children become constants
 
+pub use activity::active_children;
+pub use activity::active_in;
+pub use activity::child_total;
+pub use activity::grid_counts;
+pub use activity::same_grid;
 pub use blocks::cube_of;
 pub use blocks::is_block;
 pub use boxes::axis_active;
@@ -19,11 +24,10 @@ pub use boxes::is_active;
 pub use boxes::node_box;
 pub use boxes::node_least;
 pub use boxes::node_most;
-pub use causes::open_refusal;
-pub use count::active_children;
-pub use count::active_in;
+pub use limits::cause_five;
+pub use limits::cause_one;
+pub use limits::cause_two;
 pub use needed::corner_list;
-pub use nodes::indices;
 pub use nodes::node_counts;
 pub use nodes::node_size;
 pub use nodes::node_total;
@@ -51,35 +55,28 @@ pub struct Grid {
     pub leaf: u32,
 }
 
+// How many nodes a grid has, and how many active children.
+pub struct GridCounts {
+    pub nodes: u64,
+    pub active: u64,
+}
+
 // How many corners a list of them holds, or the cause of a refusal.
 pub enum CornerList {
     Count(usize),
     Refused(u32),
 }
 
-// The values that matter: a child whose values all lie outside becomes a constant.
-pub struct Band {
-    pub min: f64,
-    pub max: f64,
-}
+// The kinds of a child (rule S2): it is not active; it is active and not decided, or a constant; it is a
+// leaf.
+pub const EMPTY: u8 = 0;
+
+pub const ACTIVE: u8 = 1;
+
+pub const LEAF: u8 = 2;
 
 // What an active child becomes: a constant, with its kind and its number, or a leaf.
 pub enum Verdict {
     Constant(u8, f64),
     Leaf,
-}
-
-// How long the five slices are that a job is lent.
-pub struct Lengths {
-    pub kinds: usize,
-    pub numbers: usize,
-    pub places: usize,
-    pub store: usize,
-    pub corners: usize,
-}
-
-// The cause of a refusal, if there is one.
-pub enum Refusal {
-    None,
-    By(u32),
 }

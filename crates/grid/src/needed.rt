@@ -2,26 +2,14 @@
 ghost use mathlib.Core.Path.{_≡_};
 ghost use Prim.Native.Nat.{_+_, _*_, _≤_, _<_};
 ghost use lib.ListN.{length};
-ghost use Rattle.grid.specs.Ranges.{countBelow};
+ghost use Rattle.lists.specs.Ranges.{countBelow};
 ghost use Rattle.grid.specs.Blocks.{cube};
 ghost use Rattle.grid.specs.Corners.{needed};
 ghost use Rattle.grid.specs.CornerList.{nonzero, cornerListOf, CornersOnce, HoldsCorners};
-ghost use Rattle.grid.specs.Inner.CornerMarks.{marked, eightFrom, Marks, ZeroFrom, Gathered};
+ghost use Rattle.grid.specs.Inner.CornerMarks.{marked, eightFrom, Marks, Gathered};
 use crate::CornerList;
 use crate::blocks::cube_of;
 use crate::blocks::is_block;
-
-// Zeroes a list from a place on.
-fn zero_from(at: usize, list: &mut [u32])
-    requires { ⌜ at ≤ length (now list) ⌝ }
-    ensures { λ _. ⌜ ZeroFrom at (now (list .entry)) (now (list .exit)) ⌝ }
-{
-    let mut i = at;
-    while i < list.len() {
-        list[i] = 0;
-        i += 1;
-    }
-}
 
 // Marks the eight corners of a child whose first corner is p, where an axis has m corners.
 fn mark_octet(p: usize, m: usize, list: &mut [u32])
@@ -96,10 +84,11 @@ fn list_needed(n: usize, kinds: &[u8], list: &mut [u32]) -> usize
         × (r ≡ countBelow (cube (n + 1)) (needed n (nonzero (now (kinds .entry)))))
         × CornersOnce (needed n (nonzero (now (kinds .entry)))) r (now (list .exit)) ⌝ }
 {
-    zero_from(0, list);
+    slices::zero_words(list);
     mark(n, kinds, list);
-    let count = gather(cube_of(n + 1), list);
-    zero_from(count, list);
+    let corners = cube_of(n + 1);
+    let count = gather(corners, list);
+    slices::zero_words(&mut list[count..]);
     count
 }
 

@@ -1,7 +1,6 @@
-// How large a node is, how many there are along an axis and in all, and the indices of a number.
+// How large a node is, and how many there are along an axis and in all.
 ghost use mathlib.Core.Path.{_≡_};
 ghost use Prim.Native.Nat.{_-_, _^_, _<_};
-ghost use Rattle.geometry.specs.Index.{indicesOf};
 ghost use Rattle.grid.specs.Nodes.{nodeSize, nodesAlong, nodeCounts, nodesOf};
 use crate::Grid;
 use geometry::Vec3i;
@@ -59,13 +58,4 @@ pub fn node_total(g: Grid) -> usize
 {
     let n = node_counts(g);
     n.i * n.j * n.k
-}
-
-// The indices of number `index` in a grid of nx by ny, i fastest. Two divisions, and no product.
-pub fn indices(index: usize, nx: usize, ny: usize) -> Vec3i
-    requires { ⌜ (0 < nx) × (0 < ny) ⌝ }
-    ensures { λ r. ⌜ r ≡ indicesOf index nx ny ⌝ }
-{
-    let row = index / nx;
-    Vec3i::new(index % nx, row % ny, row / ny)
 }

@@ -12,7 +12,6 @@ ghost use Rattle.grid.specs.Corners as corners;
 ghost use Rattle.grid.specs.Leaves.{leafPoint};
 ghost use Rattle.grid.specs.Inner.Octets.{octetValues};
 ghost use Rattle.grid.specs.Inner.Steps.{leafSteps, steppedPoint, cornerAt};
-use crate::nodes::indices;
 use crate::nodes::steps_between;
 use geometry::BoundingBox;
 use geometry::Vec3;
@@ -46,7 +45,7 @@ pub fn corner_point(b: BoundingBox, n: u32, corner: usize) -> Vec3
     let min = b.min;
     let c = corner_step(b, n);
     let side = (n as usize) + 1;
-    corner_at(min, c, indices(corner, side, side))
+    corner_at(min, c, geometry::indices(corner, side, side))
 }
 
 // The steps between the points of a leaf that has the box b and l points along an axis.
@@ -80,7 +79,7 @@ pub fn leaf_point(b: BoundingBox, l: u32, p: usize) -> Vec3
     ensures { λ r. ⌜ r ≡ leafPoint b l p ⌝ }
 {
     let side = l as usize;
-    stepped_point(b.min, leaf_steps(b, l), indices(p, side, side))
+    stepped_point(b.min, leaf_steps(b, l), geometry::indices(p, side, side))
 }
 
 // The places of the eight corners of the child at (i, j, k), in rows of n + 1.
@@ -103,7 +102,7 @@ pub fn octet(n: u32, c: usize) -> [usize; 8]
     ensures { λ r. ⌜ r ≡ corners.octet n c ⌝ }
 {
     let side = n as usize;
-    let at = indices(c, side, side);
+    let at = geometry::indices(c, side, side);
     octet_at(at.i, at.j, at.k, side)
 }
 
@@ -163,7 +162,7 @@ pub fn leaf_points(
     let min = b.min;
     let side = l as usize;
     let steps = leaf_steps(b, l);
-    let mut at = indices(first, side, side);
+    let mut at = geometry::indices(first, side, side);
     let mut q: usize = 0;
     while q < count {
         store_point(stepped_point(min, steps, at), q, xs, ys, zs);
@@ -196,7 +195,7 @@ pub fn corner_points(
     while q < list.len() {
         let corner = list[q] as usize;
         store_point(
-            corner_at(min, c, indices(corner, side, side)),
+            corner_at(min, c, geometry::indices(corner, side, side)),
             q,
             xs,
             ys,

@@ -1,6 +1,7 @@
 // Which active children become constants, and which kind and number a constant has.
 ghost use mathlib.Core.Path.{_≡_};
 ghost use Rattle.grid.specs.Pruning as pruning;
+use crate::ACTIVE;
 use crate::Verdict;
 use geometry::BoundingBox;
 
@@ -64,7 +65,7 @@ pub fn decide_child(min: f64, max: f64, b: BoundingBox, octet: [f64; 8]) -> Verd
     ensures { λ r. ⌜ r ≡ pruning.verdictOf min max b octet ⌝ }
 {
     if is_pruned(min, max, octet, half_diagonal(b)) {
-        return Verdict::Constant(1, average(octet));
+        return Verdict::Constant(ACTIVE, average(octet));
     }
     Verdict::Leaf
 }

@@ -4,9 +4,10 @@ use crate::case::grid_of;
 use crate::case::number;
 use crate::case::small;
 use crate::words;
-use grid::Band;
-use grid::Lengths;
-use grid::Refusal;
+use input::Band;
+use input::Input;
+use input::Lengths;
+use input::Refusal;
 use model::ImplicitModel;
 use model::ModelComponent;
 use model::Part;
@@ -67,11 +68,15 @@ fn open(fields: &[u64; 160], answers: &mut [u64; 160]) -> usize
     ensures { λ r. ⌜ (0 < r) × (r ≤ 160) ⌝ }
 {
     let g = grid_of(fields);
-    let band = Band {
-        min: number(fields, 9),
-        max: number(fields, 10),
+    let input = Input {
+        grid: g,
+        band: Band {
+            min: number(fields, 9),
+            max: number(fields, 10),
+        },
+        model: case_model(fields),
     };
-    match grid::open_refusal(g, band, case_model(fields), case_lengths(fields)) {
+    match input::open_refusal(input, case_lengths(fields)) {
         Refusal::By(cause) => {
             answers[0] = cause as u64;
             1

@@ -13,7 +13,8 @@ use Rattle.forms.proofs.CutLaws.{off-cut, line-cut}
 use Rattle.job_text.specs.Lines.{limit, boundsForm, cellForm, blocksForm, bandForm, PartKind, partForm, partKinds}
 use Rattle.job_text.specs.Parts.{PartLine, none, part, orPart, partAmong, readPart}
 use Rattle.job_text.specs.Reading.{Read, Parts, withPart, onPart, readParts, onLine, onParts, readText}
-use Rattle.job_text.proofs.FormFacts.{bounds-apart, cell-apart, blocks-apart, band-apart, part-apart, bounds-most, cell-most, blocks-most, band-most, part-most}
+use Rattle.job_text.proofs.FormFacts.{bounds-apart, cell-apart, blocks-apart, band-apart, part-apart, bounds-most, cell-most}
+use Rattle.job_text.proofs.FormFacts.{blocks-most, band-most, part-most}
 use Rattle.job_text.proofs.TextLines.{writtenWith}
 
 -- what is left of m bytes of a text, where the text goes on with the rest
@@ -51,7 +52,9 @@ among-cut (k ∷ ks) m t enough = by (among-cut ks m t enough) (readForm limit (
     others is none cut = rw (cut-off (partForm k) 77 m t (part-apart k) (part-most k) enough is) cut
     others is (part s rest) cut = (rw (cut-off (partForm k) 77 m t (part-apart k) (part-most k) enough is) (cut .0), cut .1)
 
-    by : PartCut m t (take m t) ks (partAmong ks t) → (l : Line) → readForm limit (partForm k) t ≡ l → PartCut m t (take m t) (k ∷ ks) (orPart k l (partAmong ks t))
+    by :
+        PartCut m t (take m t) ks (partAmong ks t) → (l : Line) → readForm limit (partForm k) t ≡ l
+        → PartCut m t (take m t) (k ∷ ks) (orPart k l (partAmong ks t))
     by ih off is = others is (partAmong ks t) ih
     by ih (line xs rest) is = (
       rw (cut-line (partForm k) 77 m t (part-apart k) (part-most k) enough xs rest is),
@@ -67,7 +70,9 @@ parts-cut (suc r) n zero t enough = absurd (omega arith)
 parts-cut (suc r) n (suc m) [] enough = refl
 parts-cut (suc r) n (suc m) (b ∷ t) enough = by (λ k s. parts-cut r (suc n) k s) (readPart (b ∷ t)) (among-cut partKinds (suc m) (b ∷ t) (omega arith))
   where
-    by : ((k : ℕ) (s : List ℕ) → 77 * r < k → readParts r (suc n) (take k s) ≡ readParts r (suc n) s) → (l : PartLine) → PartCut (suc m) (b ∷ t) (take (suc m) (b ∷ t)) partKinds l
+    by :
+        ((k : ℕ) (s : List ℕ) → 77 * r < k → readParts r (suc n) (take k s) ≡ readParts r (suc n) s) → (l : PartLine)
+        → PartCut (suc m) (b ∷ t) (take (suc m) (b ∷ t)) partKinds l
         → onPart n (readPart (take (suc m) (b ∷ t))) (readParts r (suc n)) ≡ onPart n l (readParts r (suc n))
     by ih none cut = rw cut
     by ih (part s rest) cut = rw (cut .0) (ap (withPart s) (ih (left (suc m) (b ∷ t) rest) rest (omega (arith, cut .1))))
@@ -75,7 +80,9 @@ parts-cut (suc r) n (suc m) (b ∷ t) enough = by (λ k s. parts-cut r (suc n) k
 -- ---- the whole text
 
 -- a line, where what follows needs no more than `more` bytes
-line-then : (n : ℕ) (form : List Piece) (size more m : ℕ) (t : List ℕ) (next : List ℕ → List ℕ → Read) → separated form ≡ true → most form ≤ size → size + more ≤ m
+line-then :
+    (n : ℕ) (form : List Piece) (size more m : ℕ) (t : List ℕ) (next : List ℕ → List ℕ → Read) → separated form ≡ true
+    → most form ≤ size → size + more ≤ m
     → ((xs rest : List ℕ) (k : ℕ) → more ≤ k → next xs (take k rest) ≡ next xs rest)
     → onLine n (readForm limit form (take m t)) next ≡ onLine n (readForm limit form t) next
 unfolding onLine

@@ -81,7 +81,10 @@ kindsAfter sub = neg ∷ []
 kindsAfter neg = []
 
 -- the text of a line is off the forms of the kinds before its own
-own-kind : (k : PartKind) (xs t : List ℕ) → let s = spell (partForm k) xs ++ t in readPart s ≡ orPart k (readForm limit (partForm k) s) (partAmong (kindsAfter k) s)
+own-kind :
+    (k : PartKind) (xs t : List ℕ)
+    → let s = spell (partForm k) xs ++ t in readPart s ≡ orPart k (readForm limit (partForm k) s)
+    (partAmong (kindsAfter k) s)
 unfolding kindsAfter partAmong orPart readForm readPiece onFront withNumber spell spellPiece after isField pieceOf
 own-kind const xs t = refl
 own-kind sphere xs t = refl

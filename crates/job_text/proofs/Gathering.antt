@@ -5,7 +5,7 @@ use native.Mathlib.Omega.{arith}
 use mathlib.Core.List.{List, [], _∷_, _++_, map, append-nil}
 use lib.ListN.{length, drop, set, replicate, length-append, length-drop}
 use Rattle.forms.proofs.Turns.{drop-end}
-use Rattle.grid.specs.declared.Band.{Band}
+use Rattle.input.specs.declared.Band.{Band}
 use Rattle.grid.specs.declared.Grid.{Grid}
 use Rattle.model.specs.declared.ModelComponent.{ModelComponent}
 use Rattle.model.specs.declared.Part.{Part}
@@ -13,7 +13,7 @@ use Rattle.float.specs.Zero.{plusZero}
 use Rattle.model.specs.declared.Part.the-variants.{Constant}
 use Rattle.job_text.specs.Parts.{patternFrom, Spelt, PartLine, none, part, readPart}
 use Rattle.job_text.specs.Reading.{Parts, offAt, parts, withPart, onPart, readParts, componentOf, componentsOf, patternsOf, offReading, readJob}
-use Rattle.job_text.specs.Inner.Answers.{IsPart, modelReading}
+use Rattle.job_text.specs.Inner.TextAnswers.{IsPart, modelReading}
 
 -- ---- an array that holds a list's values at its front
 
@@ -83,7 +83,9 @@ pub gathered-first : (text : List ℕ) (at : ℕ) → at ≤ length text
 unfolding withParts
 gathered-first text at within = record { spelts = []; number = refl; most = omega arith; parts = refl; bits = refl; within = within; left = refl }
 
-module _ (text : List ℕ) (at : ℕ) (components : List ModelComponent) (patterns : List ℕ) (place count : ℕ) (g : Gathered text at components patterns place count) where
+module _
+    (text : List ℕ) (at : ℕ) (components : List ModelComponent) (patterns : List ℕ) (place count : ℕ)
+    (g : Gathered text at components patterns place count) where
   -- the text ends here
   pub gathered-done : (grid : Grid) (band : Band) → length text ≤ place
       → modelReading grid band (readParts 64 5 (drop at text)) ≡ readJob (record {
@@ -119,7 +121,9 @@ module _ (text : List ℕ) (at : ℕ) (components : List ModelComponent) (patter
         rw (none, line) (parts-full 69 (drop place text) more-left)
 
     module _ (room : count < 64) where
-      left-turn : readParts (64 - count) (5 + count) (drop place text) ≡ onPart (5 + count) (readPart (drop place text)) (readParts (64 - (count + 1)) (5 + (count + 1)))
+      left-turn :
+          readParts (64 - count) (5 + count) (drop place text)
+          ≡ onPart (5 + count) (readPart (drop place text)) (readParts (64 - (count + 1)) (5 + (count + 1)))
       left-turn =
           let one : 64 - count ≡ suc (64 - (count + 1)) = omega arith in
           let next : 5 + (count + 1) ≡ suc (5 + count) = omega arith in

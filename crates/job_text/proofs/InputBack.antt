@@ -13,7 +13,7 @@ use Rattle.model.specs.declared.ModelComponent.{ModelComponent}
 use Rattle.model.specs.declared.Part.{Part}
 use Rattle.model.specs.declared.Part.the-variants.{Constant, Sphere, Plane, Min, Max, Add, Sub, Neg}
 use Rattle.model.specs.Part.{partIn}
-use Rattle.sparse_field.specs.declared.Input.{Input}
+use Rattle.input.specs.declared.Input.{Input}
 use Rattle.job_text.specs.Lines.{limit}
 use Rattle.job_text.specs.Parts.{partFrom, Spelt}
 use Rattle.job_text.specs.Reading.{componentOf, componentsOf, patternsOf, readJob, readText, readingOf}
@@ -48,11 +48,21 @@ pub on-part : (p : Part) → FitsPart p → OnPart (speltPart p)
 unfolding FitsPart speltPart fields isField pieceOf
 on-part (Constant w) fit = record { fits = past (bytes "(const ") _ _ (float w _ _ fit closed); count = refl }
 on-part (Sphere c r) fit = record {
-  fits = past (bytes "(sphere ") _ _ (float _ _ _ (fit .0 .0) (space _ _ (float _ _ _ (fit .0 .1) (space _ _ (float _ _ _ (fit .0 .2) (space _ _ (float _ _ _ (fit .1) closed)))))));
+  fits =
+      past (bytes "(sphere ") _ _
+      (float _ _ _ (fit .0 .0)
+      (space _ _ (float _ _ _ (fit .0 .1)
+      (space _ _ (float _ _ _ (fit .0 .2)
+      (space _ _ (float _ _ _ (fit .1) closed)))))));
   count = refl;
 }
 on-part (Plane n d) fit = record {
-  fits = past (bytes "(plane ") _ _ (float _ _ _ (fit .0 .0) (space _ _ (float _ _ _ (fit .0 .1) (space _ _ (float _ _ _ (fit .0 .2) (space _ _ (float _ _ _ (fit .1) closed)))))));
+  fits =
+      past (bytes "(plane ") _ _
+      (float _ _ _ (fit .0 .0)
+      (space _ _ (float _ _ _ (fit .0 .1)
+      (space _ _ (float _ _ _ (fit .0 .2)
+      (space _ _ (float _ _ _ (fit .1) closed)))))));
   count = refl;
 }
 on-part (Min a b) fit = record { fits = past (bytes "(min ") _ _ (number _ _ _ (fit .0) (space _ _ (number _ _ _ (fit .1) closed))); count = refl }
@@ -81,8 +91,16 @@ on-forms : (i : Input) → FitsInput i → OnForms (writtenInput i)
 unfolding writtenInput fields isField pieceOf spelts
 on-forms i fit = record {
   bounds = record {
-    fits = past (bytes "(bounds (min ") _ _ (float _ _ _ (fit .min .0) (space _ _ (float _ _ _ (fit .min .1) (space _ _ (float _ _ _ (fit .min .2)
-        (past (bytes ") (max ") _ _ (float _ _ _ (fit .max .0) (space _ _ (float _ _ _ (fit .max .1) (space _ _ (float _ _ _ (fit .max .2) (past (bytes ")") _ _ closed))))))))))));
+    fits =
+        past (bytes "(bounds (min ") _ _
+        (float _ _ _ (fit .min .0)
+        (space _ _ (float _ _ _ (fit .min .1)
+        (space _ _ (float _ _ _ (fit .min .2)
+        (past (bytes ") (max ") _ _
+        (float _ _ _ (fit .max .0)
+        (space _ _ (float _ _ _ (fit .max .1)
+        (space _ _ (float _ _ _ (fit .max .2)
+        (past (bytes ")") _ _ closed))))))))))));
     count = refl;
   };
   cell = record { fits = past (bytes "(cell ") _ _ (float _ _ _ (fit .cell) closed); count = refl };

@@ -34,7 +34,8 @@ values-append : (nan : ℕ) (xs ys : List Float) → valuesText nan (xs ++ ys) �
 unfolding valuesText
 values-append nan [] ys = refl
 values-append nan (x ∷ xs) ys =
-    ap (λ t. (32 ∷ hexOf (bitsIn nan x)) ++ t) (values-append nan xs ys) ∙ sym (append-assoc (32 ∷ hexOf (bitsIn nan x)) (valuesText nan xs) (valuesText nan ys))
+    ap (λ t. (32 ∷ hexOf (bitsIn nan x)) ++ t) (values-append nan xs ys)
+    ∙ sym (append-assoc (32 ∷ hexOf (bitsIn nan x)) (valuesText nan xs) (valuesText nan ys))
 
 -- one value more, at the end
 pub values-next : (nan : ℕ) (xs : List Float) (i : ℕ) (d : Float) → i < length xs
@@ -126,7 +127,13 @@ module _ (points v c kind : ℕ) where
 leaf-measured : (points nan v c place : ℕ) (store : List Float) → length (leafLine nan v c (leafValues points store place)) ≡ leafLength points v c
 unfolding leafLine leafLength leafValues
 leaf-measured points nan v c place store =
-    omega (arith, length-append (spell leafForm (v ∷ c ∷ [])) (valuesText nan (leafValues points store place) ++ leafEnd), length-append (valuesText nan (leafValues points store place)) leafEnd, values-length nan (leafValues points store place), length-tabulate points (λ p. getD store (place * points + p) plusZero))
+    omega (
+      arith,
+      length-append (spell leafForm (v ∷ c ∷ [])) (valuesText nan (leafValues points store place) ++ leafEnd),
+      length-append (valuesText nan (leafValues points store place)) leafEnd,
+      values-length nan (leafValues points store place),
+      length-tabulate points (λ p. getD store (place * points + p) plusZero),
+    )
 
 constant-measured : (v c : ℕ) (x : Float) → length (constantLine v c x) ≡ constantLength v c
 unfolding constantLine constantLength spell spellPiece pieceOf isField after
@@ -135,7 +142,13 @@ constant-measured v c x =
   where
     around : (b : ℕ) → length (decimalOf v ++ (32 ∷ (decimalOf c ++ (32 ∷ (hexOf b ++ (41 ∷ 10 ∷ [])))))) ≡ length (decimalOf v) + length (decimalOf c) + 20
     around b =
-        omega (arith, length-append (decimalOf v) (32 ∷ (decimalOf c ++ (32 ∷ (hexOf b ++ (41 ∷ 10 ∷ []))))), length-append (decimalOf c) (32 ∷ (hexOf b ++ (41 ∷ 10 ∷ []))), length-append (hexOf b) (41 ∷ 10 ∷ []), digits-length 16 16 b)
+        omega (
+          arith,
+          length-append (decimalOf v) (32 ∷ (decimalOf c ++ (32 ∷ (hexOf b ++ (41 ∷ 10 ∷ []))))),
+          length-append (decimalOf c) (32 ∷ (hexOf b ++ (41 ∷ 10 ∷ []))),
+          length-append (hexOf b) (41 ∷ 10 ∷ []),
+          digits-length 16 16 b,
+        )
 
 pub line-measured : (points nan v c kind : ℕ) (x : Float) (place : ℕ) (store : List Float)
     → length (kindLine points nan v c kind x place store) ≡ kindLength points v c kind

@@ -10,7 +10,8 @@ use Rattle.grid.proofs.BlockLaws.{cube-le}
 use Rattle.schedule.specs.Plan.{Plan}
 use Rattle.schedule.specs.Memory.{Memory}
 use Rattle.schedule.specs.Totals.{leavesAll, total, evaluationsBound}
-use Rattle.schedule.specs.Opened.{Lengths, lengthsOf, stateAt}
+use Rattle.input.specs.declared.Lengths.{Lengths}
+use Rattle.schedule.specs.Opened.{lengthsOf, stateAt}
 use Rattle.schedule.specs.Counts.{countsWith}
 use Rattle.schedule.specs.JobRecord.{job, isFinished}
 use Rattle.schedule.specs.Possible.{impossible}
@@ -20,19 +21,21 @@ use Rattle.schedule.proofs.AfterFacts.{after}
 use Rattle.schedule.proofs.EventCounts.{total-bound}
 use Rattle.schedule.proofs.LedgerTheorem.{same-job}
 use Rattle.schedule.proofs.Reachable.{jobAt}
-use Rattle.sparse_field.specs.declared.Input.{Input}
+use Rattle.input.specs.declared.Input.{Input}
 use Rattle.sparse_field.specs.declared.Record.{Record}
 use Rattle.sparse_field.specs.declared.Outcome.{Outcome}
-use Rattle.sparse_field.specs.declared.Answer.{Answer}
-use Rattle.sparse_field.specs.declared.Answer.the-variants.{Accepted, Refused}
-use Rattle.sparse_field.specs.Plan.{planOf, planWith}
-use Rattle.sparse_field.specs.Records.{sparse, lent, jobIn, recordIn}
+use Rattle.schedule.specs.declared.Answer.{Answer}
+use Rattle.schedule.specs.declared.Answer.the-variants.{Accepted, Refused}
+use Rattle.plans.specs.Plan.{planOf, planWith}
+use Rattle.plans.specs.Sparse.{sparse}
+use Rattle.sparse_field.specs.Records.{jobIn, recordIn}
 use Rattle.sparse_field.specs.Calls.{called, handed}
 use Rattle.sparse_field.proofs.CallLaws.{acceptedWith}
 use Rattle.sparse_field.proofs.Demand.{record-forth}
-use Rattle.sparse_field.proofs.Opening.{sized, sparse-laws, long-enough, nothing}
+use Rattle.sparse_field.proofs.Opening.{sized, nothing}
+use Rattle.plans.proofs.Lawful.{sparse-laws, long-enough}
 use Rattle.sparse_field.proofs.WholeJob.{recordAfter, job-opened, job-finished, finished-possible, finished-flag, finished-elements}
-use Rattle.sparse_field.proofs.Judgement.{bound-fits}
+use Rattle.grid.proofs.LimitLaws.{bound-fits}
 use Rattle.forms.specs.Forms.{spell}
 use Rattle.job_text.specs.declared.Job.{Job}
 use Rattle.job_text.specs.declared.Listing.{Listing}
@@ -58,7 +61,11 @@ opened-answer : (i : Input) (r : Record) (m : Memory) → called (opens i) r m .
 unfolding called engineCall engineOpen
 opened-answer i r m = by (sparse .cause (lengthsOf m) i)
   where
-    by : (n : ℕ) → (let o = engineOpen sparse i (record { jobRecord = recordIn r; memory = m }) n in handed r (o .answer) (o .next)) .outcome .answer ≡ answerFor n
+    by :
+        (n : ℕ)
+        → (let o = engineOpen sparse i (record { jobRecord = recordIn r; memory = m }) n in handed r (o .answer)
+        (o .next)) .outcome .answer
+        ≡ answerFor n
     by zero = refl
     by (suc n) = refl
 
@@ -137,7 +144,7 @@ module _ (i : Input) (m : Memory) (none : sparse .cause (lengthsOf m) i ≡ 0) w
 
   some-points : 0 < planOf i .leafPoints
   unfolding planWith
-  some-points = cube-le (i .grid .leaf) 1 (sized (i .grid) (nothing i l none) .leafLeast)
+  some-points = cube-le (i .grid .leaf) 1 (sized i (nothing i l none) .leafLeast)
 
   -- every leaf is made
   leaves-all : stateAt (planOf i) (lengthsOf m) (total (planOf i)) .leaves ≡ leavesAll (planOf i)
@@ -166,13 +173,17 @@ module _ (i : Input) (m : Memory) (none : sparse .cause (lengthsOf m) i ≡ 0) w
 
 -- ---- a job that is opened and then given a budget that covers it
 
-module _ (j : Job) (r : Record) (m : Memory) {opened : Outcome} (lengths : lengthsOf m ≡ programLengths) (is-opened : opened ≡ called (opens (j .input)) r m .outcome) where
+module _
+    (j : Job) (r : Record) (m : Memory) {opened : Outcome} (lengths : lengthsOf m ≡ programLengths)
+    (is-opened : opened ≡ called (opens (j .input)) r m .outcome) where
   -- a refused one
   pub refused-listed : (k : ℕ) → opened .answer ≡ Refused k → spell refusedForm (k ∷ []) ≡ jobListed j
   refused-listed k is = sym (listed-refusal j r m lengths k (sym (ap (λ o. o .answer) is-opened) ∙ is))
 
   -- a finished one
-  pub finished-listed : (m₁ m₂ : Memory) {done : Outcome} {nan n : ℕ} → m₁ ≡ called (opens (j .input)) r m .memory → opened .answer ≡ Accepted → n ≡ 18446744073709551615
+  pub finished-listed :
+      (m₁ m₂ : Memory) {done : Outcome} {nan n : ℕ} → m₁ ≡ called (opens (j .input)) r m .memory
+      → opened .answer ≡ Accepted → n ≡ 18446744073709551615
       → done ≡ called (steps n) (opened .next) m₁ .outcome → m₂ ≡ called (steps n) (opened .next) m₁ .memory → nan ≡ jobNan j
       → (out : List ℕ) → writtenOf (done .next) nan m₂ out ≡ putListing (jobListed j) out
   finished-listed m₁ m₂ {done} {nan} {n} after-open accepted all is-done after-step is-nan out =
@@ -182,7 +193,10 @@ module _ (j : Job) (r : Record) (m : Memory) {opened : Outcome} (lengths : lengt
       let first = job-opened i m none r in
       let start : opened .next ≡ recordAfter (lengthsOf m) i 0 = ap (λ o. o .next) is-opened ∙ ap (λ h. h .outcome .next) first in
       let memory : m₁ ≡ stateAt (planOf i) (lengthsOf m) 0 .memory = after-open ∙ ap (λ h. h .memory) first in
-      let last : called (steps n) (opened .next) m₁ ≡ acceptedWith (recordAfter (lengthsOf m) i (total (planOf i))) (stateAt (planOf i) (lengthsOf m) (total (planOf i)) .memory) =
+      let last :
+      called (steps n) (opened .next) m₁
+      ≡ acceptedWith (recordAfter (lengthsOf m) i (total (planOf i)))
+      (stateAt (planOf i) (lengthsOf m) (total (planOf i)) .memory) =
       ap (λ x. called (steps n) x m₁) start ∙ ap (λ x. called (steps n) (recordAfter (lengthsOf m) i 0) x) memory ∙ job-finished i m none n covered in
       ap (λ o. writtenOf (o .next) nan m₂ out) (is-done ∙ ap (λ h. h .outcome) last)
       ∙ ap (λ x. writtenOf (recordAfter (lengthsOf m) i (total (planOf i))) nan x out) (after-step ∙ ap (λ h. h .memory) last)

@@ -11,14 +11,19 @@ use Rattle.lists.specs.Tabulate.{tabulate}
 use Rattle.lists.proofs.Tables.{length-tabulate}
 use Rattle.grid.specs.Blocks.{cube}
 use Rattle.schedule.specs.Schedule.{decision}
-use Rattle.schedule.specs.Plan.{Plan, Decision, constant, leaf}
-use Rattle.schedule.specs.Totals.{sumFrom, sumBelow, bit, countBefore, activeAll, leavesAll, total}
+use Rattle.schedule.specs.Plan.{Plan}
+use Rattle.grid.specs.declared.Verdict.{Verdict}
+use Rattle.grid.specs.declared.Verdict.the-variants.{Constant, Leaf}
+use Rattle.lists.specs.Sums.{sumFrom, sumBelow, bit}
+use Rattle.schedule.specs.Totals.{countBefore, activeAll, leavesAll, total}
 use Rattle.schedule.specs.Counts.{countsWith}
-use Rattle.schedule.proofs.Sums.{sumBelow-snoc, sumBits-most, before-next, before-node, before-all}
-use Rattle.sparse_field.specs.declared.Input.{Input}
-use Rattle.sparse_field.specs.Plan.{planWith, planOf}
-use Rattle.sparse_field.specs.Records.{sparse, lent}
-use Rattle.sparse_field.proofs.Judgement.{no-cause, active-all}
+use Rattle.lists.proofs.Sums.{sumBelow-snoc, sumBits-most}
+use Rattle.schedule.proofs.Sums.{before-next, before-node, before-all}
+use Rattle.input.specs.declared.Input.{Input}
+use Rattle.plans.specs.Plan.{planWith, planOf, valueOf, decideBy}
+use Rattle.plans.specs.Sparse.{sparse}
+use Rattle.input.proofs.Clear.{no-cause}
+use Rattle.plans.proofs.Plans.{active-all}
 use Rattle.forms.specs.Digits.{decimalCount, decimalOf, hexOf}
 use Rattle.forms.specs.Forms.{spell, spellPiece, pieceOf, isField, after}
 use Rattle.forms.proofs.DigitLaws.{digits-length, count-most}
@@ -47,18 +52,25 @@ module _ (v c : ℕ) (node : v < 1000) (child : c < 1000) where
   unfolding leafLine
   leaf-small nan P =
       let values = tabulate (P .leafPoints) (P .pointValue v c) in
-      omega (arith, length-append (spell leafForm (v ∷ c ∷ [])) (valuesText nan values ++ leafEnd), length-append (valuesText nan values) leafEnd, values-length nan values, length-tabulate (P .leafPoints) (P .pointValue v c), leaf-front-small)
+      omega (
+        arith,
+        length-append (spell leafForm (v ∷ c ∷ [])) (valuesText nan values ++ leafEnd),
+        length-append (valuesText nan values) leafEnd,
+        values-length nan values,
+        length-tabulate (P .leafPoints) (P .pointValue v c),
+        leaf-front-small,
+      )
 
   constant-small : (b : ℕ) → length (spell constantForm (v ∷ c ∷ b ∷ [])) ≤ 36
   unfolding spell spellPiece pieceOf isField after
   constant-small b =
       omega (arith, numbers-small (32 ∷ (hexOf b ++ (41 ∷ 10 ∷ []))), length-append (hexOf b) (41 ∷ 10 ∷ []), digits-length 16 16 b)
 
-  line-small : (nan : ℕ) (P : Plan) (b : Bool) (d : Decision) → length (planLine P nan v c b d) ≤ bit b * (36 + 17 * P .leafPoints)
+  line-small : (nan : ℕ) (P : Plan) (b : Bool) (d : Verdict) → length (planLine P nan v c b d) ≤ bit b * (36 + 17 * P .leafPoints)
   unfolding planLine constantLine
   line-small nan P false d = omega arith
-  line-small nan P true (constant k x) = omega (arith, constant-small (toBits binary64 x))
-  line-small nan P true leaf = omega (arith, leaf-small nan P)
+  line-small nan P true (Constant k x) = omega (arith, constant-small (toBits binary64 x))
+  line-small nan P true Leaf = omega (arith, leaf-small nan P)
 
 line-bytes : (a p : ℕ) → a * (36 + 17 * p) ≡ 36 * a + 17 * (a * p)
 line-bytes a p = omega (arith, mul-add a 36 (17 * p), mul-left-comm a 17 p)
@@ -120,14 +132,27 @@ module _ (P : Plan) where
       let small = lines-small nan n (omega arith) few in
       let active : activeAll P ≤ 512 = omega (arith, sumBits-most (λ j. P .active (j / P .children) (j % P .children)) n, bits-all) in
       let bytes = line-bytes (activeAll P) (P .leafPoints) in
-      omega (arith, length-append done lines, done-most (countsWith P (leavesAll P) (total P)), measured, small, ap (λ k. k * (36 + 17 * P .leafPoints)) bits-all, bytes)
+      omega (
+        arith,
+        length-append done lines,
+        done-most (countsWith P (leavesAll P) (total P)),
+        measured,
+        small,
+        ap (λ k. k * (36 + 17 * P .leafPoints)) bits-all,
+        bytes,
+      )
 
 -- THE PROGRAM'S LISTINGS FIT
 pub listing-fits : (i : Input) (nan : ℕ) → sparse .cause programLengths i ≡ 0 → length (planListing (planOf i) nan) ≤ 88176
 unfolding planWith
 listing-fits i nan none =
-    let n = no-cause (i .grid) (i .band) (i .model) (lent programLengths) none in
-    listing-small (planOf i) nan (n .lent .kinds) (omega (arith, n .lent .store, ap (λ k. k * cube (i .grid .leaf)) (active-all i)))
+    let n = no-cause i programLengths none in
+    listing-small (planOf i) nan (n .lent .kinds) (omega (
+      arith,
+      n .lent .store,
+      ap (λ k. k * cube (i .grid .leaf))
+          (active-all (i .grid) (decideBy (i .band)) (valueOf (i .model))),
+    ))
 
 -- so do the lines of refusals
 pub refused-fits : (number : ℕ) → length (spell refusedForm (number ∷ [])) ≤ 31

@@ -1,5 +1,5 @@
 -- A listing's lines one after the other, their bytes in all, and a listing put into lent bytes.
-use Prim.Native.Nat.{ℕ, zero, suc, _+_, _-_, _/_, _%_, _≤_, _<_}
+use Prim.Native.Nat.{ℕ, zero, suc, _+_, _/_, _%_, _≤_, _<_, _-_}
 use mathlib.Core.Path.{_≡_, refl, sym, ap, ap₂, _∙_}
 use mathlib.Core.Bool.{Bool, true, false, _&&_}
 use mathlib.Core.List.{List, [], _∷_, _++_, append-assoc, append-nil}
@@ -8,17 +8,15 @@ use native.Mathlib.Numerals.{add-one}
 use native.Mathlib.Omega.{arith}
 use borrow.Author.Tests.{le-leb, lt-leb}
 use lib.Ieee.{Float}
-use lib.ListN.{length, getD, take, drop, replicate, length-append, length-replicate}
-use lib.Seq.{sets, sets-eq, take-all, take-at, length-sets}
-use Rattle.lists.specs.Filled.{filled}
+use lib.ListN.{length, getD, take, drop, replicate, length-append}
+use lib.Seq.{sets, sets-eq, take-at, length-sets}
 use Rattle.lists.proofs.Lists.{getD-any}
 use Rattle.lists.proofs.Tests.{and-left, and-right}
-use Rattle.lists.proofs.Filling.{filled-all, filled-constant, filled-length, take-filled}
 use Rattle.float.specs.Zero.{plusZero}
 use Rattle.schedule.specs.Memory.{Memory}
-use Rattle.schedule.specs.Totals.{sumFrom, sumBelow}
-use Rattle.schedule.specs.Counts.{Counts}
-use Rattle.schedule.proofs.Sums.{sumFrom-most}
+use Rattle.lists.specs.Sums.{sumFrom, sumBelow}
+use Rattle.schedule.specs.declared.Counts.{Counts}
+use Rattle.lists.proofs.Sums.{sumFrom-most}
 use Rattle.forms.specs.Digits.{decimalOf}
 use Rattle.forms.specs.Forms.{spell, spellPiece, pieceOf, isField, after}
 use Rattle.job_text.specs.declared.Listing.the-variants.{Bytes, Refused}
@@ -101,7 +99,13 @@ module _ (f : ℕ → List ℕ) where
   pub line-within : (total j : ℕ) → j < total → length (linesFrom f j 0) + length (f j) ≤ length (linesFrom f total 0)
   line-within total j below =
       let all : j + 1 + (total - (j + 1)) ≡ total = omega arith in
-      omega (arith, length-append (linesFrom f j 0) (f j), ap length (lines-next j), lines-more (j + 1) (total - (j + 1)), ap (λ n. length (linesFrom f n 0)) all)
+      omega (
+        arith,
+        length-append (linesFrom f j 0) (f j),
+        ap length (lines-next j),
+        lines-more (j + 1) (total - (j + 1)),
+        ap (λ n. length (linesFrom f n 0)) all,
+      )
 
 pub lines-cong : (f g : ℕ → List ℕ) (r j : ℕ) → ((i : ℕ) → i < j + r → f i ≡ g i) → linesFrom f r j ≡ linesFrom g r j
 unfolding linesFrom
@@ -111,10 +115,14 @@ lines-cong f g (suc r) j same =
 
 -- the line of a child as the code reads it: a number that is there, whatever it reads past the end
 pub line-read : (children points nan : ℕ) (m : Memory) (j : ℕ) (d : Float) → j < length (m .numbers)
-    → kindLine points nan (j / children) (j % children) (getD (m .kinds) j 0) (getD (m .numbers) j d) (getD (m .places) j 0) (m .store) ≡ lineAt children points nan m j
+    → kindLine points nan (j / children) (j % children) (getD (m .kinds) j 0) (getD (m .numbers) j d)
+    (getD (m .places) j 0) (m .store)
+    ≡ lineAt children points nan m j
 unfolding lineAt
 line-read children points nan m j d below =
-    ap (λ x. kindLine points nan (j / children) (j % children) (getD (m .kinds) j 0) x (getD (m .places) j 0) (m .store)) (getD-any (m .numbers) j d plusZero below)
+    ap
+    (λ x. kindLine points nan (j / children) (j % children) (getD (m .kinds) j 0) x (getD (m .places) j 0) (m .store))
+    (getD-any (m .numbers) j d plusZero below)
 
 -- ---- how many bytes
 
@@ -135,14 +143,19 @@ pub listing-measured : (total children points nan : ℕ) (k : Counts) (m : Memor
     → length (listingTo total children points nan k m) ≡ length (doneLine k) + sumBelow (lengthAt children points (m .kinds)) total
 listing-measured total children points nan k m =
     length-append (doneLine k) (linesFrom (lineAt children points nan m) total 0)
-    ∙ ap (λ n. length (doneLine k) + n) (lines-measured (lineAt children points nan m) (lengthAt children points (m .kinds)) (line-length children points nan m) total 0)
+    ∙ ap (λ n. length (doneLine k) + n)
+    (lines-measured (lineAt children points nan m) (lengthAt children points (m .kinds))
+    (line-length children points nan m) total 0)
 
 -- the first line, from its counts
-pub done-spelling : (k : Counts) {xs : List ℕ} → xs ≡ k .nodes ∷ k .active ∷ k .leaves ∷ k .sampled ∷ k .evaluations ∷ [] → spell doneForm xs ≡ doneLine k
+pub done-spelling : (k : Counts) {xs : List ℕ} → xs ≡ k .grid .nodes ∷ k .grid .active ∷ k .leaves ∷ k .sampled ∷ k .evaluations ∷ []
+    → spell doneForm xs ≡ doneLine k
 unfolding doneLine
 done-spelling k numbers = ap (spell doneForm) numbers
 
-pub done-length : (k : Counts) {xs : List ℕ} → xs ≡ k .nodes ∷ k .active ∷ k .leaves ∷ k .sampled ∷ k .evaluations ∷ [] → length (spell doneForm xs) ≡ length (doneLine k)
+pub done-length :
+    (k : Counts) {xs : List ℕ} → xs ≡ k .grid .nodes ∷ k .grid .active ∷ k .leaves ∷ k .sampled ∷ k .evaluations ∷ []
+    → length (spell doneForm xs) ≡ length (doneLine k)
 done-length k numbers = ap length (done-spelling k numbers)
 
 number-most : (x n : ℕ) (t : List ℕ) → length t ≤ n → length (decimalOf x ++ t) ≤ 20 + n
@@ -151,22 +164,18 @@ number-most x n t few = omega (arith, length-append (decimalOf x) t, decimal-len
 pub done-most : (k : Counts) → length (doneLine k) ≤ 112
 unfolding doneLine spell spellPiece pieceOf isField after
 done-most k =
-    let last = number-most (k .evaluations) 2 (41 ∷ 10 ∷ []) (omega arith) in
-    let fourth = number-most (k .sampled) 23 (32 ∷ (decimalOf (k .evaluations) ++ (41 ∷ 10 ∷ []))) (omega (arith, last)) in
-    let third = number-most (k .leaves) 44 (32 ∷ (decimalOf (k .sampled) ++ (32 ∷ (decimalOf (k .evaluations) ++ (41 ∷ 10 ∷ []))))) (omega (arith, fourth)) in
-    let second = number-most (k .active) 65 (32 ∷ (decimalOf (k .leaves) ++ (32 ∷ (decimalOf (k .sampled) ++ (32 ∷ (decimalOf (k .evaluations) ++ (41 ∷ 10 ∷ []))))))) (omega (arith, third)) in
-    omega (arith, number-most (k .nodes) 86 (32 ∷ (decimalOf (k .active) ++ (32 ∷ (decimalOf (k .leaves) ++ (32 ∷ (decimalOf (k .sampled) ++ (32 ∷ (decimalOf (k .evaluations) ++ (41 ∷ 10 ∷ []))))))))) (omega (arith, second)))
+    let end : List ℕ = 41 ∷ 10 ∷ [] in
+    let from-fifth : List ℕ = 32 ∷ (decimalOf (k .evaluations) ++ end) in
+    let from-fourth : List ℕ = 32 ∷ (decimalOf (k .sampled) ++ from-fifth) in
+    let from-third : List ℕ = 32 ∷ (decimalOf (k .leaves) ++ from-fourth) in
+    let from-second : List ℕ = 32 ∷ (decimalOf (k .grid .active) ++ from-third) in
+    let fifth = number-most (k .evaluations) 2 end (omega arith) in
+    let fourth = number-most (k .sampled) 23 from-fifth (omega (arith, fifth)) in
+    let third = number-most (k .leaves) 44 from-fourth (omega (arith, fourth)) in
+    let second = number-most (k .grid .active) 65 from-third (omega (arith, third)) in
+    omega (arith, number-most (k .grid .nodes) 86 from-second (omega (arith, second)))
 
 -- ---- bytes with 0 after them
-
-pub zeros-after : (at : ℕ) (l : List ℕ) → at ≤ length l → filled at (length l - at) (λ q. 0) l ≡ take at l ++ replicate (length l - at) 0
-zeros-after at l within =
-    let n = length l - at in
-    let all : at + n ≡ length l = omega arith in
-    sym (take-all (at + n) (filled at n (λ q. 0) l) (omega (arith, filled-length at n (λ q. 0) l)))
-    ∙ take-filled at n (λ q. 0) l (omega arith)
-    ∙ ap (λ t. take at l ++ t)
-    (sym (filled-all n (λ k. 0) (replicate n 0) 0 (length-replicate n 0)) ∙ filled-constant n 0 (replicate n 0) (length-replicate n 0))
 
 module _ (bs out : List ℕ) where
   pub refused-answer : length out < length bs → Refused 6 ≡ putAnswer bs out

@@ -55,7 +55,8 @@ pub read-own : (t : List ℕ) (w : Written) → readText t ≡ written w
     → OwnPatterns (map partIn (componentsOf (w .parts))) (patternsOf (w .parts)) (length (w .parts))
 read-own t w is =
     own-each (map partIn (componentsOf (w .parts))) (patternsOf (w .parts)) (length (w .parts))
-    (own-at (w .parts) (replicate (64 - length (w .parts)) (record { part = Constant plusZero })) (replicate (64 - length (w .parts)) 0) (reading-sound t w is .on .parts))
+    (own-at (w .parts) (replicate (64 - length (w .parts)) (record { part = Constant plusZero }))
+    (replicate (64 - length (w .parts)) 0) (reading-sound t w is .on .parts))
 
 pub read-nan-bits : (t : List ℕ) (w : Written) → readText t ≡ written w → (x y z : Float)
     → bitsIn (jobNan (jobOf w)) (modelValue (map partIn (componentsOf (w .parts))) (length (w .parts)) x y z)

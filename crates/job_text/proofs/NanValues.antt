@@ -31,7 +31,9 @@ computed-nan = refl
 
 -- an earlier part's value, from its bits
 earlier-value : (bits : List ℕ) (i : ℕ) → getD (map floatOf bits) i past ≡ floatOf (getD bits i computedNan)
-earlier-value bits i = subst (λ (d : Float). getD (map floatOf bits) i d ≡ floatOf (getD bits i computedNan)) computed-nan (List·getD-map floatOf bits i computedNan)
+earlier-value bits i =
+    subst (λ (d : Float). getD (map floatOf bits) i d ≡ floatOf (getD bits i computedNan)) computed-nan
+    (List·getD-map floatOf bits i computedNan)
 
 chosen : (t u : Bool) (a b : ℕ) → floatOf (cond t a (cond u b a)) ≡ cond t (floatOf a) (cond u (floatOf b) (floatOf a))
 chosen true u a b = refl

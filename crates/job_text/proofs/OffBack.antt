@@ -78,13 +78,18 @@ after-four (suc p) t rest (more {s = s} before (has, room)) =
     }
 
 -- the line after them is off its form
-parts-off-at : (p : ℕ) (rest : List ℕ) → p ≤ 64 → 0 < length rest → ((s : List ℕ) → HasPart rest s → p < 64 → ⊥) → readParts (64 - p) (5 + p) rest ≡ Parts.offAt (5 + p)
+parts-off-at :
+    (p : ℕ) (rest : List ℕ) → p ≤ 64 → 0 < length rest → ((s : List ℕ) → HasPart rest s → p < 64 → ⊥)
+    → readParts (64 - p) (5 + p) rest ≡ Parts.offAt (5 + p)
 unfolding onPart
 parts-off-at p rest most some never =
     below-or p 64
     (λ room.
     let one : 64 - p ≡ suc (64 - suc p) = omega arith in
-    rw one (parts-turn (64 - suc p) (5 + p) rest some ∙ ap (λ (l : PartLine). onPart (5 + p) l (readParts (64 - suc p) (suc (5 + p)))) (part-off rest (λ s has. never s has room))))
+    rw one
+    (parts-turn (64 - suc p) (5 + p) rest some
+    ∙ ap (λ (l : PartLine). onPart (5 + p) l (readParts (64 - suc p) (suc (5 + p))))
+    (part-off rest (λ s has. never s has room))))
     (λ all. let none : 64 - p ≡ 0 = omega arith in rw none (parts-full (5 + p) rest some))
 
 -- ---- the whole text

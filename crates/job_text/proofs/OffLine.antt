@@ -45,7 +45,14 @@ unfolding readParts onPart withPart HasLine
 parts-off t zero p [] n count before is = parts-off-never is
 parts-off t zero p (b ∷ s) n count before is =
     let line : suc (suc (suc (suc (suc p)))) ≡ n = cc in
-    record { lines = suc (suc (suc (suc p))); number = sym line; rest = b ∷ s; before = before; off = λ s has. omega (arith, has .1); some = λ many. omega arith }
+    record {
+      lines = suc (suc (suc (suc p)));
+      number = sym line;
+      rest = b ∷ s;
+      before = before;
+      off = λ s has. omega (arith, has .1);
+      some = λ many. omega arith;
+    }
 parts-off t (suc r) p [] n count before is = parts-off-never is
 parts-off t (suc r) p (b ∷ s) n count before is = by (λ rest. parts-off t r (suc p) rest n (omega arith)) (readPart (b ∷ s)) refl is
   where
@@ -55,7 +62,9 @@ parts-off t (suc r) p (b ∷ s) n count before is = by (λ rest. parts-off t r (
     Rest : Type 0
     Rest = (rest : List ℕ) → Begins line t rest → readParts r (suc line) rest ≡ Parts.offAt n → OffFirst t n
 
-    after : Rest → (q : Spelt) (rest : List ℕ) → readPart (b ∷ s) ≡ part q rest → (l : Parts) → readParts r (suc line) rest ≡ l → withPart q l ≡ Parts.offAt n → OffFirst t n
+    after :
+        Rest → (q : Spelt) (rest : List ℕ) → readPart (b ∷ s) ≡ part q rest → (l : Parts)
+        → readParts r (suc line) rest ≡ l → withPart q l ≡ Parts.offAt n → OffFirst t n
     after ih q rest first (Parts.offAt m) is same =
         ih rest (more before (record { spelt = q; spells = part-sound (b ∷ s) q rest first }, omega arith)) (is ∙ same)
     after ih q rest first (parts ss) is same = parts-off-never same
@@ -63,7 +72,14 @@ parts-off t (suc r) p (b ∷ s) n count before is = by (λ rest. parts-off t r (
     by : Rest → (l : PartLine) → readPart (b ∷ s) ≡ l → onPart line l (readParts r (suc line)) ≡ Parts.offAt n → OffFirst t n
     by ih none is same =
         let named : line ≡ n = cc in
-        record { lines = suc (suc (suc (suc p))); number = sym named; rest = b ∷ s; before = before; off = λ rest has. no-part (b ∷ s) is rest (has .0); some = λ many. omega arith }
+        record {
+          lines = suc (suc (suc (suc p)));
+          number = sym named;
+          rest = b ∷ s;
+          before = before;
+          off = λ rest has. no-part (b ∷ s) is rest (has .0);
+          some = λ many. omega arith;
+        }
     by ih (part q rest) is same = after ih q rest is (readParts r (suc line) rest) refl same
 
 -- ---- the whole text
@@ -84,7 +100,14 @@ module _ (t : List ℕ) (n : ℕ) where
   off-here : (k : ℕ) (form : List Piece) (s : List ℕ) → k < 4 → Begins k t s → separated form ≡ true
       → ((rest : List ℕ) → HasLine (suc k) s rest → HasForm form s rest) → readForm limit form s ≡ off → suc k ≡ n → OffFirst t n
   off-here k form s few before apart has is named =
-      record { lines = k; number = sym named; rest = s; before = before; off = λ rest line. no-form form s apart is rest (has rest line); some = λ many. absurd (omega arith) }
+      record {
+        lines = k;
+        number = sym named;
+        rest = s;
+        before = before;
+        off = λ rest line. no-form form s apart is rest (has rest line);
+        some = λ many. absurd (omega arith);
+      }
 
   in-parts : (s : List ℕ) (bounds cell blocks band : List ℕ) → Begins 4 t s → (p : Parts) → readParts 64 5 s ≡ p
       → onParts p (writtenWith bounds cell blocks band) ≡ Read.offAt n → OffFirst t n

@@ -9,7 +9,7 @@ use lib.Seq.{drop-cons, getD-take, getD-drop}
 use Rattle.forms.specs.Bytes.{bytes}
 use Rattle.forms.specs.Forms.{Piece, decimal, byte, pieceOf, isField, after, fields, Line, off, line, readForm}
 use Rattle.forms.specs.Fitting.{FitsPiece, Fits}
-use Rattle.forms.specs.Inner.Answers.{ReadsTo}
+use Rattle.forms.specs.Inner.Places.{ReadsTo}
 use Rattle.forms.specs.declared.End.{End}
 use Rattle.forms.specs.declared.End.the-variants.{At, Off}
 use Rattle.forms.proofs.AnswerLaws.{reads-line}
@@ -18,7 +18,7 @@ use Rattle.model.specs.declared.Part.{Part}
 use Rattle.job_text.specs.Lines.{limit, PartKind, neg, partForm, partKinds, blocksForm}
 use Rattle.job_text.specs.Inner.Kinds.{kindOf}
 use Rattle.job_text.specs.Parts.{word, partFrom, patternFrom, PartLine, none, part, orPart, partAmong, readPart}
-use Rattle.job_text.specs.Inner.Answers.{FitsWords, IsPart, ReadsPartTo}
+use Rattle.job_text.specs.Inner.TextAnswers.{FitsWords, IsPart, ReadsPartTo}
 use Rattle.job_text.proofs.PartLaws.{part-own, pattern-own}
 
 -- ---- numbers of 32 bits

@@ -13,8 +13,10 @@ use Rattle.forms.proofs.Cases.{below-or}
 use Rattle.float.specs.Zero.{plusZero}
 use Rattle.lists.specs.Tabulate.{tabulate}
 use Rattle.lists.proofs.Tables.{tabulate-cong}
-use Rattle.schedule.specs.Schedule.{filled, zeros, decision}
-use Rattle.schedule.specs.Plan.{Plan, Decision, constant, leaf}
+use Rattle.schedule.specs.Schedule.{cornersHeld, zeros, decision}
+use Rattle.schedule.specs.Plan.{Plan}
+use Rattle.grid.specs.declared.Verdict.{Verdict}
+use Rattle.grid.specs.declared.Verdict.the-variants.{Constant, Leaf}
 use Rattle.schedule.specs.Memory.{Memory}
 use Rattle.schedule.specs.Totals.{becomesLeaf, leavesBefore, leavesAll, total}
 use Rattle.schedule.specs.Counts.{countsWith}
@@ -23,11 +25,12 @@ use Rattle.schedule.proofs.Sums.{before-below}
 use Rattle.grid.specs.Corners.{octet}
 use Rattle.schedule.specs.JobRecord.{atEnd}
 use Rattle.schedule.specs.Possible.{impossible}
-use Rattle.sparse_field.specs.declared.Input.{Input}
+use Rattle.input.specs.declared.Input.{Input}
 use Rattle.sparse_field.specs.declared.Record.{Record}
-use Rattle.sparse_field.specs.Records.{sparse, jobIn, countsIn, cursorIn}
-use Rattle.sparse_field.specs.Plan.{planWith, planOf, boxOf}
-use Rattle.sparse_field.proofs.Decisions.{decide-kind}
+use Rattle.plans.specs.Sparse.{sparse}
+use Rattle.sparse_field.specs.Records.{jobIn}
+use Rattle.plans.specs.Plan.{planWith, planOf, boxOf}
+use Rattle.grid.proofs.Verdicts.{verdict-kind}
 use Rattle.job_text.specs.Listing.{doneLine, leafLine, leafValues, kindLine, lineAt, planLine, planLineAt, listing, planListing}
 use Rattle.job_text.specs.Written.{placed, allPlaced, printable, recordListing, putListing, written}
 use Rattle.job_text.proofs.LineLaws.{constant-line}
@@ -36,14 +39,14 @@ use Rattle.job_text.proofs.WrittenLaws.{listed-whole, judged-possible}
 
 -- a constant's kind is neither an empty child's nor a leaf's
 abbrev pub Constants : Plan → Type 0
-Constants P = (v c k : ℕ) (x : Float) → decision P v c ≡ constant k x → (k ≡ 0 → ⊥) × (k ≡ 2 → ⊥)
+Constants P = (v c k : ℕ) (x : Float) → decision P v c ≡ Constant k x → (k ≡ 0 → ⊥) × (k ≡ 2 → ⊥)
 
 -- so it is in an input's plan
 pub plan-constants : (i : Input) → Constants (planOf i)
 unfolding planWith
 plan-constants i v c k x is =
     let P = planOf i in
-    decide-kind (i .band) (boxOf (i .grid) v c) (map (filled P v 0 zeros) (octet (i .grid .inner) c)) is
+    verdict-kind (i .band .min) (i .band .max) (boxOf (i .grid) v c) (map (cornersHeld P v 0 zeros) (octet (i .grid .inner) c)) is
 
 -- ---- the place of a child among all children
 
@@ -63,7 +66,11 @@ at-place P j below =
 -- ---- a finished job
 
 module _ (P : Plan) (m : Memory) (constants : Constants P) (done : Finished P m) where
-  child-is : (j : ℕ) → At P j → childAt m j ≡ finishedChild (leavesBefore P (j / P .children) (j % P .children)) (P .active (j / P .children) (j % P .children)) (decision P (j / P .children) (j % P .children))
+  child-is :
+      (j : ℕ) → At P j
+      → childAt m j
+      ≡ finishedChild (leavesBefore P (j / P .children) (j % P .children))
+      (P .active (j / P .children) (j % P .children)) (decision P (j / P .children) (j % P .children))
   child-is j at = ap (childAt m) (sym (at .place)) ∙ done .children (j / P .children) (j % P .children) (at .node) (at .child)
 
   -- the values of the leaf at place j are its points'
@@ -87,16 +94,18 @@ module _ (P : Plan) (m : Memory) (constants : Constants P) (done : Finished P m)
       let c = j % P .children in
       by nan j at (P .active v c) (decision P v c) refl refl (child-is j at)
     where
-      by : (nan j : ℕ) → At P j → (b : Bool) (d : Decision) → P .active (j / P .children) (j % P .children) ≡ b → decision P (j / P .children) (j % P .children) ≡ d
+      by :
+          (nan j : ℕ) → At P j → (b : Bool) (d : Verdict) → P .active (j / P .children) (j % P .children) ≡ b
+          → decision P (j / P .children) (j % P .children) ≡ d
           → childAt m j ≡ finishedChild (leavesBefore P (j / P .children) (j % P .children)) b d
           → kindLine (P .leafPoints) nan (j / P .children) (j % P .children) (childAt m j .kind) (childAt m j .number) (childAt m j .place) (m .store)
           ≡ planLine P nan (j / P .children) (j % P .children) b d
       by nan j at false d active dec is = ap (childLine nan (j / P .children) (j % P .children)) is
-      by nan j at true (constant k x) active dec is =
+      by nan j at true (Constant k x) active dec is =
           let kinds = constants (j / P .children) (j % P .children) k x dec in
           ap (childLine nan (j / P .children) (j % P .children)) is
           ∙ constant-line (P .leafPoints) (j / P .children) (j % P .children) k nan x 0 (m .store) (kinds .0) (kinds .1)
-      by nan j at true leaf active dec is =
+      by nan j at true Leaf active dec is =
           let place : getD (m .places) j 0 ≡ leavesBefore P (j / P .children) (j % P .children) = ap (λ ch. ch .place) is in
           let leaf-is : becomesLeaf P (j / P .children) (j % P .children) ≡ true = rw (active, dec) in
           ap (childLine nan (j / P .children) (j % P .children)) is
@@ -122,14 +131,16 @@ module _ (P : Plan) (m : Memory) (constants : Constants P) (done : Finished P m)
         let c = j % P .children in
         by j at (P .active v c) (decision P v c) refl refl (child-is j at)
       where
-        by : (j : ℕ) → At P j → (b : Bool) (d : Decision) → P .active (j / P .children) (j % P .children) ≡ b → decision P (j / P .children) (j % P .children) ≡ d
+        by :
+            (j : ℕ) → At P j → (b : Bool) (d : Verdict) → P .active (j / P .children) (j % P .children) ≡ b
+            → decision P (j / P .children) (j % P .children) ≡ d
             → childAt m j ≡ finishedChild (leavesBefore P (j / P .children) (j % P .children)) b d
             → placed (P .leafPoints) (length (m .store)) (childAt m j .kind) (childAt m j .place) ≡ true
         by j at false d active dec is = ap childPlaced is
-        by j at true (constant k x) active dec is =
+        by j at true (Constant k x) active dec is =
             let other : eqb k 2 ≡ false = ne-eqb k 2 (constants (j / P .children) (j % P .children) k x dec .1) in
             ap childPlaced is ∙ rw other
-        by j at true leaf active dec is =
+        by j at true Leaf active dec is =
             let leaf-is : becomesLeaf P (j / P .children) (j % P .children) ≡ true = rw (active, dec) in
             let n = leavesBefore P (j / P .children) (j % P .children) in
             let before : n < leavesAll P = before-below P (becomesLeaf P) (j / P .children) (j % P .children) (at .node) (at .child) leaf-is in
@@ -144,8 +155,10 @@ module _ (P : Plan) (m : Memory) (constants : Constants P) (done : Finished P m)
 -- ---- the record of a finished job
 
 -- WHAT IS WRITTEN OF A FINISHED JOB IS ITS PLAN'S LISTING
-pub written-plan : (r : Record) (nan : ℕ) (m : Memory) (out : List ℕ) → r .job ≡ true → impossible sparse (jobIn r) m ≡ false → atEnd (cursorIn (r .cursor)) ≡ true
-    → countsIn (r .counts) ≡ countsWith (planOf (r .input)) (leavesAll (planOf (r .input))) (total (planOf (r .input)))
+pub written-plan :
+    (r : Record) (nan : ℕ) (m : Memory) (out : List ℕ) → r .job ≡ true → impossible sparse (jobIn r) m ≡ false
+    → atEnd (r .cursor) ≡ true
+    → (r .counts) ≡ countsWith (planOf (r .input)) (leavesAll (planOf (r .input))) (total (planOf (r .input)))
     → Finished (planOf (r .input)) m → leavesAll (planOf (r .input)) * planOf (r .input) .leafPoints ≤ length (m .store)
     → written r nan m out ≡ putListing (planListing (planOf (r .input)) nan) out
 unfolding printable recordListing

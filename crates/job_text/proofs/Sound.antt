@@ -59,7 +59,9 @@ parts-sound (suc r) n (b ∷ t) ss same = by (λ rest ts. parts-sound r (suc n) 
     Rest : Type 0
     Rest = (rest : List ℕ) (ts : List Spelt) → readParts r (suc n) rest ≡ parts ts → PartsText rest ts r
 
-    joined : Rest → (s : Spelt) (rest : List ℕ) → readPart (b ∷ t) ≡ part s rest → (p : Parts) → readParts r (suc n) rest ≡ p → withPart s p ≡ parts ss → PartsText (b ∷ t) ss (suc r)
+    joined :
+        Rest → (s : Spelt) (rest : List ℕ) → readPart (b ∷ t) ≡ part s rest → (p : Parts)
+        → readParts r (suc n) rest ≡ p → withPart s p ≡ parts ss → PartsText (b ∷ t) ss (suc r)
     joined ih s rest first (Parts.offAt m) is same = off-parts same
     joined ih s rest first (parts ts) is same =
         let one : Spells limit (partForm (s .kind)) (s .numbers) (b ∷ t) rest = part-sound (b ∷ t) s rest first in

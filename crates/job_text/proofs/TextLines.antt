@@ -5,14 +5,14 @@ use native.Mathlib.Omega.{arith}
 use mathlib.Core.List.{List}
 use lib.ListN.{take}
 use lib.Seq.{getD-take}
-use Rattle.grid.specs.declared.Band.{Band}
+use Rattle.input.specs.declared.Band.{Band}
 use Rattle.grid.specs.declared.Grid.{Grid}
 use Rattle.forms.specs.Forms.{off, line, readForm}
 use Rattle.job_text.specs.Lines.{limit, boundsForm, cellForm, blocksForm, bandForm}
 use Rattle.job_text.specs.Parts.{Spelt}
 use Rattle.job_text.specs.Reading.{Written, Read, Parts, offAt, parts, readParts, onLine, onParts, readText, gridOf, bandOf, readingOf}
 use Rattle.job_text.specs.declared.Reading.{Reading}
-use Rattle.job_text.specs.Inner.Answers.{modelReading}
+use Rattle.job_text.specs.Inner.TextAnswers.{modelReading}
 
 -- a job as it is written, from its lines' numbers
 abbrev pub writtenWith : (bounds cell blocks band : List ℕ) → List Spelt → Written
@@ -80,4 +80,6 @@ pub text-read : (text bounds cell blocks band t1 t2 t3 t4 : List ℕ)
 text-read text bounds cell blocks band t1 t2 t3 t4 one two three four =
     sym
     (ap readingOf (then-parts text (take 6 bounds) t1 one (take 1 cell) t2 two (take 2 blocks) t3 three (take 2 band) t4 four)
-    ∙ model-same (readParts 64 5 t4) (reading-model (take 6 bounds) (take 1 cell) (take 2 blocks) (take 2 band) (readParts 64 5 t4)) (grid-own bounds cell blocks) (band-own band))
+    ∙ model-same (readParts 64 5 t4)
+    (reading-model (take 6 bounds) (take 1 cell) (take 2 blocks) (take 2 band) (readParts 64 5 t4))
+    (grid-own bounds cell blocks) (band-own band))

@@ -28,12 +28,14 @@ caseWith ss = record {
 
 case-read : readText (header ++ bytes "(plane 3ff0000000000000 0000000000000000 0000000000000000 0000000000000000)\n")
     ≡ written (caseWith (record { kind = plane; numbers = 0x3ff0000000000000 ∷ 0 ∷ 0 ∷ 0 ∷ [] } ∷ []))
-unfolding header bounds digitOf hexAfter decimalAfter decimalFront pieceOf isField readPiece withNumber onFront readForm orPart partAmong withPart onPart readParts onLine onParts readText
+unfolding header bounds digitOf hexAfter decimalAfter decimalFront pieceOf isField readPiece withNumber onFront
+    readForm orPart partAmong withPart onPart readParts onLine onParts readText
 case-read = refl
 
 -- four lines alone are on their form: no part is 4
 no-part : readText header ≡ written (caseWith [])
-unfolding header bounds digitOf hexAfter decimalAfter decimalFront pieceOf isField readPiece withNumber onFront readForm orPart partAmong withPart onPart readParts onLine onParts readText
+unfolding header bounds digitOf hexAfter decimalAfter decimalFront pieceOf isField readPiece withNumber onFront
+    readForm orPart partAmong withPart onPart readParts onLine onParts readText
 no-part = refl
 
 -- a text that ends early: the line after the last
@@ -43,5 +45,6 @@ ends-early = refl
 
 -- a part line without its end
 no-end : readText (header ++ bytes "(neg 0)") ≡ offAt 5
-unfolding header bounds digitOf hexAfter decimalAfter decimalFront pieceOf isField readPiece withNumber onFront readForm orPart partAmong withPart onPart readParts onLine onParts readText
+unfolding header bounds digitOf hexAfter decimalAfter decimalFront pieceOf isField readPiece withNumber onFront
+    readForm orPart partAmong withPart onPart readParts onLine onParts readText
 no-end = refl

@@ -8,9 +8,9 @@ use lib.ListN.{length}
 use Rattle.grid.specs.declared.Grid.{Grid}
 use Rattle.grid.specs.Blocks.{cube}
 use Rattle.grid.specs.Nodes.{nodesOf}
-use Rattle.grid.specs.Causes.{childrenOf}
+use Rattle.grid.specs.Limits.{childrenOf}
 use Rattle.grid.proofs.BlockLaws.{cube-le}
-use Rattle.grid.proofs.CauseLaws.{inner-block, leaf-block, few-children}
+use Rattle.grid.proofs.LimitLaws.{inner-block, leaf-block, few-children, bound-fits}
 use Rattle.schedule.specs.Memory.{Memory}
 use Rattle.schedule.specs.JobRecord.{atEnd}
 use Rattle.schedule.specs.Opened.{lengthsOf}
@@ -18,9 +18,10 @@ use Rattle.schedule.specs.Possible.{impossible}
 use Rattle.schedule.proofs.Possible.{possible}
 use Rattle.sparse_field.specs.declared.Record.{Record}
 use Rattle.schedule.specs.Lent.{memoryOf}
-use Rattle.sparse_field.specs.Plan.{planWith}
-use Rattle.sparse_field.specs.Records.{sparse, lent, jobIn, countsIn, cursorIn}
-use Rattle.sparse_field.proofs.Judgement.{no-cause, bound-fits}
+use Rattle.plans.specs.Plan.{planWith}
+use Rattle.plans.specs.Sparse.{sparse}
+use Rattle.sparse_field.specs.Records.{jobIn}
+use Rattle.input.proofs.Clear.{no-cause}
 use Rattle.job_text.specs.declared.Listing.the-variants.{Refused, NotPrintable}
 use Rattle.job_text.specs.Inner.Lengths.{Sizes}
 use Rattle.job_text.specs.Listing.{lineAt, listingTo, listing}
@@ -44,7 +45,7 @@ unfolding childrenOf
 ready r m judged =
     let i = r .input in
     let g = i .grid in
-    let none = no-cause g (i .band) (i .model) (lent (lengthsOf m)) (possible sparse (jobIn r) m judged .noCause) in
+    let none = no-cause i (lengthsOf m) (possible sparse (jobIn r) m judged .noCause) in
     let n = inner-block g (none .two) in
     let fits = bound-fits g (none .two) (none .five) in
     let eight : 8 ≤ cube (g .inner) = cube-le (g .inner) 2 (n .least) in
@@ -72,7 +73,7 @@ module _ (r : Record) (nan : ℕ) (m : Memory) (out : List ℕ) where
   unfolding possibleWritten
   listed-whole is = rw is
 
-  pub unfinished : atEnd (cursorIn (r .cursor)) ≡ false → possibleWritten r nan m out ≡ refusedPut NotPrintable out
+  pub unfinished : atEnd (r .cursor) ≡ false → possibleWritten r nan m out ≡ refusedPut NotPrintable out
   unfolding printable
   unfinished is = not-printed (rw is)
 
@@ -81,19 +82,19 @@ module _ (r : Record) (nan : ℕ) (m : Memory) (out : List ℕ) where
         ≡ allPlaced (cube (g .leaf)) (length (m .store)) (m .kinds) (m .places) (nodesOf g * cube (g .inner)) 0
     placed-as = rw (n, c, p)
 
-    listing-as : listingTo (nodes * children) children points nan (countsIn (r .counts)) (memoryOf (m .kinds) (m .numbers) (m .places) (m .store) [])
+    listing-as : listingTo (nodes * children) children points nan (r .counts) (memoryOf (m .kinds) (m .numbers) (m .places) (m .store) [])
         ≡ recordListing r nan m
     unfolding recordListing listing planWith lineAt
     listing-as = rw (n, c, p)
 
-    pub unplaced : atEnd (cursorIn (r .cursor)) ≡ true → allPlaced points (length (m .store)) (m .kinds) (m .places) (nodes * children) 0 ≡ false
+    pub unplaced : atEnd (r .cursor) ≡ true → allPlaced points (length (m .store)) (m .kinds) (m .places) (nodes * children) 0 ≡ false
         → possibleWritten r nan m out ≡ refusedPut NotPrintable out
     unfolding printable planWith
     unplaced end is = let fails = sym placed-as ∙ is in not-printed (rw (end, fails))
 
-    pub printed : atEnd (cursorIn (r .cursor)) ≡ true → allPlaced points (length (m .store)) (m .kinds) (m .places) (nodes * children) 0 ≡ true
+    pub printed : atEnd (r .cursor) ≡ true → allPlaced points (length (m .store)) (m .kinds) (m .places) (nodes * children) 0 ≡ true
         → possibleWritten r nan m out
-        ≡ putListing (listingTo (nodes * children) children points nan (countsIn (r .counts)) (memoryOf (m .kinds) (m .numbers) (m .places) (m .store) [])) out
+        ≡ putListing (listingTo (nodes * children) children points nan (r .counts) (memoryOf (m .kinds) (m .numbers) (m .places) (m .store) [])) out
     unfolding printable planWith
     printed end is =
         let holds = sym placed-as ∙ is in

@@ -1,9 +1,9 @@
 -- THE DEFINITION OF `fieldlist`: what it prints for a text (rules T9 to T14).
 use Prim.Native.Nat.{ℕ, zero, suc}
 use mathlib.Core.List.{List, [], _∷_}
-use Rattle.schedule.specs.Opened.{Lengths}
-use Rattle.sparse_field.specs.Records.{sparse}
-use Rattle.sparse_field.specs.Plan.{planOf}
+use Rattle.input.specs.declared.Lengths.{Lengths}
+use Rattle.plans.specs.Sparse.{sparse}
+use Rattle.plans.specs.Plan.{planOf}
 use Rattle.forms.specs.Forms.{spell}
 use Rattle.job_text.specs.declared.Job.{Job}
 use Rattle.job_text.specs.Lines.{refusedForm, offForm}

@@ -8,10 +8,13 @@ use lib.ListN.{getD}
 use Rattle.lists.specs.Tabulate.{tabulate}
 use Rattle.float.specs.Zero.{plusZero}
 use Rattle.schedule.specs.Schedule.{decision}
-use Rattle.schedule.specs.Plan.{Plan, Decision, constant, leaf}
+use Rattle.schedule.specs.Plan.{Plan}
+use Rattle.grid.specs.declared.Verdict.{Verdict}
+use Rattle.grid.specs.declared.Verdict.the-variants.{Constant, Leaf}
 use Rattle.schedule.specs.Memory.{Memory}
 use Rattle.schedule.specs.Totals.{leavesAll, total}
-use Rattle.schedule.specs.Counts.{Counts, countsWith}
+use Rattle.schedule.specs.declared.Counts.{Counts}
+use Rattle.schedule.specs.Counts.{countsWith}
 use Rattle.forms.specs.Digits.{hexOf}
 use Rattle.forms.specs.Forms.{spell}
 use Rattle.job_text.specs.Lines.{doneForm, leafForm, leafEnd, constantForm}
@@ -37,7 +40,7 @@ constantLine v c x = spell constantForm (v ∷ c ∷ toBits binary64 x ∷ [])
 
 -- the first line (rule T10)
 unfoldable pub doneLine : Counts → List ℕ
-doneLine k = spell doneForm (k .nodes ∷ k .active ∷ k .leaves ∷ k .sampled ∷ k .evaluations ∷ [])
+doneLine k = spell doneForm (k .grid .nodes ∷ k .grid .active ∷ k .leaves ∷ k .sampled ∷ k .evaluations ∷ [])
 
 -- r lines from place j on
 unfoldable pub linesFrom : (ℕ → List ℕ) → (r j : ℕ) → List ℕ
@@ -47,10 +50,10 @@ linesFrom f (suc r) j = f j ++ linesFrom f r (suc j)
 -- ---- the listing of an input's job, from its plan
 
 -- child c of node v, if it is active (rules T11 and T12)
-unfoldable pub planLine : Plan → ℕ → (v c : ℕ) → Bool → Decision → List ℕ
+unfoldable pub planLine : Plan → ℕ → (v c : ℕ) → Bool → Verdict → List ℕ
 planLine P nan v c false d = []
-planLine P nan v c true (constant k x) = constantLine v c x
-planLine P nan v c true leaf = leafLine nan v c (tabulate (P .leafPoints) (P .pointValue v c))
+planLine P nan v c true (Constant k x) = constantLine v c x
+planLine P nan v c true Leaf = leafLine nan v c (tabulate (P .leafPoints) (P .pointValue v c))
 
 -- the child at place j of all nodes' children
 unfoldable pub planLineAt : Plan → ℕ → ℕ → List ℕ

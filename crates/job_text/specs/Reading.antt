@@ -5,11 +5,11 @@ use lib.ListN.{length, replicate}
 use Rattle.float.specs.Zero.{plusZero}
 use Rattle.geometry.specs.declared.Vec3.{Vec3}
 use Rattle.geometry.specs.Values.{vec3, box}
-use Rattle.grid.specs.declared.Band.{Band}
+use Rattle.input.specs.declared.Band.{Band}
 use Rattle.grid.specs.declared.Grid.{Grid}
 use Rattle.model.specs.declared.ModelComponent.{ModelComponent}
 use Rattle.model.specs.declared.Part.the-variants.{Constant}
-use Rattle.sparse_field.specs.declared.Input.{Input}
+use Rattle.input.specs.declared.Input.{Input}
 use Rattle.forms.specs.Forms.{Line, off, line, readForm}
 use Rattle.job_text.specs.declared.Job.{Job}
 use Rattle.job_text.specs.declared.Judgement.the-variants as judgement

@@ -11,7 +11,7 @@ use Rattle.model.specs.declared.ModelComponent.{ModelComponent}
 use Rattle.model.specs.declared.Part.{Part}
 use Rattle.model.specs.declared.Part.the-variants.{Constant, Sphere, Plane, Min, Max, Add, Sub, Neg}
 use Rattle.model.specs.Part.{partIn}
-use Rattle.sparse_field.specs.declared.Input.{Input}
+use Rattle.input.specs.declared.Input.{Input}
 use Rattle.forms.specs.Forms.{spell}
 use Rattle.job_text.specs.Lines.{limit, boundsForm, cellForm, blocksForm, bandForm, PartKind, const, sphere, plane, min, max, add, sub, neg, partForm}
 use Rattle.job_text.specs.Parts.{Spelt}

@@ -10,8 +10,9 @@ use Rattle.schedule.specs.Memory.{Memory}
 use Rattle.schedule.specs.JobRecord.{isFinished}
 use Rattle.schedule.specs.Possible.{impossible}
 use Rattle.sparse_field.specs.declared.Record.{Record}
-use Rattle.sparse_field.specs.Records.{sparse, jobIn, countsIn}
-use Rattle.sparse_field.specs.Plan.{planOf}
+use Rattle.plans.specs.Sparse.{sparse}
+use Rattle.sparse_field.specs.Records.{jobIn}
+use Rattle.plans.specs.Plan.{planOf}
 use Rattle.job_text.specs.declared.Listing as answers
 use Rattle.job_text.specs.declared.Listing.the-variants as answer
 use Rattle.job_text.specs.Listing.{listing}
@@ -46,7 +47,7 @@ printable r m =
 
 unfoldable pub recordListing : Record → ℕ → Memory → List ℕ
 recordListing r nan m =
-    let P = planOf (r .input) in listing (P .nodes) (P .children) (P .leafPoints) nan (countsIn (r .counts)) m
+    let P = planOf (r .input) in listing (P .nodes) (P .children) (P .leafPoints) nan (r .counts) m
 
 -- what writing does with a listing: an answer, and the bytes after it
 pub record Put : Type 0 where

@@ -1,8 +1,8 @@
 // The text of a job, read into an input, and the listing of a finished job, written. Both over lent
 // bytes.
 use forms::End;
+use input::Input;
 use model::Part;
-use sparse_field::Input;
 
 mod lines; // lines.rt: one line of a listing
 mod list; // list.rt: what `fieldlist` prints

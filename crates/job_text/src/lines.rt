@@ -81,7 +81,7 @@ pub fn put_child(
     if kind == 0 {
         return at;
     }
-    if kind == 2 {
+    if kind == grid::LEAF {
         let from = place as usize * points;
         let to = from + points;
         return put_leaf(nan, v, c, &store[from..to], at, out);
@@ -106,7 +106,7 @@ pub fn child_length(points: usize, v: u64, c: u64, kind: u8) -> usize
     if kind == 0 {
         return 0;
     }
-    if kind == 2 {
+    if kind == grid::LEAF {
         return leaf_length(points, v, c);
     }
     let numbers = [v, c, 0];

@@ -10,7 +10,7 @@ use crate::Listing;
 use crate::nan;
 use crate::reader;
 use crate::writing;
-use sparse_field::Answer;
+use schedule::Answer;
 
 // More evaluations than any job has.
 const ALL: u64 = 18446744073709551615;

@@ -5,7 +5,7 @@ ghost use lib.ListN.{length, drop};
 ghost use Rattle.job_text.specs.Lines.{limit};
 ghost use Rattle.job_text.specs.Parts.{word};
 ghost use Rattle.job_text.specs.Reading.{readParts, gridOf, bandOf, noJob, offReading, readText, readingOf};
-ghost use Rattle.job_text.specs.Inner.Answers.{modelReading};
+ghost use Rattle.job_text.specs.Inner.TextAnswers.{modelReading};
 use crate::Job;
 use crate::Judgement;
 use crate::LIMIT;
@@ -16,12 +16,12 @@ use crate::parts::real_at;
 use crate::parts::word_at;
 use forms::End;
 use geometry::BoundingBox;
-use grid::Band;
 use grid::Grid;
+use input::Band;
+use input::Input;
 use model::ImplicitModel;
 use model::ModelComponent;
 use model::Part;
-use sparse_field::Input;
 
 // The grid of a text's first three lines.
 fn grid_of(bounds: &[u64; 6], cell: &[u64; 6], blocks: &[u64; 6]) -> Grid

@@ -2,14 +2,15 @@
 ghost use mathlib.Core.Path.{_≡_};
 ghost use mathlib.Core.Bool.{true, false};
 ghost use mathlib.Core.List.{[], _∷_, _++_, map};
-ghost use Prim.Native.Nat.{_+_, _-_, _<_, _≤_};
+ghost use Prim.Native.Nat.{_+_, _<_, _≤_, _-_};
 ghost use lib.ListN.{length, take, replicate};
 ghost use lib.Seq.{sets};
 ghost use Rattle.schedule.specs.JobRecord.{atEnd};
 ghost use Rattle.schedule.specs.Possible.{impossible};
-ghost use Rattle.schedule.specs.Totals.{sumBelow};
+ghost use Rattle.lists.specs.Sums.{sumBelow};
 ghost use Rattle.schedule.specs.Lent.{memoryOf, held, entered};
-ghost use Rattle.sparse_field.specs.Records.{sparse, jobIn, countsIn, cursorIn};
+ghost use Rattle.plans.specs.Sparse.{sparse};
+ghost use Rattle.sparse_field.specs.Records.{jobIn};
 ghost use Rattle.forms.specs.Forms.{pieceOf, spell};
 ghost use Rattle.job_text.specs.Inner.Lengths.{lengthAt, Sizes};
 ghost use Rattle.job_text.specs.Lines.{refusedForm, offForm};
@@ -19,8 +20,8 @@ use crate::Listing;
 use crate::lines::child_length;
 use crate::lines::is_placed;
 use crate::lines::put_child;
-use sparse_field::Counts;
-use sparse_field::Cursor;
+use schedule::Counts;
+use schedule::Cursor;
 use sparse_field::Record;
 
 // Whether the first children are no leaves, or have their stretches inside a store of this size.
@@ -107,20 +108,17 @@ fn zero_rest(at: usize, out: &mut [u8])
     requires { ⌜ at ≤ length (now out) ⌝ }
     ensures { λ _. ⌜ now (out .exit) ≡ take at (now (out .entry)) ++ replicate (length (now (out .entry)) - at) 0 ⌝ }
 {
-    let mut i = at;
-    while i < out.len() {
-        out[i] = 0;
-        i += 1;
-    }
+    slices::zero_bytes(&mut out[at..]);
 }
 
 // The numbers of a listing's first line: a job's counts.
 fn done_numbers(counts: Counts) -> [u64; 5]
-    ensures { λ r. ⌜ r ≡ counts .nodes ∷ counts .active ∷ counts .leaves ∷ counts .sampled ∷ counts .evaluations ∷ [] ⌝ }
+    ensures { λ r. ⌜ r ≡ counts .grid .nodes ∷ counts .grid .active ∷ counts .leaves ∷ counts .sampled ∷ counts .evaluations ∷ [] ⌝ }
 {
+    let counted = counts.grid;
     [
-        counts.nodes,
-        counts.active,
+        counted.nodes,
+        counted.active,
         counts.leaves,
         counts.sampled,
         counts.evaluations,
@@ -136,7 +134,7 @@ fn listing_length(
     kinds: &[u8],
 ) -> usize
     requires { ⌜ Sizes total children points × (total ≤ length (now kinds)) ⌝ }
-    ensures { λ r. ⌜ r ≡ length (doneLine (countsIn counts)) + sumBelow (lengthAt children points (now (kinds .entry))) total ⌝ }
+    ensures { λ r. ⌜ r ≡ length (doneLine counts) + sumBelow (lengthAt children points (now (kinds .entry))) total ⌝ }
 {
     let numbers = done_numbers(counts);
     forms::form_length(b"(done D D D D D)\n", &numbers)
@@ -158,11 +156,11 @@ fn put_listing(
 )
     requires { ⌜ Sizes total children points × (total ≤ length (now kinds)) × (total ≤ length (now numbers)) × (total ≤ length (now places)) ⌝ }
     requires { ⌜ allPlaced points (length (now store)) (now kinds) (now places) total 0 ≡ true ⌝ }
-    requires { ⌜ length (listingTo total children points nan (countsIn counts) (memoryOf (now kinds) (now numbers) (now places) (now store) [])) ≤ length
+    requires { ⌜ length (listingTo total children points nan counts (memoryOf (now kinds) (now numbers) (now places) (now store) [])) ≤ length
         (now out) ⌝ }
     ensures { λ _. ⌜ now (out .exit)
         ≡ putBytes
-        (listingTo total children points nan (countsIn counts)
+        (listingTo total children points nan counts
         (memoryOf (now (kinds .entry)) (now (numbers .entry)) (now (places .entry)) (now (store .entry)) []))
         (now (out .entry)) ⌝ }
 {
@@ -200,12 +198,12 @@ fn write_placed(
     requires { ⌜ allPlaced points (length (now store)) (now kinds) (now places) total 0 ≡ true ⌝ }
     ensures answer { λ r. ⌜ r
         ≡ putAnswer
-        (listingTo total children points nan (countsIn counts)
+        (listingTo total children points nan counts
         (memoryOf (now (kinds .entry)) (now (numbers .entry)) (now (places .entry)) (now (store .entry)) []))
         (now (out .entry)) ⌝ }
     ensures out { λ _. ⌜ now (out .exit)
         ≡ putBytes
-        (listingTo total children points nan (countsIn counts)
+        (listingTo total children points nan counts
         (memoryOf (now (kinds .entry)) (now (numbers .entry)) (now (places .entry)) (now (store .entry)) []))
         (now (out .entry)) ⌝ }
 {
@@ -230,7 +228,7 @@ fn write_placed(
 
 // Whether a cursor is at the end.
 fn at_end(cursor: Cursor) -> bool
-    ensures { λ r. ⌜ r ≡ atEnd (cursorIn cursor) ⌝ }
+    ensures { λ r. ⌜ r ≡ atEnd cursor ⌝ }
 {
     match cursor {
         Cursor::End => true,

@@ -1,15 +1,31 @@
 // Lists the jobs that standard input holds: of each the length of its text, 16 digits and byte 10, then
-// the text. Writes what `fieldlist` prints for it, and an empty line.
+// the text. The answer is what `fieldlist` prints for it, and an empty line. For each text a line is
+// written: the digest of its answer. Where the first line is `full` the answers are written instead.
 ghost use Prim.Native.Nat.{_≤_};
 ghost use lib.ListN.{length};
 use vectors::Hex;
 
-// Writes what is printed for one text.
-fn list_text(text: &[u8]) {
+// Writes an answer whole.
+fn write_whole(listing: &[u8]) {
+    io::write_all(1, listing);
+    io::write_all(1, b"\n");
+}
+
+// Writes the digest of an answer.
+fn write_digest(listing: &[u8]) {
+    let digest = vectors::digest_with(vectors::digest_start(), listing);
+    vectors::write_number(vectors::digest_with(digest, b"\n"));
+}
+
+// Writes the answer to one text, or its digest.
+fn list_text(text: &[u8], whole: bool) {
     let mut out = [0u8; 88176];
     let end = job_text::list_whole(text, &mut out);
-    io::write_all(1, &out[..end]);
-    io::write_all(1, b"\n");
+    if whole {
+        write_whole(&out[..end]);
+    } else {
+        write_digest(&out[..end]);
+    }
 }
 
 // Where a text of so many bytes ends that begins at a place, or the end of all.
@@ -25,7 +41,8 @@ fn text_end(bytes: &[u8], from: usize, count: u64) -> usize
 }
 
 fn list_texts(bytes: &[u8]) {
-    let mut at = 0;
+    let whole = vectors::has_word(bytes, 0, b"full\n");
+    let mut at = if whole { 5 } else { 0 };
     while at < bytes.len() {
         if bytes.len() - at < 17 {
             return;
@@ -35,7 +52,7 @@ fn list_texts(bytes: &[u8]) {
         };
         let from = at + 17;
         let end = text_end(bytes, from, count);
-        list_text(&bytes[from..end]);
+        list_text(&bytes[from..end], whole);
         at = end;
     }
 }

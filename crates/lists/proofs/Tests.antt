@@ -1,6 +1,6 @@
 -- Tests joined by `&&` and `||`: what the whole says of its parts, and the parts of the whole.
 use mathlib.Core.Path.{_≡_, refl, _∙_}
-use mathlib.Core.Bool.{Bool, true, false, _&&_, _||_}
+use mathlib.Core.Bool.{Bool, true, false, _&&_, _||_, Bool·beq}
 
 -- where `a || b` does not hold, neither part does
 pub or-left : (a b : Bool) → (a || b) ≡ false → a ≡ false
@@ -21,6 +21,11 @@ pub and-right : (a b : Bool) → (a && b) ≡ true → b ≡ true
 and-right true b e = e
 and-right false true e = refl
 and-right false false e = e
+
+-- a test equals itself
+pub beq-self : (b : Bool) → Bool·beq b b ≡ true
+beq-self true = refl
+beq-self false = refl
 
 -- what `a && b` leaves in its flag g: b where a held, else a itself
 pub and-then : {a b g : Bool} → a ≡ true → g ≡ b → g ≡ (a && b)

@@ -19,31 +19,32 @@ use Rattle.geometry.specs.Octet.{octetOrder, octetPlaces}
 use Rattle.dense_field.specs.Field.{onEdge, outside}
 use Rattle.dense_field.specs.Threshold.{cut}
 use Rattle.dense_field.specs.Smoothing.{neighbourSum, blended, blendedAt, smoothedAt, smoothedOnce, smoothed}
-use Rattle.grid.specs.Ranges.{anyBelow, countBelow, listBelow}
+use Rattle.lists.specs.Sums.{sumFrom}
+use Rattle.lists.specs.Ranges.{anyBelow, countBelow, listBelow, among}
 use Rattle.grid.specs.Nodes.{nodeSize, nodesAlong, nodeCounts}
 use Rattle.grid.specs.Boxes.{nodeLeast, nodeMost, nodeBoxAt, nodeBox, childBoxAt, childBox, active}
-use Rattle.grid.specs.Corners.{octet, among, needed, neededCorners}
+use Rattle.grid.specs.Corners.{octet, needed, neededCorners}
 use Rattle.grid.specs.Pruning.{folded, average}
 use Rattle.measured.specs.Measured.{minusZero, minusOne, half, aboveTwo, cubic, activeIn, cornersIn, CentreOfSixes}
 
 pub eight-of-eight : activeIn (cubic (asFloat 1) 2 2) ≡ 8
-unfolding countBelow active nodeBox nodeBoxAt nodeLeast nodeMost nodeSize nodeCounts nodesAlong ceilOf childBox childBoxAt stepAlong along alongEnd indicesOf intersectsOf ofInt add sub mul div le toUnsigned
+unfolding sumFrom active nodeBox nodeBoxAt nodeLeast nodeMost nodeSize nodeCounts nodesAlong ceilOf childBox childBoxAt stepAlong along alongEnd indicesOf intersectsOf ofInt add sub mul div le toUnsigned
 eight-of-eight = refl
 
 pub eight-of-64 : activeIn (cubic (asFloat 1) 4 2) ≡ 8
-unfolding countBelow active nodeBox nodeBoxAt nodeLeast nodeMost nodeSize nodeCounts nodesAlong ceilOf childBox childBoxAt stepAlong along alongEnd indicesOf intersectsOf ofInt add sub mul div le toUnsigned
+unfolding sumFrom active nodeBox nodeBoxAt nodeLeast nodeMost nodeSize nodeCounts nodesAlong ceilOf childBox childBoxAt stepAlong along alongEnd indicesOf intersectsOf ofInt add sub mul div le toUnsigned
 eight-of-64 = refl
 
 pub corners-27 : cornersIn (cubic (asFloat 1) 4 2) ≡ 27
-unfolding neededCorners listBelow needed anyBelow among octet octetPlaces octetOrder placeOf countBelow active nodeBox nodeBoxAt nodeLeast nodeMost nodeSize nodeCounts nodesAlong ceilOf childBox childBoxAt stepAlong along alongEnd indicesOf intersectsOf ofInt add sub mul div le toUnsigned
+unfolding neededCorners listBelow needed anyBelow among octet octetPlaces octetOrder placeOf sumFrom active nodeBox nodeBoxAt nodeLeast nodeMost nodeSize nodeCounts nodesAlong ceilOf childBox childBoxAt stepAlong along alongEnd indicesOf intersectsOf ofInt add sub mul div le toUnsigned
 corners-27 = refl
 
 pub one-of-eight : activeIn (cubic (asFloat 0) 2 2) ≡ 1
-unfolding countBelow active nodeBox nodeBoxAt nodeLeast nodeMost nodeSize nodeCounts nodesAlong ceilOf childBox childBoxAt stepAlong along alongEnd indicesOf intersectsOf ofInt add sub mul div le toUnsigned
+unfolding sumFrom active nodeBox nodeBoxAt nodeLeast nodeMost nodeSize nodeCounts nodesAlong ceilOf childBox childBoxAt stepAlong along alongEnd indicesOf intersectsOf ofInt add sub mul div le toUnsigned
 one-of-eight = refl
 
 pub corners-8 : cornersIn (cubic (asFloat 0) 2 2) ≡ 8
-unfolding neededCorners listBelow needed anyBelow among octet octetPlaces octetOrder placeOf countBelow active nodeBox nodeBoxAt nodeLeast nodeMost nodeSize nodeCounts nodesAlong ceilOf childBox childBoxAt stepAlong along alongEnd indicesOf intersectsOf ofInt add sub mul div le toUnsigned
+unfolding neededCorners listBelow needed anyBelow among octet octetPlaces octetOrder placeOf sumFrom active nodeBox nodeBoxAt nodeLeast nodeMost nodeSize nodeCounts nodesAlong ceilOf childBox childBoxAt stepAlong along alongEnd indicesOf intersectsOf ofInt add sub mul div le toUnsigned
 corners-8 = refl
 
 pub two-in-one : nodesAlong (asFloat 0) (asFloat 2) (asFloat 2) ≡ 1
@@ -83,7 +84,7 @@ centre-three vs c =
     ∙ rw (c .centre, c .right, c .left, c .behind, c .before, c .above, c .below) sixes
 
 pub padding-56 : countBelow 64 (λ p. outside (vec3i 4 4 4) (indicesOf p 4 4)) ≡ 56
-unfolding countBelow outside onEdge indicesOf
+unfolding sumFrom outside onEdge indicesOf
 padding-56 = refl
 
 pub minus-one-stays : cut (asFloat 1) minusOne ≡ minusOne

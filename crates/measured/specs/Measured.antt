@@ -17,7 +17,7 @@ use Rattle.dense_field.specs.Field.{pointsOf, outside}
 use Rattle.dense_field.specs.Threshold.{cut}
 use Rattle.dense_field.specs.Smoothing.{smoothed}
 use Rattle.grid.specs.declared.Grid.{Grid}
-use Rattle.grid.specs.Ranges.{countBelow}
+use Rattle.lists.specs.Ranges.{countBelow}
 use Rattle.grid.specs.Blocks.{cube}
 use Rattle.grid.specs.Nodes.{nodesAlong}
 use Rattle.grid.specs.Boxes.{active}

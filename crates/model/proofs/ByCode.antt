@@ -2,7 +2,7 @@
 use mathlib.Core.Path.{_≡_, refl, ap, _∙_}
 use mathlib.Core.Bool.{and-false}
 use mathlib.Core.List.{List, [], _∷_}
-use Prim.Native.Nat.{ℕ, zero, suc, _+_, _≤_, _<_}
+use Prim.Native.Nat.{ℕ, zero, suc, _≤_, _<_}
 use native.Mathlib.Omega.{arith}
 use lib.Dec.{ltb}
 use lib.ListN.{getD, List·getD-eq-default}
@@ -11,11 +11,10 @@ use borrow.Author.Tests.{lt-ltb, le-ltb}
 use Rattle.float.specs.Select.{minOf, maxOf}
 use Rattle.float.specs.Zero.{plusZero}
 use Rattle.geometry.specs.declared.Vec3.{Vec3}
-use Rattle.geometry.specs.Values.{vec3}
 use Rattle.model.specs.Part.{past, sphereValue, planeValue, partValue, inputsBelow}
 use Rattle.model.specs.declared.Part.{Part}
 use Rattle.model.specs.declared.Part.the-variants.{Constant, Sphere, Plane, Min, Max, Add, Sub, Neg}
-use Rattle.model.specs.Flat.{Flat, partFrom, placed, partAt}
+use Rattle.model.specs.Flat.{partFrom, placed}
 
 module _ (p : ℕ) (v : Vec3) (w : Float) (a b : ℕ) (x y z : Float) (values : List Float) where
   abbrev pub valueOf : ℕ → Float
@@ -92,14 +91,6 @@ module _ (p : ℕ) (v : Vec3) (w : Float) (a b : ℕ) (x y z : Float) (values : 
   pub of-other : (code : ℕ) → 7 < code → valueOf code ≡ plusZero
   unfolding partValue placed inputsBelow
   of-other code h = ap (λ (q : Part). partValue (placed p q) x y z values) (unknown code h)
-
--- the value at a place of flat lists, from the entries there
-pub at-entries : (l : Flat) (p a b : ℕ) (x y z : Float) (values : List Float) {r : Float}
-    → r ≡ partValue (placed p (partFrom (getD (l .words) p 0) (vec3 (getD (l .numbers) p past) (getD (l .numbers) (64 + p) past) (getD (l .numbers) (128 + p) past)) (getD (l .numbers) (192 + p) past) a b)) x y z values
-    → a ≡ getD (l .words) (64 + p) 0 → b ≡ getD (l .words) (128 + p) 0 → r ≡ partValue (partAt l p) x y z values
-unfolding partAt
-at-entries l p a b x y z values e first second =
-    e ∙ (λ i. partValue (placed p (partFrom (getD (l .words) p 0) (vec3 (getD (l .numbers) p past) (getD (l .numbers) (64 + p) past) (getD (l .numbers) (128 + p) past)) (getD (l .numbers) (192 + p) past) (first i) (second i))) x y z values)
 
 -- what is none of the eight codes is above them
 pub beyond : (code : ℕ) → (code ≡ 0 → ⊥) → (code ≡ 1 → ⊥) → (code ≡ 2 → ⊥) → (code ≡ 3 → ⊥) → (code ≡ 4 → ⊥) → (code ≡ 5 → ⊥)

@@ -1,19 +1,17 @@
 -- The row of the part that a code stands for: the lane loops' results, as the part's value at each lane.
-use mathlib.Core.Path.{_≡_, refl, sym, ap, _∙_}
+use mathlib.Core.Path.{_≡_, sym, ap, _∙_}
 use mathlib.Core.List.{List}
-use Prim.Native.Nat.{ℕ, _+_, _≤_, _<_}
+use Prim.Native.Nat.{ℕ, _≤_, _<_}
 use lib.ListN.{getD}
 use lib.Ieee.{Float, binary64, add, sub, neg}
 use Rattle.lists.proofs.Tables.{getD-tabulate}
 use Rattle.float.specs.Select.{minOf, maxOf}
 use Rattle.float.specs.Zero.{plusZero}
 use Rattle.geometry.specs.declared.Vec3.{Vec3}
-use Rattle.geometry.specs.Values.{vec3}
-use Rattle.model.specs.Part.{past, sphereValue, planeValue, partValue}
-use Rattle.model.specs.Flat.{Flat, partAt}
+use Rattle.model.specs.Part.{past, sphereValue, planeValue}
 use Rattle.model.specs.Inner.Lanes.{laneAt, filledRow, lane}
 use Rattle.model.proofs.Rows.{filled-cong}
-use Rattle.model.proofs.ByCode.{at-entries, valueOf, of-constant, of-sphere, of-plane, of-min, of-max, of-add, of-sub, of-neg, first-late, second-late, of-other}
+use Rattle.model.proofs.ByCode.{valueOf, of-constant, of-sphere, of-plane, of-min, of-max, of-add, of-sub, of-neg, first-late, second-late, of-other}
 
 module _ (p : ℕ) (v : Vec3) (w : Float) (a b : ℕ) (px py pz : List Float) (n : ℕ) (values : List Float) where
   abbrev x : ℕ → Float
@@ -49,16 +47,24 @@ module _ (p : ℕ) (v : Vec3) (w : Float) (a b : ℕ) (px py pz : List Float) (n
     two f ha hb is row =
         row ∙ filled-cong values p n _ _ (λ k h. (λ i. f (input a k ha i) (input b k hb i)) ∙ sym (is k))
 
-    pub row-min : code ≡ 3 → a < p → b < p → last ≡ filledRow values p n (λ k. minOf (getD values (laneAt a k) past) (getD values (laneAt b k) past)) → last ≡ rowOf code
+    pub row-min : code ≡ 3 → a < p → b < p
+        → last ≡ filledRow values p n (λ k. minOf (getD values (laneAt a k) past) (getD values (laneAt b k) past))
+        → last ≡ rowOf code
     row-min e ha hb = two minOf ha hb (λ k. of-min p v w a b (x k) (y k) (z k) (lane values k p) e ha hb)
 
-    pub row-max : code ≡ 4 → a < p → b < p → last ≡ filledRow values p n (λ k. maxOf (getD values (laneAt a k) past) (getD values (laneAt b k) past)) → last ≡ rowOf code
+    pub row-max : code ≡ 4 → a < p → b < p
+        → last ≡ filledRow values p n (λ k. maxOf (getD values (laneAt a k) past) (getD values (laneAt b k) past))
+        → last ≡ rowOf code
     row-max e ha hb = two maxOf ha hb (λ k. of-max p v w a b (x k) (y k) (z k) (lane values k p) e ha hb)
 
-    pub row-add : code ≡ 5 → a < p → b < p → last ≡ filledRow values p n (λ k. add binary64 (getD values (laneAt a k) past) (getD values (laneAt b k) past)) → last ≡ rowOf code
+    pub row-add : code ≡ 5 → a < p → b < p
+        → last ≡ filledRow values p n (λ k. add binary64 (getD values (laneAt a k) past) (getD values (laneAt b k) past))
+        → last ≡ rowOf code
     row-add e ha hb = two (add binary64) ha hb (λ k. of-add p v w a b (x k) (y k) (z k) (lane values k p) e ha hb)
 
-    pub row-sub : code ≡ 6 → a < p → b < p → last ≡ filledRow values p n (λ k. sub binary64 (getD values (laneAt a k) past) (getD values (laneAt b k) past)) → last ≡ rowOf code
+    pub row-sub : code ≡ 6 → a < p → b < p
+        → last ≡ filledRow values p n (λ k. sub binary64 (getD values (laneAt a k) past) (getD values (laneAt b k) past))
+        → last ≡ rowOf code
     row-sub e ha hb = two (sub binary64) ha hb (λ k. of-sub p v w a b (x k) (y k) (z k) (lane values k p) e ha hb)
 
     pub row-neg : code ≡ 7 → a < p → last ≡ filledRow values p n (λ k. neg (getD values (laneAt a k) past)) → last ≡ rowOf code
@@ -77,11 +83,3 @@ module _ (p : ℕ) (v : Vec3) (w : Float) (a b : ℕ) (px py pz : List Float) (n
 
     pub row-other : 7 < code → last ≡ filledRow values p n (λ k. plusZero) → last ≡ rowOf code
     row-other e = zeros (λ k. of-other p v w a b (x k) (y k) (z k) (lane values k p) code e)
-
--- the row at a place of flat lists, from the entries there
-pub row-at : (l : Flat) (p a b : ℕ) (px py pz : List Float) (n : ℕ) (values : List Float) {last : List Float}
-    → last ≡ rowOf p (vec3 (getD (l .numbers) p past) (getD (l .numbers) (64 + p) past) (getD (l .numbers) (128 + p) past)) (getD (l .numbers) (192 + p) past) a b px py pz n values (getD (l .words) p 0)
-    → a ≡ getD (l .words) (64 + p) 0 → b ≡ getD (l .words) (128 + p) 0
-    → last ≡ filledRow values p n (λ k. partValue (partAt l p) (getD px k past) (getD py k past) (getD pz k past) (lane values k p))
-row-at l p a b px py pz n values row first second =
-    row ∙ filled-cong values p n _ _ (λ k h. at-entries l p a b (getD px k past) (getD py k past) (getD pz k past) (lane values k p) refl first second)

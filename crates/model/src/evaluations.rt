@@ -8,7 +8,7 @@ ghost use Rattle.model.specs.Row.{evaluatedRows, modelRow};
 ghost use Rattle.model.specs.Model.{valuesTo, modelValue, evaluationOf};
 use super::Evaluation;
 use super::ImplicitModel;
-use super::laid::lay_out;
+use super::layout::lay_out;
 use super::point;
 use super::refusals::cause_four;
 use super::row;
@@ -99,7 +99,7 @@ pub fn evaluate_row_into(
     let points = at_most_64(n);
     row::fill_parts(words, numbers, parts, px, py, pz, points, values);
     if parts == 0 {
-        row::clear_row(points, results);
+        slices::fill_floats(0.0, results, 0, points);
         return;
     }
     row::copy_row(values, parts - 1, points, results);

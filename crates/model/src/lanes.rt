@@ -16,12 +16,7 @@ pub fn fill_constant(values: &mut [f64; 4096], p: usize, n: usize, w: f64)
     requires { ⌜ (p < 64) × (n ≤ 64) ⌝ }
     ensures { λ _. ⌜ now (values .exit) ≡ filledRow (now (values .entry)) p n (λ k. w) ⌝ }
 {
-    let row = p * 64;
-    let mut i: usize = 0;
-    while i < n {
-        values[row + i] = w;
-        i += 1;
-    }
+    slices::fill_floats(w, values, p * 64, n);
 }
 
 pub fn fill_plane(

@@ -2,8 +2,9 @@
 // model_component.rs.
 use geometry::Vec3;
 
+mod codes; // codes.rt: the code of each sort of part
 mod evaluations; // evaluations.rt: the calls that evaluate, at a point and at a row of points
-mod laid; // laid.rt: a part's places in the flat arrays
+mod layout; // layout.rt: a part's places in the flat arrays
 mod lanes; // lanes.rt: a part's values at a row of points
 mod point; // point.rt: the parts' values at a point
 mod refusals; // refusals.rt: the test of cause 4
@@ -13,7 +14,7 @@ pub use evaluations::evaluate_at_coord;
 pub use evaluations::evaluate_flat;
 pub use evaluations::evaluate_row;
 pub use evaluations::evaluate_row_into;
-pub use laid::lay_out;
+pub use layout::lay_out;
 pub use refusals::cause_four;
 pub use refusals::inputs_below;
 

@@ -7,14 +7,10 @@ ghost use Rattle.geometry.specs.Values.{vec3};
 ghost use Rattle.model.specs.Part.{sphereValue, planeValue, partValue};
 ghost use Rattle.model.specs.Model.{valuesTo};
 ghost use Rattle.model.specs.Flat.{flatIn, partFrom, placed, partAt, partsOf};
+use super::codes;
+use super::layout;
+use super::layout::Entry;
 use geometry::Vec3;
-
-// A place that an array of u32 names, as an index.
-pub fn place(a: u32) -> usize
-    ensures { λ r. ⌜ r ≡ a ⌝ }
-{
-    a as usize
-}
 
 // The distance to a sphere's centre (cx, cy, cz), less its radius.
 pub fn sphere_value(cx: f64, cy: f64, cz: f64, r: f64, x: f64, y: f64, z: f64) -> f64
@@ -31,54 +27,47 @@ pub fn plane_value(nx: f64, ny: f64, nz: f64, d: f64, x: f64, y: f64, z: f64) ->
 }
 
 // The value at a point of the part at place p, from its entries and the values of the parts before it.
-pub fn entry_value(
-    code: u32,
-    a: usize,
-    b: usize,
-    vx: f64,
-    vy: f64,
-    vz: f64,
-    w: f64,
-    p: usize,
-    x: f64,
-    y: f64,
-    z: f64,
-    values: &[f64],
-) -> f64
+pub fn entry_value(entry: Entry, p: usize, x: f64, y: f64, z: f64, values: &[f64]) -> f64
     requires { ⌜ p ≤ length (now values) ⌝ }
-    ensures { λ r. ⌜ r ≡ partValue (placed p (partFrom code (vec3 vx vy vz) w a b)) x y z (now (values .entry)) ⌝ }
+    ensures { λ r. ⌜ r
+        ≡ partValue (placed p (partFrom (entry .code) (entry .vector) (entry .number) (entry .first) (entry .second))) x y z (now (values .entry)) ⌝ }
 {
-    if code == 0 {
+    let code = entry.code;
+    let a = entry.first as usize;
+    let b = entry.second as usize;
+    let v = entry.vector;
+    let w = entry.number;
+    if code == codes::CONSTANT {
         return w;
     }
-    if code == 1 {
-        return sphere_value(vx, vy, vz, w, x, y, z);
+    if code == codes::SPHERE {
+        return sphere_value(v.x, v.y, v.z, w, x, y, z);
     }
-    if code == 2 {
-        return plane_value(vx, vy, vz, w, x, y, z);
+    if code == codes::PLANE {
+        return plane_value(v.x, v.y, v.z, w, x, y, z);
     }
     if a >= p {
         return 0.0;
     }
-    if code == 7 {
+    if code == codes::NEG {
         return float::computed(-values[a]);
     }
     if b >= p {
         return 0.0;
     }
-    let u = values[a];
-    let v = values[b];
-    if code == 3 {
-        return float::min(u, v);
+    let first = values[a];
+    let second = values[b];
+    if code == codes::MIN {
+        return float::min(first, second);
     }
-    if code == 4 {
-        return float::max(u, v);
+    if code == codes::MAX {
+        return float::max(first, second);
     }
-    if code == 5 {
-        return float::computed(u + v);
+    if code == codes::ADD {
+        return float::computed(first + second);
     }
-    if code == 6 {
-        return float::computed(u - v);
+    if code == codes::SUB {
+        return float::computed(first - second);
     }
     0.0
 }
@@ -96,22 +85,8 @@ pub fn part_value(
     requires { ⌜ (p < 64) × (p ≤ length (now values)) ⌝ }
     ensures { λ r. ⌜ r ≡ partValue (partAt (flatIn words numbers) p) x y z (now (values .entry)) ⌝ }
 {
-    let a = place(words[64 + p]);
-    let b = place(words[128 + p]);
-    entry_value(
-        words[p],
-        a,
-        b,
-        numbers[p],
-        numbers[64 + p],
-        numbers[128 + p],
-        numbers[192 + p],
-        p,
-        x,
-        y,
-        z,
-        values,
-    )
+    let entry = layout::entry_at(words, numbers, p);
+    entry_value(entry, p, x, y, z, values)
 }
 
 // The values of the first `count` parts, in order.

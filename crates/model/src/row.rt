@@ -3,25 +3,19 @@ ghost use mathlib.Core.Path.{_≡_};
 ghost use Prim.Native.Nat.{_≤_, _<_};
 ghost use lib.ListN.{length, getD};
 ghost use Rattle.lists.specs.Filled.{filled};
-ghost use Rattle.float.specs.Zero.{plusZero};
-ghost use Rattle.geometry.specs.Values.{vec3};
 ghost use Rattle.model.specs.Part.{past, partValue};
 ghost use Rattle.model.specs.Flat.{flatIn, partFrom, placed, partAt};
 ghost use Rattle.model.specs.Row.{evaluatedRows};
 ghost use Rattle.model.specs.Inner.Lanes.{laneAt, filledRow, lane};
+use super::codes;
 use super::lanes;
-use super::point;
+use super::layout;
+use super::layout::Entry;
 
 // The row of the part at place p, from its entries and the rows of the parts before it. Its inputs are tested once, and
 // each kind has its own loop.
 pub fn fill_entry(
-    code: u32,
-    a: usize,
-    b: usize,
-    vx: f64,
-    vy: f64,
-    vz: f64,
-    w: f64,
+    entry: Entry,
     p: usize,
     px: &[f64; 64],
     py: &[f64; 64],
@@ -32,26 +26,31 @@ pub fn fill_entry(
     requires { ⌜ (p < 64) × (n ≤ 64) ⌝ }
     ensures { λ _. ⌜ now (values .exit)
         ≡ filledRow (now (values .entry)) p n
-        (λ k. partValue (placed p (partFrom code (vec3 vx vy vz) w a b)) (getD (now (px .entry)) k past) (getD (now (py .entry)) k past)
-        (getD (now (pz .entry)) k past) (lane (now (values .entry)) k p)) ⌝ }
+        (λ k. partValue (placed p (partFrom (entry .code) (entry .vector) (entry .number) (entry .first) (entry .second)))
+        (getD (now (px .entry)) k past) (getD (now (py .entry)) k past) (getD (now (pz .entry)) k past) (lane (now (values .entry)) k p)) ⌝ }
 {
-    if code == 0 {
+    let code = entry.code;
+    let a = entry.first as usize;
+    let b = entry.second as usize;
+    let v = entry.vector;
+    let w = entry.number;
+    if code == codes::CONSTANT {
         lanes::fill_constant(values, p, n, w);
         return;
     }
-    if code == 1 {
-        lanes::fill_sphere(values, p, n, px, py, pz, vx, vy, vz, w);
+    if code == codes::SPHERE {
+        lanes::fill_sphere(values, p, n, px, py, pz, v.x, v.y, v.z, w);
         return;
     }
-    if code == 2 {
-        lanes::fill_plane(values, p, n, px, py, pz, vx, vy, vz, w);
+    if code == codes::PLANE {
+        lanes::fill_plane(values, p, n, px, py, pz, v.x, v.y, v.z, w);
         return;
     }
     if a >= p {
         lanes::fill_constant(values, p, n, 0.0);
         return;
     }
-    if code == 7 {
+    if code == codes::NEG {
         lanes::fill_neg(values, p, n, a);
         return;
     }
@@ -59,19 +58,19 @@ pub fn fill_entry(
         lanes::fill_constant(values, p, n, 0.0);
         return;
     }
-    if code == 3 {
+    if code == codes::MIN {
         lanes::fill_min(values, p, n, a, b);
         return;
     }
-    if code == 4 {
+    if code == codes::MAX {
         lanes::fill_max(values, p, n, a, b);
         return;
     }
-    if code == 5 {
+    if code == codes::ADD {
         lanes::fill_add(values, p, n, a, b);
         return;
     }
-    if code == 6 {
+    if code == codes::SUB {
         lanes::fill_sub(values, p, n, a, b);
         return;
     }
@@ -95,23 +94,8 @@ pub fn fill_part(
         (λ k. partValue (partAt (flatIn words numbers) p) (getD (now (px .entry)) k past) (getD (now (py .entry)) k past)
         (getD (now (pz .entry)) k past) (lane (now (values .entry)) k p)) ⌝ }
 {
-    let a = point::place(words[64 + p]);
-    let b = point::place(words[128 + p]);
-    fill_entry(
-        words[p],
-        a,
-        b,
-        numbers[p],
-        numbers[64 + p],
-        numbers[128 + p],
-        numbers[192 + p],
-        p,
-        px,
-        py,
-        pz,
-        n,
-        values,
-    );
+    let entry = layout::entry_at(words, numbers, p);
+    fill_entry(entry, p, px, py, pz, n, values);
 }
 
 // The rows of the first `count` parts, in order.
@@ -140,25 +124,8 @@ pub fn fill_parts(
 pub fn copy_row(values: &[f64], p: usize, n: usize, results: &mut [f64])
     requires { ⌜ laneAt p n ≤ length (now values) ⌝ }
     requires { ⌜ n ≤ length (now results) ⌝ }
-    ensures results { λ _. ⌜ now (results .exit) ≡ filled 0 n (λ k. getD (now (values .entry)) (laneAt p k) past) (now (results .entry)) ⌝ }
-    ensures { λ _. ⌜ laneAt p n ≤ length (now (values .entry)) ⌝ }
+    ensures { λ _. ⌜ now (results .exit) ≡ filled 0 n (λ k. getD (now (values .entry)) (laneAt p k) past) (now (results .entry)) ⌝ }
 {
     let row = p * 64;
-    let mut i: usize = 0;
-    while i < n {
-        results[i] = values[row + i];
-        i += 1;
-    }
-}
-
-// +0 into the first n elements.
-pub fn clear_row(n: usize, results: &mut [f64])
-    requires { ⌜ n ≤ length (now results) ⌝ }
-    ensures { λ _. ⌜ now (results .exit) ≡ filled 0 n (λ k. plusZero) (now (results .entry)) ⌝ }
-{
-    let mut i: usize = 0;
-    while i < n {
-        results[i] = 0.0;
-        i += 1;
-    }
+    slices::copy_floats(&values[row..], results, 0, n);
 }

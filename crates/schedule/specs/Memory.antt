@@ -7,7 +7,9 @@ use Rattle.float.specs.Zero.{plusZero}
 use Rattle.schedule.specs.Schedule.{Event, clearCorners, corner, evaluate, makeConstant, makeLeaf, point, work}
 use Rattle.schedule.specs.Plan.{Plan}
 
--- the five lent lists (rule S1)
+-- The five lent lists (rules S1 and S2). A child has its place in the first three: what it is (0 where it is not active, 1 where it is active
+-- and not decided, or a constant, 2 where it is a leaf), a constant's number, and a leaf's ordinal. The store has the points of each leaf, one
+-- ordinal after the other, and the corners those of the node in work.
 pub record Memory : Type 0 where
   pub kinds : List ℕ
   pub numbers : List Float

@@ -2,14 +2,10 @@
 use Prim.Native.Nat.{ℕ}
 use mathlib.Core.Bool.{Bool}
 use lib.Ieee.{Float}
-
--- what an active child becomes: a constant with its kind and its number, or a leaf (rules S6 to S8)
-pub data Decision : Type 0 where
-  constant : ℕ → Float → Decision
-  leaf : Decision
+use Rattle.grid.specs.declared.Verdict.{Verdict}
 
 -- All that the schedule uses of an input. A node has `children` children and `corners` corners, a leaf `leafPoints` points.
--- `decide v c read` is what child c of node v becomes where the node's corners hold the values `read`.
+-- `decide v c read` is what child c of node v becomes, if it is active, where the node's corners hold the values `read`.
 pub record Plan : Type 0 where
   pub nodes : ℕ
   pub children : ℕ
@@ -18,5 +14,5 @@ pub record Plan : Type 0 where
   pub active : ℕ → ℕ → Bool
   pub needed : ℕ → ℕ → Bool
   pub cornerValue : ℕ → ℕ → Float
-  pub decide : ℕ → ℕ → (ℕ → Float) → Decision
+  pub decide : ℕ → ℕ → (ℕ → Float) → Verdict
   pub pointValue : ℕ → ℕ → ℕ → Float

@@ -4,19 +4,21 @@ use mathlib.Core.List.{List, [], _∷_, _++_}
 use lib.ListN.{getD}
 use lib.Ieee.{Float}
 use Rattle.float.specs.Zero.{plusZero}
+use Rattle.schedule.specs.declared.Cursor.{Cursor}
+use Rattle.schedule.specs.declared.Cursor.the-variants.{End, Corner, Point}
 use Rattle.schedule.specs.Memory.{State}
-use Rattle.schedule.specs.Schedule.{Event, Site, childrenFrom, clearCorners, corner, cornersFrom, evaluate, filled, nodesFrom, point, pointsFrom, work}
+use Rattle.schedule.specs.Schedule.{Event, Site, childrenFrom, clearCorners, corner, cornersFrom, evaluate, cornersHeld, nodesFrom, point, pointsFrom, work}
 use Rattle.schedule.specs.Plan.{Plan}
 
--- the end, or the site of the next evaluation (rule S12)
-pub data Cursor : Type 0 where
-  end : Cursor
-  at : Site → Cursor
+-- the cursor at an evaluation's site (rule S12)
+abbrev pub atSite : Site → Cursor
+atSite (corner v i) = Corner v i
+atSite (point v c p) = Point v c p
 
 -- the cursor where a list of events is left (rule S12)
 unfoldable pub cursorOf : List Event → Cursor
-cursorOf [] = end
-cursorOf (evaluate s x ∷ es) = at s
+cursorOf [] = End
+cursorOf (evaluate s x ∷ es) = atSite s
 cursorOf (work w ∷ es) = cursorOf es
 
 -- the nodes that are left from v on
@@ -32,9 +34,9 @@ childrenLeft P v c read = childrenFrom P read v (P .children - c) c ++ (work cle
 -- what is left at a cursor, where the corners hold `read`
 unfoldable pub eventsFrom : Plan → Cursor → (ℕ → Float) → List Event
 unfolding cornersFrom pointsFrom childrenLeft
-eventsFrom P end read = []
-eventsFrom P (at (corner v i)) read = cornersFrom P v (P .corners - i) i ++ childrenLeft P v 0 (filled P v i read)
-eventsFrom P (at (point v c p)) read = pointsFrom P v c (P .leafPoints - p) p ++ childrenLeft P v (suc c) read
+eventsFrom P End read = []
+eventsFrom P (Corner v i) read = cornersFrom P v (P .corners - i) i ++ childrenLeft P v 0 (cornersHeld P v i read)
+eventsFrom P (Point v c p) read = pointsFrom P v c (P .leafPoints - p) p ++ childrenLeft P v (suc c) read
 
 -- what the corners hold in a state
 abbrev pub reading : State → ℕ → Float

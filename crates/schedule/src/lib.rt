@@ -1,2 +1,25 @@
 // The schedule of a job as a list of events, the ledger, and their laws, over any plan: see
-// proofs/Lib.antt. There is no code here.
+// specs/Lib.antt and proofs/Lib.antt. The code has the words that the definitions share with calls:
+// what a record counts, where a job stands, and how a call is answered.
+use grid::GridCounts;
+
+// What a record counts: of its grid, leaves so far, their points, and evaluations so far (rule R2).
+pub struct Counts {
+    pub grid: GridCounts,
+    pub leaves: u64,
+    pub sampled: u64,
+    pub evaluations: u64,
+}
+
+// Where a job stands (rule S12): at the end, or before a corner of a node or a point of a node's child.
+pub enum Cursor {
+    End,
+    Corner(usize, usize),
+    Point(usize, usize, usize),
+}
+
+// Whether a call was accepted, or the number of the cause that refused it (rule C51).
+pub enum Answer {
+    Accepted,
+    Refused(u32),
+}

@@ -3,18 +3,19 @@ use Prim.Native.Nat.{ℕ, suc, _-_}
 use mathlib.Core.Path.{_≡_, refl, sym, ap, _∙_}
 use mathlib.Core.Bool.{Bool, true, false}
 use native.Mathlib.Omega.{arith}
-use Rattle.grid.specs.declared.Refusal.the-variants.{By}
-use Rattle.grid.specs.Causes.{refusalOf}
-use Rattle.grid.proofs.Clear.{number-above}
+use Rattle.input.specs.declared.Refusal.the-variants.{By}
+use Rattle.input.specs.Causes.{refusalOf, numberOf}
+use Rattle.input.proofs.Clear.{number-above}
 use Rattle.schedule.specs.Memory.{Memory}
 use Rattle.schedule.specs.Opened.{lengthsOf, zeroMemory}
 use Rattle.schedule.specs.Possible.{impossible}
 use Rattle.schedule.specs.Calls.{opens, steps, drops}
-use Rattle.schedule.specs.Engine.{Engine, engineCall, engineOpen, engineStep, engineStepJob}
-use Rattle.sparse_field.specs.declared.Input.{Input}
+use Rattle.schedule.specs.Engine.{engineCall, engineOpen, engineStep, engineStepJob}
+use Rattle.input.specs.declared.Input.{Input}
 use Rattle.sparse_field.specs.declared.Record.{Record}
-use Rattle.sparse_field.specs.declared.Answer.the-variants.{Accepted, Refused}
-use Rattle.sparse_field.specs.Records.{sparse, lent, numberOf, jobIn, byFlag, recordIn, recordOut, noRecord}
+use Rattle.schedule.specs.declared.Answer.the-variants.{Accepted, Refused}
+use Rattle.plans.specs.Sparse.{sparse}
+use Rattle.sparse_field.specs.Records.{jobIn, byFlag, recordIn, recordOut, noRecord}
 use Rattle.sparse_field.specs.Calls.{Handed, handed, called}
 use Rattle.sparse_field.specs.Inner.Parts.{openedRecord, openedMemory, steppedEngine}
 
@@ -31,10 +32,10 @@ module _ (i : Input) (r : Record) (m : Memory) where
   byNumber n = let o = engineOpen sparse i (record { jobRecord = recordIn r; memory = m }) n in handed r (o .answer) (o .next)
 
   -- a refused open
-  pub open-refused : (n : ℕ) → refusalOf (i .grid) (i .band) (i .model) (lent (lengthsOf m)) ≡ By n → called (opens i) r m ≡ refusedBy n r m
+  pub open-refused : (n : ℕ) → refusalOf i (lengthsOf m) ≡ By n → called (opens i) r m ≡ refusedBy n r m
   unfolding called engineCall engineOpen
   open-refused n e =
-      let above : n ≡ suc (n - 1) = omega (arith, number-above (i .grid) (i .band) (i .model) (lent (lengthsOf m)) n e) in
+      let above : n ≡ suc (n - 1) = omega (arith, number-above i (lengthsOf m) n e) in
       ap (λ x. byNumber (numberOf x)) e ∙ ap byNumber above ∙ ap (λ k. refusedBy k r m) (sym above)
 
   -- an accepted open

@@ -3,44 +3,39 @@ use Prim.Native.Nat.{ℕ, zero, suc}
 use mathlib.Core.Path.{_≡_, refl, sym, ap, subst, _∙_}
 use mathlib.Core.Bool.{Bool, true, false}
 use mathlib.Core.List.{List, [], _∷_, map}
-use Rattle.schedule.specs.Schedule.{corner, point}
-use Rattle.schedule.specs.Resume.{Cursor, end, at}
-use Rattle.schedule.specs.Memory.{Memory}
 use Rattle.schedule.specs.Opened.{lengthsOf, stateAt}
 use Rattle.schedule.specs.BudgetSum.{budgetSum}
 use Rattle.schedule.specs.JobRecord.{Job, JobRecord, noJob, job, atEnd}
-use Rattle.schedule.specs.Calls.{opens, steps, drops, Answer, accepted, refused, run}
+use Rattle.schedule.specs.Calls.{opens, steps, drops, run}
+use Rattle.schedule.specs.declared.Answer.{Answer}
+use Rattle.schedule.specs.declared.Answer.the-variants.{Accepted, Refused}
 use Rattle.schedule.specs.Engine.{Engine, engineCall, engineOpen, engineStep, engineStepJob}
 use Rattle.schedule.specs.Possible.{impossible}
 use Rattle.schedule.specs.Ledger.{noEntry, entry, ledgerCall, firstLedger}
 use Rattle.schedule.specs.Agree.{Agree}
 use Rattle.schedule.specs.Implements.{Implements, viewRun}
 use Rattle.schedule.proofs.Implements.{implements-ledger, implements-drop, implements-elements, implements-finished}
-use Rattle.sparse_field.specs.declared.Input.{Input}
+use Rattle.input.specs.declared.Input.{Input}
 use Rattle.sparse_field.specs.declared.Record.{Record}
-use Rattle.sparse_field.specs.Plan.{planOf}
-use Rattle.sparse_field.specs.Records.{sparse, jobIn, recordIn, byFlag, recordOut, cursorIn, cursorOut}
+use Rattle.plans.specs.Plan.{planOf}
+use Rattle.plans.specs.Sparse.{sparse}
+use Rattle.sparse_field.specs.Records.{jobIn, recordIn, byFlag, recordOut}
 use Rattle.sparse_field.specs.Calls.{called, handed}
-use Rattle.sparse_field.specs.Lists.{Call, Held, onHeld, engineIn, answerIn}
+use Rattle.sparse_field.specs.CallLists.{Call, Held, onHeld, engineIn}
 use Rattle.sparse_field.specs.Demand.{DemandThree, DropLeavesZeros, EqualBudgets, FinishedField}
-use Rattle.sparse_field.proofs.Opening.{sparse-laws, long-enough}
+use Rattle.plans.proofs.Lawful.{sparse-laws, long-enough}
 
 -- ---- a record that the code hands back stands for the engine's
 
-cursor-forth : (a : Cursor) → cursorIn (cursorOut a) ≡ a
-cursor-forth end = refl
-cursor-forth (at (corner v i)) = refl
-cursor-forth (at (point v c p)) = refl
-
 pub record-forth : (r : JobRecord sparse) → recordIn (recordOut r) ≡ r
 record-forth noJob = refl
-record-forth (job j) = λ t. job (record { input = j .input; lengths = j .lengths; counts = j .counts; cursor = cursor-forth (j .cursor) t })
+record-forth (job j) = refl
 
 -- ---- a refused call leaves the engine as it was
 
 abbrev KeptIfRefused : Answer → Engine sparse → Engine sparse → Type 0
-KeptIfRefused accepted x e = Unit {0}
-KeptIfRefused (refused n) x e = x ≡ e
+KeptIfRefused Accepted x e = Unit {0}
+KeptIfRefused (Refused n) x e = x ≡ e
 
 refused-kept : (c : Call) (e : Engine sparse) → KeptIfRefused (engineCall sparse c e .answer) (engineCall sparse c e .next) e
 unfolding engineCall engineOpen engineStep engineStepJob
@@ -52,25 +47,27 @@ refused-kept (opens i) e = by (sparse .cause _ i)
 refused-kept (steps n) e = by (e .jobRecord)
   where
     judged : (j : Job sparse) (b : Bool)
-        → KeptIfRefused (engineStepJob sparse n j (e .memory) b .answer) (engineStepJob sparse n j (e .memory) b .next) (record { jobRecord = job j; memory = e .memory })
+        → KeptIfRefused (engineStepJob sparse n j (e .memory) b .answer) (engineStepJob sparse n j (e .memory) b .next)
+        (record { jobRecord = job j; memory = e .memory })
     judged j true = refl
     judged j false = tt
 
-    by : (r : JobRecord sparse) → KeptIfRefused (engineStep sparse n r (e .memory) .answer) (engineStep sparse n r (e .memory) .next) (record { jobRecord = r; memory = e .memory })
+    by : (r : JobRecord sparse)
+        → KeptIfRefused (engineStep sparse n r (e .memory) .answer) (engineStep sparse n r (e .memory) .next) (record { jobRecord = r; memory = e .memory })
     by noJob = refl
     by (job j) = judged j (impossible sparse j (e .memory))
 refused-kept drops e = tt
 
 -- ---- the code's calls implement the engine
 
-answer-same : (r : Record) (a : Answer) (x : Engine sparse) → answerIn (handed r a x .outcome .answer) ≡ a
-answer-same r accepted x = refl
-answer-same r (refused n) x = refl
+answer-same : (r : Record) (a : Answer) (x : Engine sparse) → handed r a x .outcome .answer ≡ a
+answer-same r Accepted x = refl
+answer-same r (Refused n) x = refl
 
 next-same : (s : Held) (a : Answer) (x : Engine sparse) → KeptIfRefused a x (engineIn s)
     → engineIn (record { held = handed (s .held) a x .outcome .next; memory = handed (s .held) a x .memory }) ≡ x
-next-same s accepted x kept = λ t. record { jobRecord = record-forth (x .jobRecord) t; memory = x .memory }
-next-same s (refused n) x kept = ap (λ (y : Engine sparse). record { jobRecord = y .jobRecord; memory = x .memory }) (sym kept)
+next-same s Accepted x kept = λ t. record { jobRecord = record-forth (x .jobRecord) t; memory = x .memory }
+next-same s (Refused n) x kept = ap (λ (y : Engine sparse). record { jobRecord = y .jobRecord; memory = x .memory }) (sym kept)
 
 pub implemented : Implements sparse Call Held (λ c. c) engineIn onHeld
 unfolding called
@@ -110,4 +107,4 @@ pub finished-field : FinishedField
 finished-field cs s none flag ends =
     let r = run onHeld cs s .last .held in
     implements-finished sparse Call Held (λ c. c) engineIn onHeld implemented sparse-laws s (no-job s none) long-enough cs (jobIn r)
-    (ap (λ b. byFlag b r) flag) (ap (λ a. atEnd (cursorIn a)) ends)
+    (ap (λ b. byFlag b r) flag) (ap atEnd ends)

@@ -1,22 +1,7 @@
--- Laws of the engine.
-pub mod Stretch
-pub mod Decisions
-pub mod RunLaws
-pub mod Turns
-pub mod ChildLaws
-pub mod FlagLaws
-pub mod NodeKinds
-pub mod NodeLaws
-pub mod JobLaws
-pub mod Judgement
+-- Laws of records and calls, and demand 3.
+pub mod JudgedRecords
 pub mod Results
 pub mod Opening
 pub mod CallLaws
 pub mod Demand
 pub mod WholeJob
-pub mod AroundLaws
-pub mod Searching
-pub mod Writing
-pub mod Running
-pub mod RowValues
-pub mod AxesLaws

@@ -6,120 +6,95 @@ use mathlib.Core.List.{[]}
 use native.Mathlib.Nat.{mul-pos, mul-le-mul-right}
 use native.Mathlib.Omega.{arith}
 use Rattle.float.specs.Zero.{plusZero}
-use Rattle.grid.specs.declared.Grid.{Grid}
-use Rattle.grid.specs.declared.Band.{Band}
-use Rattle.grid.specs.declared.Lengths.{Lengths}
+use Rattle.input.specs.declared.Lengths.{Lengths}
 use Rattle.grid.specs.Blocks.{cube}
 use Rattle.grid.specs.Nodes.{nodesOf}
-use Rattle.grid.specs.Causes.{childrenOf}
+use Rattle.grid.specs.Limits.{childrenOf}
 use Rattle.grid.proofs.Counts.{i-above, j-above, k-above}
-use Rattle.grid.proofs.Clear.{Clear}
-use Rattle.grid.proofs.CauseLaws.{inner-block, leaf-block, few-children}
-use Rattle.model.specs.declared.ImplicitModel.{ImplicitModel}
+use Rattle.input.proofs.Clear.{Clear, no-cause}
+use Rattle.grid.proofs.LimitLaws.{inner-block, leaf-block, few-children}
 use Rattle.schedule.specs.Schedule.{schedule, nodesFrom}
 use Rattle.schedule.specs.Plan.{Plan}
 use Rattle.schedule.specs.Resume.{cursorOf, nodesLeft, eventsFrom}
 use Rattle.schedule.specs.Split.{split}
 use Rattle.schedule.specs.Memory.{Memory}
 use Rattle.schedule.specs.Totals.{activeAll, activeUpTo}
-use Rattle.schedule.specs.Finished.{LongEnough}
 use Rattle.schedule.specs.Counts.{countsWith}
 use Rattle.schedule.specs.JobRecord.{job}
 use Rattle.schedule.specs.Engine.{openedEngine}
 use Rattle.schedule.proofs.Activity.{opened-active, opened-lengths}
-use Rattle.schedule.proofs.AfterFacts.{leavesAll-most, after}
+use Rattle.schedule.proofs.AfterFacts.{after}
 use Rattle.schedule.proofs.Sums.{up-to-most}
 use Rattle.schedule.proofs.StopFacts.{getD-equal}
 use Rattle.schedule.specs.PlanLaws.{Valid}
 use Rattle.schedule.specs.Stops.{AtLeast}
 use Rattle.schedule.specs.Opened as opens
 use Rattle.schedule.specs.Opened.{lengthsOf, ActiveKinds}
-use Rattle.schedule.specs.Inputs.{InputsLaws}
-use Rattle.sparse_field.specs.declared.Input.{Input}
-use Rattle.sparse_field.specs.declared.Cursor.{Cursor}
-use Rattle.sparse_field.specs.declared.Progress.{Progress}
-use Rattle.sparse_field.specs.declared.Cursor.the-variants.{End, Corner, Point}
-use Rattle.sparse_field.specs.Plan.{planWith, planOf, valueOf}
+use Rattle.input.specs.declared.Input.{Input}
+use Rattle.schedule.specs.declared.Cursor.{Cursor}
+use Rattle.engine.specs.declared.Progress.{Progress}
+use Rattle.schedule.specs.declared.Cursor.the-variants.{End, Corner, Point}
+use Rattle.plans.specs.Plan.{planWith, planOf, valueOf, decideBy}
 use Rattle.sparse_field.specs.Inner.Parts.{startMemory, cursorAt}
-use Rattle.sparse_field.specs.Inner.Progress.{Sized, Lent, Advanced, readingIn, ZeroCorners}
-use Rattle.sparse_field.specs.Records.{sparse, lent, cursorIn}
-use Rattle.sparse_field.specs.Inner.Startable.{Startable}
-use Rattle.sparse_field.proofs.Judgement.{no-cause, active-all}
-use Rattle.sparse_field.proofs.NodeLaws.{plan-laws, node-begins}
-use Rattle.sparse_field.specs.Inner.Runs.{runOf}
-use Rattle.sparse_field.proofs.ChildLaws.{active-few}
+use Rattle.engine.specs.Inner.Progress.{Sized, Lent, Advanced, readingIn, ZeroCorners}
+use Rattle.plans.specs.Sparse.{sparse}
+use Rattle.engine.specs.Inner.Startable.{Startable}
+use Rattle.plans.proofs.Plans.{active-all}
+use Rattle.plans.proofs.Lawful.{sparse-laws}
+use Rattle.engine.proofs.NodeLaws.{node-begins}
+use Rattle.engine.specs.Inner.Runs.{runOf}
+use Rattle.engine.proofs.ChildLaws.{active-few}
 use Rattle.sparse_field.proofs.Results.{final, engine-after}
 
 -- sizes that no cause refuses
-pub sized : (g : Grid) {band : Band} {m : ImplicitModel} {l : Lengths} → Clear g band m l → Sized g
+pub sized : (i : Input) {l : Lengths} → Clear i l → Sized (i .grid)
 unfolding childrenOf
-sized g none = record {
-  innerLeast = omega (arith, inner-block g (none .two) .least);
-  innerMost = inner-block g (none .two) .most;
-  leafLeast = omega (arith, leaf-block g (none .two) .least);
-  leafMost = leaf-block g (none .two) .most;
-  children = few-children g (none .five);
-}
+sized i none =
+    let g = i .grid in
+    record {
+      innerLeast = omega (arith, inner-block g (none .two) .least);
+      innerMost = inner-block g (none .two) .most;
+      leafLeast = omega (arith, leaf-block g (none .two) .least);
+      leafMost = leaf-block g (none .two) .most;
+      children = few-children g (none .five);
+    }
 
 -- memory whose lengths no cause refuses
-pub lent-memory : (i : Input) (m : Memory) → Clear (i .grid) (i .band) (i .model) (lent (lengthsOf m)) → ActiveKinds (planOf i) (m .kinds) → Lent (planOf i) m
+pub lent-memory : (i : Input) (m : Memory) → Clear i (lengthsOf m) → ActiveKinds (planOf i) (m .kinds) → Lent (planOf i) m
 unfolding planWith
 lent-memory i m none right = record {
   kinds = none .lent .kinds;
   numbers = none .lent .numbers;
   places = none .lent .places;
-  store = subst (λ n. n * cube (i .grid .leaf) ≤ lent (lengthsOf m) .store) (sym (active-all i)) (none .lent .store);
+  store = subst (λ n. n * cube (i .grid .leaf) ≤ lengthsOf m .store) (sym (active-all (i .grid) (decideBy (i .band)) (valueOf (i .model)))) (none .lent .store);
   corners = none .lent .corners;
   activeKinds = right;
 }
 
 -- a cursor of the plan is one where the engine may go on
-pub valid-startable : (P : Plan) (a : Cursor) (n : ℕ) → Valid P (cursorIn a) → n ≤ activeUpTo P (cursorIn a) → AtLeast 1 (cursorIn a) n → Startable P a n
+pub valid-startable : (P : Plan) (a : Cursor) (n : ℕ) → Valid P a → n ≤ activeUpTo P a → AtLeast 1 a n → Startable P a n
 unfolding activeUpTo
 valid-startable P End n valid most least = tt
 valid-startable P (Corner v i) n valid most least = (valid .0, omega (arith, valid .1), most)
 valid-startable P (Point v c p) n valid most least = (valid .0, valid .1, omega (arith, valid .3), least, most)
 
--- an input without a cause has a lawful plan and enough corners
-pub sparse-laws : InputsLaws sparse
-unfolding planWith
-sparse-laws = record {
-  planLaws = λ l i none.
-      let n = no-cause (i .grid) (i .band) (i .model) (lent l) none in
-      plan-laws (i .grid) (i .band) (valueOf (i .model)) (sized (i .grid) n .innerLeast);
-  enoughCorners = λ l i none. no-cause (i .grid) (i .band) (i .model) (lent l) none .lent .corners;
-}
-
--- its lent slices hold all its children and all its leaves' points
-pub long-enough : (l : opens.Lengths) (i : Input) → sparse .cause l i ≡ 0 → LongEnough (planOf i) l
-unfolding planWith
-long-enough l i none =
-    let n = no-cause (i .grid) (i .band) (i .model) (lent l) none in
-    let few = mul-le-mul-right (cube (i .grid .leaf)) (leavesAll-most (planOf i)) in
-    record {
-      kinds = n .lent .kinds;
-      numbers = n .lent .numbers;
-      places = n .lent .places;
-      store = omega (arith, n .lent .store, few, ap (λ k. k * cube (i .grid .leaf)) (active-all i));
-    }
-
 -- there are few active children
 pub active-within : (i : Input) → Sized (i .grid) → activeAll (planOf i) ≤ 16777216
-active-within i size = active-few (i .grid) (i .band) (valueOf (i .model)) size
+active-within i size = active-few (i .grid) (decideBy (i .band)) (valueOf (i .model)) size
 
 -- ---- the start of a job
 
-module _ (i : Input) (l : opens.Lengths) (none : sparse .cause l i ≡ 0) where
+module _ (i : Input) (l : Lengths) (none : sparse .cause l i ≡ 0) where
   abbrev P : Plan
   P = planOf i
 
-  pub nothing : Clear (i .grid) (i .band) (i .model) (lent l)
-  nothing = no-cause (i .grid) (i .band) (i .model) (lent l) none
+  pub nothing : Clear i l
+  nothing = no-cause i l none
 
   -- the memory that open prepares is lent
   pub start-lent : Lent P (startMemory i l)
   start-lent =
-      lent-memory i (startMemory i l) (subst (λ k. Clear (i .grid) (i .band) (i .model) (lent k)) (sym (opened-lengths P l)) nothing) (opened-active P l)
+      lent-memory i (startMemory i l) (subst (Clear i) (sym (opened-lengths P l)) nothing) (opened-active P l)
 
   -- its corners are all +0
   start-cleared : ZeroCorners (startMemory i l)
@@ -135,7 +110,7 @@ module _ (i : Input) (l : opens.Lengths) (none : sparse .cause l i ≡ 0) where
   start-startable = (some-node, omega arith, omega arith)
 
   -- what is left at its first corner is the whole schedule
-  pub start-events : eventsFrom P (cursorIn (Corner 0 0)) (readingIn (startMemory i l)) ≡ schedule P
+  pub start-events : eventsFrom P (Corner 0 0) (readingIn (startMemory i l)) ≡ schedule P
   unfolding nodesLeft schedule
   start-events =
       let all : P .nodes - 0 ≡ P .nodes = omega arith in
@@ -143,18 +118,18 @@ module _ (i : Input) (l : opens.Lengths) (none : sparse .cause l i ≡ 0) where
 
   -- a job's work from its first corner on is work on the whole schedule
   start-done : {m m₁ : Memory} {r : Progress} → m ≡ startMemory i l
-      → Advanced P 0 0 m m₁ (eventsFrom P (cursorIn (Corner 0 0)) (readingIn m)) [] r (activeAll P)
+      → Advanced P 0 0 m m₁ (eventsFrom P (Corner 0 0) (readingIn m)) [] r (activeAll P)
       → Advanced P 0 0 (startMemory i l) m₁ (schedule P) [] r (activeAll P)
   start-done {m} {m₁} {r} start done =
       subst (λ es. Advanced P 0 0 (startMemory i l) m₁ es [] r (activeAll P)) start-events
-      (subst (λ x. Advanced P 0 0 x m₁ (eventsFrom P (cursorIn (Corner 0 0)) (readingIn x)) [] r (activeAll P)) start done)
+      (subst (λ x. Advanced P 0 0 x m₁ (eventsFrom P (Corner 0 0) (readingIn x)) [] r (activeAll P)) start done)
 
   -- the engine after an accepted open, from what a job's work has come to
   pub opened-after : {m m₁ : Memory} {r : Progress} → m ≡ startMemory i l
-      → Advanced P 0 0 m m₁ (eventsFrom P (cursorIn (Corner 0 0)) (readingIn m)) [] r (activeAll P)
+      → Advanced P 0 0 m m₁ (eventsFrom P (Corner 0 0) (readingIn m)) [] r (activeAll P)
       → openedEngine sparse i l
       ≡ record {
-        jobRecord = job (record { input = i; lengths = l; counts = countsWith P (r .leaves) 0; cursor = cursorIn (cursorAt (r .stop)) });
+        jobRecord = job (record { input = i; lengths = l; counts = countsWith P (r .leaves) 0; cursor = cursorAt (r .stop) });
         memory = m₁;
       }
   unfolding opens.opened
@@ -162,13 +137,13 @@ module _ (i : Input) (l : opens.Lengths) (none : sparse .cause l i ≡ 0) where
       let none : 0 + (0 - r .left) ≡ 0 = omega arith in
       engine-after i l 0 0 0 (activeAll P) (startMemory i l) m₁ (schedule P) r (start-done start done)
       ∙ ap (λ k. record {
-        jobRecord = job (record { input = i; lengths = l; counts = countsWith P (r .leaves) k; cursor = cursorIn (cursorAt (r .stop)) });
+        jobRecord = job (record { input = i; lengths = l; counts = countsWith P (r .leaves) k; cursor = cursorAt (r .stop) });
         memory = m₁;
       }) none
 
   -- its leaves are among the active children
   pub opened-leaves : {m m₁ : Memory} {r : Progress} → m ≡ startMemory i l
-      → Advanced P 0 0 m m₁ (eventsFrom P (cursorIn (Corner 0 0)) (readingIn m)) [] r (activeAll P) → r .leaves ≤ activeAll P
+      → Advanced P 0 0 m m₁ (eventsFrom P (Corner 0 0) (readingIn m)) [] r (activeAll P) → r .leaves ≤ activeAll P
   unfolding opens.opened opens.stateAt runOf
   opened-leaves {m} {m₁} {r} start done =
       let laws = sparse-laws .planLaws l i none in

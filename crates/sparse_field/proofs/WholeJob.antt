@@ -6,24 +6,27 @@ use mathlib.Core.Bool.{true, false}
 use Rattle.schedule.specs.Plan.{Plan}
 use Rattle.schedule.specs.Memory.{Memory}
 use Rattle.schedule.specs.Totals.{total}
-use Rattle.schedule.specs.Opened.{Lengths, lengthsOf, stateAt}
+use Rattle.input.specs.declared.Lengths.{Lengths}
+use Rattle.schedule.specs.Opened.{lengthsOf, stateAt}
 use Rattle.schedule.specs.Finished.{Finished}
 use Rattle.schedule.specs.JobRecord.{job, isFinished}
-use Rattle.schedule.specs.Calls.{Outcome, opens, steps, accepted}
+use Rattle.schedule.specs.Calls.{Reply, opens, steps}
+use Rattle.schedule.specs.declared.Answer.the-variants.{Accepted}
 use Rattle.schedule.specs.Engine.{Engine, engineCall}
 use Rattle.schedule.specs.Ledger.{jobLedger, ledgerOpen, ledgerStep, ledgerCall, firstLedger}
 use Rattle.schedule.specs.Possible.{impossible}
 use Rattle.schedule.proofs.Finished.{finished-memory}
 use Rattle.schedule.proofs.LedgerTheorem.{engineOf, LedgerInvariant, same-outcome, same-job}
 use Rattle.schedule.proofs.Reachable.{jobAt, engineAt, advanced-open, reachable-possible}
-use Rattle.sparse_field.specs.declared.Input.{Input}
+use Rattle.input.specs.declared.Input.{Input}
 use Rattle.sparse_field.specs.declared.Record.{Record}
-use Rattle.sparse_field.specs.Plan.{planOf}
-use Rattle.sparse_field.specs.Records.{sparse, recordOut}
+use Rattle.plans.specs.Plan.{planOf}
+use Rattle.plans.specs.Sparse.{sparse}
+use Rattle.sparse_field.specs.Records.{recordOut}
 use Rattle.sparse_field.specs.Calls.{Handed, handed, called}
 use Rattle.sparse_field.proofs.CallLaws.{acceptedWith, open-accepted}
 use Rattle.sparse_field.proofs.Demand.{record-forth}
-use Rattle.sparse_field.proofs.Opening.{sparse-laws, long-enough}
+use Rattle.plans.proofs.Lawful.{sparse-laws, long-enough}
 
 -- the record of an input's job after k evaluations
 abbrev pub recordAfter : Lengths → Input → ℕ → Record
@@ -48,13 +51,17 @@ module _ (i : Input) (m : Memory) (none : sparse .cause (lengthsOf m) i ≡ 0) w
 
   -- the engine's step from there
   stepped-through : (n : ℕ) → total (planOf i) ≤ n
-      → engineCall sparse (steps n) (engineAt sparse (lengthsOf m) i 0) ≡ record { answer = accepted; next = engineAt sparse (lengthsOf m) i (total (planOf i)) }
+      → engineCall sparse (steps n) (engineAt sparse (lengthsOf m) i 0) ≡ record {
+        answer = Accepted;
+        next = engineAt sparse (lengthsOf m) i
+            (total (planOf i));
+      }
   unfolding ledgerCall ledgerStep
   stepped-through n enough =
       let all : 0 + min n (total P - 0) ≡ total P = omega arith in
       same-outcome sparse sparse-laws l (steps n) (jobLedger sparse l i 0) at-start .same
-      ∙ ap (λ k. record { answer = accepted; next = engineOf sparse l (jobLedger sparse (lengthsOf (stateAt P l 0 .memory)) i k) }) all
-      ∙ ap (λ d. record { answer = accepted; next = engineOf sparse l (jobLedger sparse d i (total P)) }) (at-start .lengths)
+      ∙ ap (λ k. record { answer = Accepted; next = engineOf sparse l (jobLedger sparse (lengthsOf (stateAt P l 0 .memory)) i k) }) all
+      ∙ ap (λ d. record { answer = Accepted; next = engineOf sparse l (jobLedger sparse d i (total P)) }) (at-start .lengths)
 
   -- step
   pub job-finished : (n : ℕ) → total (planOf i) ≤ n
@@ -63,12 +70,13 @@ module _ (i : Input) (m : Memory) (none : sparse .cause (lengthsOf m) i ≡ 0) w
   unfolding called
   job-finished n enough =
       let r = recordAfter l i 0 in
-      let to : Outcome (Engine sparse) → Handed = λ o. handed r (o .answer) (o .next) in
+      let to : Reply (Engine sparse) → Handed = λ o. handed r (o .answer) (o .next) in
       ap (λ x. to (engineCall sparse (steps n) (record { jobRecord = x; memory = stateAt P l 0 .memory }))) (record-forth (job (jobAt sparse l i 0)))
       ∙ ap to (stepped-through n enough)
 
   -- what such a record and memory are
-  pub finished-possible : impossible sparse (jobAt sparse (lengthsOf m) i (total (planOf i))) (stateAt (planOf i) (lengthsOf m) (total (planOf i)) .memory) ≡ false
+  pub finished-possible : impossible sparse (jobAt sparse (lengthsOf m) i (total (planOf i)))
+      (stateAt (planOf i) (lengthsOf m) (total (planOf i)) .memory) ≡ false
   finished-possible = reachable-possible sparse l i sparse-laws none (total P) (omega arith)
 
   pub finished-flag : isFinished (jobAt sparse (lengthsOf m) i (total (planOf i))) ≡ true

@@ -11,11 +11,11 @@ use Rattle.schedule.specs.Calls.{drops, run}
 use Rattle.schedule.specs.Ledger.{noEntry, entry, ledgerCall, firstLedger}
 use Rattle.schedule.specs.Agree.{Agree}
 use Rattle.schedule.specs.Implements.{viewRun}
-use Rattle.sparse_field.specs.declared.Input.{Input}
-use Rattle.sparse_field.specs.declared.Cursor.the-variants.{End}
-use Rattle.sparse_field.specs.Plan.{planOf}
-use Rattle.sparse_field.specs.Records.{sparse}
-use Rattle.sparse_field.specs.Lists.{Call, Held, onHeld, engineIn}
+use Rattle.input.specs.declared.Input.{Input}
+use Rattle.schedule.specs.declared.Cursor.the-variants.{End}
+use Rattle.plans.specs.Plan.{planOf}
+use Rattle.plans.specs.Sparse.{sparse}
+use Rattle.sparse_field.specs.CallLists.{Call, Held, onHeld, engineIn}
 
 -- Any list of opens, steps and drops, refused ones among them, from any record without a job and any contents of the memory: the answers,
 -- every element, and the job with its counts are the ledger's (rule L10).

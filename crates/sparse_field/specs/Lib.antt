@@ -1,7 +1,6 @@
--- The sparse field: the plan of an input, the record, and what open, step and drop do.
-pub mod Plan
+-- The sparse field: the record, what open, step and drop do, and what holds of every list of them.
 pub mod Records
 pub mod Calls
-pub mod Lists
+pub mod CallLists
 pub mod Demand
 pub mod Inner

@@ -1,5 +1,5 @@
 // The calls on a sparse field's job: open, step and drop. Each works on the record that it is given and
-// on five lent slices, and hands back the next record.
+// on five slices, and hands back the next record.
 ghost use mathlib.Core.Path.{_≡_};
 ghost use mathlib.Core.Bool.{false};
 ghost use Rattle.schedule.specs.Calls.{opens, steps, drops};
@@ -8,18 +8,18 @@ ghost use Rattle.schedule.specs.Possible.{impossible};
 ghost use Rattle.schedule.specs.Lent.{held, entered, left};
 ghost use Rattle.sparse_field.specs.Calls.{called};
 ghost use Rattle.sparse_field.specs.Inner.Parts.{startMemory, openedRecord, openedMemory, steppedEngine};
-ghost use Rattle.sparse_field.specs.Records.{sparse, lent, jobIn, recordOut};
-use crate::Answer;
-use crate::Cursor;
-use crate::Input;
+ghost use Rattle.plans.specs.Sparse.{sparse};
+ghost use Rattle.sparse_field.specs.Records.{jobIn, recordOut};
 use crate::Outcome;
 use crate::Record;
-use crate::jobs;
-use crate::judging;
-use crate::kinds as kind;
-use crate::zeroing;
-use grid::Lengths;
-use grid::Refusal;
+use crate::judgement;
+use crate::memory;
+use crate::records;
+use input::Input;
+use input::Lengths;
+use input::Refusal;
+use schedule::Answer;
+use schedule::Cursor;
 
 // What an accepted open writes before the first event: all five slices are zeroed whole, and the kinds
 // are set.
@@ -34,8 +34,8 @@ fn prepare(
     requires { ⌜ sparse .cause (lengthsOf (held kinds numbers places store corners)) input ≡ 0 ⌝ }
     ensures { λ _. ⌜ left kinds numbers places store corners ≡ startMemory input (lengthsOf (entered kinds numbers places store corners)) ⌝ }
 {
-    zeroing::zero_all(kinds, numbers, places, store, corners);
-    kind::set_kinds(input, kinds);
+    memory::zero_all(kinds, numbers, places, store, corners);
+    kinds::set_kinds(input.grid, kinds);
 }
 
 // An accepted open: the memory is prepared, and the job runs on to its first evaluation or its end.
@@ -48,17 +48,16 @@ fn opened(
     store: &mut [f64],
     corners: &mut [f64],
 ) -> Record
-    requires { ⌜ (lengths ≡ lent (lengthsOf (held kinds numbers places store corners)))
+    requires { ⌜ (lengths ≡ lengthsOf (held kinds numbers places store corners))
         × (sparse .cause (lengthsOf (held kinds numbers places store corners)) input ≡ 0) ⌝ }
     ensures answer { λ r. ⌜ r ≡ openedRecord input (lengthsOf (entered kinds numbers places store corners)) ⌝ }
     ensures memory { λ _. ⌜ left kinds numbers places store corners ≡ openedMemory input (lengthsOf (entered kinds numbers places store corners)) ⌝ }
 {
     prepare(input, kinds, numbers, places, store, corners);
     let start = Cursor::Corner(0, 0);
-    let turn = jobs::run_job(input, start, 0, 0, kinds, numbers, places, store, corners);
-    let nodes = grid::node_total(input.grid) as u64;
-    let active = grid::active_children(input.grid);
-    jobs::record_of(input, lengths, nodes, active, turn, 0)
+    let turn = engine::run_job(input, start, 0, 0, kinds, numbers, places, store, corners);
+    let counted = grid::grid_counts(input.grid);
+    records::record_of(input, lengths, counted, turn, 0)
 }
 
 // Opens a job of an input, in place of the one that it finds, whatever record that is. A refusal hands
@@ -75,8 +74,8 @@ pub fn open(
     ensures answer { λ r. ⌜ r ≡ called (opens input) found (entered kinds numbers places store corners) .outcome ⌝ }
     ensures memory { λ _. ⌜ left kinds numbers places store corners ≡ called (opens input) found (entered kinds numbers places store corners) .memory ⌝ }
 {
-    let lengths = jobs::lengths_of(kinds, numbers, places, store, corners);
-    let refusal = grid::open_refusal(input.grid, input.band, input.model, lengths);
+    let lengths = memory::lengths_of(kinds, numbers, places, store, corners);
+    let refusal = input::open_refusal(input, lengths);
     if let Refusal::By(number) = refusal {
         return Outcome {
             answer: Answer::Refused(number),
@@ -106,7 +105,7 @@ fn stepped(
 {
     let counts = found.counts;
     let cursor = found.cursor;
-    let turn = jobs::run_job(
+    let turn = engine::run_job(
         found.input,
         cursor,
         counts.leaves,
@@ -118,14 +117,8 @@ fn stepped(
         corners,
     );
     let evaluations = counts.evaluations + (budget - turn.left);
-    jobs::record_of(
-        found.input,
-        found.lengths,
-        counts.nodes,
-        counts.active,
-        turn,
-        evaluations,
-    )
+    let counted = counts.grid;
+    records::record_of(found.input, found.lengths, counted, turn, evaluations)
 }
 
 // Makes as many evaluations as the budget allows and the job has left, and the work that goes with
@@ -148,7 +141,7 @@ pub fn step(
             next: found,
         };
     }
-    if judging::is_impossible(found, kinds, numbers, places, store, corners) {
+    if judgement::is_impossible(found, kinds, numbers, places, store, corners) {
         return Outcome {
             answer: Answer::Refused(8),
             next: found,
@@ -173,9 +166,9 @@ pub fn drop(
     ensures answer { λ r. ⌜ r ≡ called drops found (entered kinds numbers places store corners) .outcome ⌝ }
     ensures memory { λ _. ⌜ left kinds numbers places store corners ≡ called drops found (entered kinds numbers places store corners) .memory ⌝ }
 {
-    zeroing::zero_all(kinds, numbers, places, store, corners);
+    memory::zero_all(kinds, numbers, places, store, corners);
     Outcome {
         answer: Answer::Accepted,
-        next: jobs::no_record(),
+        next: records::no_record(),
     }
 }

@@ -1,13 +1,14 @@
 // The calls on the job.
 ghost use Prim.Native.Nat.{_+_, _≤_};
+use crate::answers;
 use crate::held::COUNTS;
 use crate::held::CURSOR;
 use crate::held::JOB;
 use crate::held::NEXT;
 use crate::records;
 use crate::words;
-use sparse_field::Answer;
-use sparse_field::Input;
+use input::Input;
+use schedule::Answer;
 use sparse_field::Outcome;
 use sparse_field::Record;
 
@@ -51,7 +52,7 @@ fn dropped(
 fn called(
     word: u64,
     budget: u64,
-    held: &[u64; 684],
+    held: &[u64; 686],
     kinds: &mut [u8],
     numbers: &mut [f64],
     places: &mut [u32],
@@ -85,7 +86,7 @@ fn refusal_of(answer: Answer) -> u64 {
 }
 
 // Keeps what a call hands back. Returns the number of its refusal, or 0.
-fn kept(outcome: Outcome, held: &mut [u64; 684]) -> u64 {
+fn kept(outcome: Outcome, held: &mut [u64; 686]) -> u64 {
     let answer = outcome.answer;
     let next = outcome.next;
     records::put_record(next, held);
@@ -93,8 +94,8 @@ fn kept(outcome: Outcome, held: &mut [u64; 684]) -> u64 {
 }
 
 // Copies so many of the numbers held to a place of the answers.
-pub fn put_held(held: &[u64; 684], from: usize, count: usize, answers: &mut [u64; 160], at: usize)
-    requires { ⌜ (from + count ≤ 684) × (at + count ≤ 160) ⌝ }
+pub fn put_held(held: &[u64; 686], from: usize, count: usize, answers: &mut [u64; 160], at: usize)
+    requires { ⌜ (from + count ≤ 686) × (at + count ≤ 160) ⌝ }
 {
     let mut i: usize = 0;
     while i < count {
@@ -103,22 +104,22 @@ pub fn put_held(held: &[u64; 684], from: usize, count: usize, answers: &mut [u64
     }
 }
 
-// Writes the refusal's number, the flag, the counts, whether the cursor is at the end, and the cursor.
-fn write_answer(refusal: u64, held: &[u64; 684]) {
+// Answers the refusal's number, the flag, the counts, whether the cursor is at the end, and the cursor.
+fn answer(refusal: u64, held: &mut [u64; 686]) {
     let mut answers = vectors::zeros();
     answers[0] = refusal;
     answers[1] = held[JOB];
     put_held(held, COUNTS, 5, &mut answers, 2);
     answers[7] = if held[CURSOR] == 0 { 1 } else { 0 };
     put_held(held, CURSOR, 4, &mut answers, 8);
-    vectors::write_fields(&answers, 12);
+    answers::take(&answers, 12, held);
 }
 
-// Makes the call that a word names, keeps the record that it hands back, and writes it.
+// Makes the call that a word names, keeps the record that it hands back, and answers it.
 pub fn call(
     word: u64,
     budget: u64,
-    held: &mut [u64; 684],
+    held: &mut [u64; 686],
     kinds: &mut [u8],
     numbers: &mut [f64],
     places: &mut [u32],
@@ -127,5 +128,5 @@ pub fn call(
 ) {
     let outcome = called(word, budget, held, kinds, numbers, places, store, corners);
     let refusal = kept(outcome, held);
-    write_answer(refusal, held);
+    answer(refusal, held);
 }

@@ -1,6 +1,7 @@
-// The elements of the five slices: poisoned, one of them set, and all written out.
+// The elements of the five slices: poisoned, one of them set, and all answered.
 ghost use Prim.Native.Nat.{_+_, _<_, _≤_};
 ghost use lib.ListN.{length};
+use crate::answers;
 use crate::numbers;
 
 // The poison of a place: a number that follows from the seed.
@@ -153,45 +154,52 @@ fn put_floats(values: &[f64], at: usize, count: usize, answers: &mut [u64; 160])
     }
 }
 
-// Writes all kinds, 160 to a line.
-fn write_kinds(kinds: &[u8]) {
+// Answers all kinds, 160 to a line.
+fn answer_kinds(kinds: &[u8], held: &mut [u64; 686]) {
     let mut at: usize = 0;
     while at < kinds.len() {
         let mut answers = vectors::zeros();
         let count = row_of(kinds.len() - at);
         put_kinds(kinds, at, count, &mut answers);
-        vectors::write_fields(&answers, count);
+        answers::take(&answers, count, held);
         at += count;
     }
 }
 
-fn write_places(places: &[u32]) {
+fn answer_places(places: &[u32], held: &mut [u64; 686]) {
     let mut at: usize = 0;
     while at < places.len() {
         let mut answers = vectors::zeros();
         let count = row_of(places.len() - at);
         put_places(places, at, count, &mut answers);
-        vectors::write_fields(&answers, count);
+        answers::take(&answers, count, held);
         at += count;
     }
 }
 
-fn write_floats(values: &[f64]) {
+fn answer_floats(values: &[f64], held: &mut [u64; 686]) {
     let mut at: usize = 0;
     while at < values.len() {
         let mut answers = vectors::zeros();
         let count = row_of(values.len() - at);
         put_floats(values, at, count, &mut answers);
-        vectors::write_fields(&answers, count);
+        answers::take(&answers, count, held);
         at += count;
     }
 }
 
 // `dump`: every element of the five slices.
-pub fn dump(kinds: &[u8], numbers: &[f64], places: &[u32], store: &[f64], corners: &[f64]) {
-    write_kinds(kinds);
-    write_floats(numbers);
-    write_places(places);
-    write_floats(store);
-    write_floats(corners);
+pub fn dump(
+    kinds: &[u8],
+    numbers: &[f64],
+    places: &[u32],
+    store: &[f64],
+    corners: &[f64],
+    held: &mut [u64; 686],
+) {
+    answer_kinds(kinds, held);
+    answer_floats(numbers, held);
+    answer_places(places, held);
+    answer_floats(store, held);
+    answer_floats(corners, held);
 }

@@ -1,5 +1,6 @@
-// What a list holds beside the slices, as numbers: the record, the input of the next open, and how much of
-// each slice is lent. An input is GRID MIN MAX COUNT, 12 numbers, and five numbers for each of 64 parts.
+// What a list holds beside the slices, as numbers: the record, the input of the next open, how much of
+// each slice is lent, and the digest of the answers. An input is GRID MIN MAX COUNT, 12 numbers, and five
+// numbers for each of 64 parts.
 ghost use Prim.Native.Nat.{_+_, _≤_};
 
 // Where the record's flag stands, its input, its lengths, its counts and its cursor (a kind and three
@@ -19,14 +20,21 @@ pub const NEXT: usize = 347;
 
 pub const LENT: usize = 679;
 
+// Where the digest of the list's answers so far stands, and whether the answers are written whole.
+pub const DIGEST: usize = 684;
+
+pub const WHOLE: usize = 685;
+
 // What is held before the first list.
-pub fn start() -> [u64; 684] {
-    [0; 684]
+pub fn start() -> [u64; 686] {
+    let mut held = [0; 686];
+    held[DIGEST] = vectors::digest_start();
+    held
 }
 
 // Copies so many numbers of a line to a place.
-fn copy(fields: &[u64; 160], from: usize, count: usize, held: &mut [u64; 684], at: usize)
-    requires { ⌜ (from + count ≤ 160) × (at + count ≤ 684) ⌝ }
+fn copy(fields: &[u64; 160], from: usize, count: usize, held: &mut [u64; 686], at: usize)
+    requires { ⌜ (from + count ≤ 160) × (at + count ≤ 686) ⌝ }
 {
     let mut i: usize = 0;
     while i < count {
@@ -36,8 +44,8 @@ fn copy(fields: &[u64; 160], from: usize, count: usize, held: &mut [u64; 684], a
 }
 
 // Sets every number of the record and of the next input to the same one.
-fn set_all(held: &mut [u64; 684], to: usize, number: u64)
-    requires { ⌜ to ≤ 684 ⌝ }
+fn set_all(held: &mut [u64; 686], to: usize, number: u64)
+    requires { ⌜ to ≤ 686 ⌝ }
 {
     let mut i: usize = 0;
     while i < to {
@@ -48,7 +56,7 @@ fn set_all(held: &mut [u64; 684], to: usize, number: u64)
 
 // `lend KINDS NUMBERS PLACES STORE CORNERS SEED`: a new list, with a record that has no job and the seed in
 // every other field.
-pub fn lend(fields: &[u64; 160], held: &mut [u64; 684]) {
+pub fn lend(fields: &[u64; 160], held: &mut [u64; 686]) {
     set_all(held, LENT, fields[5]);
     held[JOB] = 0;
     copy(fields, 0, 5, held, LENT);
@@ -62,18 +70,18 @@ fn first_part(place: u64) -> usize
 }
 
 // `parts PLACE PART ..`: 31 parts of the next input from a place on. Those not given are constants of 0.
-pub fn set_parts(fields: &[u64; 160], held: &mut [u64; 684]) {
+pub fn set_parts(fields: &[u64; 160], held: &mut [u64; 686]) {
     let place = first_part(fields[0]);
     copy(fields, 1, 155, held, NEXT + 12 + 5 * place);
 }
 
 // `open GRID MIN MAX COUNT`: the other numbers of the next input.
-pub fn set_input(fields: &[u64; 160], held: &mut [u64; 684]) {
+pub fn set_input(fields: &[u64; 160], held: &mut [u64; 686]) {
     copy(fields, 0, 12, held, NEXT);
 }
 
 // `forge FIELD VALUE`: one number of the record.
-pub fn forge(fields: &[u64; 160], held: &mut [u64; 684]) {
+pub fn forge(fields: &[u64; 160], held: &mut [u64; 686]) {
     if fields[0] < 347 {
         let field = fields[0] as usize;
         held[field] = fields[1];

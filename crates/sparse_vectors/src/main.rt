@@ -1,9 +1,11 @@
-// Runs the lists of calls on a sparse field's job that standard input holds, a line each, and writes
-// what each call hands back and what the lent slices then hold.
+// Runs the lists of calls on a sparse field's job that standard input holds, a line each. The answers of a
+// list are what each call hands back and what the lent slices then hold. For each list a line is written:
+// their digest. Where the first line is `full` the answers are written instead.
 ghost use Prim.Native.Nat.{_<_, _≤_};
 
+mod answers; // answers.rt: the answers of a list, as a digest or whole
 mod calls; // calls.rt: open, step and drop
-mod elements; // elements.rt: the five slices, poisoned, set and written out
+mod elements; // elements.rt: the five slices, poisoned, set and answered
 mod held; // held.rt: what a list holds beside the slices, as numbers
 mod numbers; // numbers.rt: numbers of several widths, and parts
 mod records; // records.rt: records and inputs, from and to numbers
@@ -13,7 +15,7 @@ mod words; // words.rt: the words of the lines
 fn act(
     word: u64,
     fields: &[u64; 160],
-    held: &mut [u64; 684],
+    held: &mut [u64; 686],
     kinds: &mut [u8],
     numbers: &mut [f64],
     places: &mut [u32],
@@ -29,8 +31,8 @@ fn act(
         return;
     }
     if word == words::DUMP {
-        write_opened(held);
-        elements::dump(kinds, numbers, places, store, corners);
+        answer_opened(held);
+        elements::dump(kinds, numbers, places, store, corners, held);
         return;
     }
     if words::is_call(word) {
@@ -47,16 +49,16 @@ fn act(
     }
 }
 
-// Writes what the record says that its job was opened with: grid, band, count of parts, lengths.
-fn write_opened(held: &[u64; 684]) {
+// Answers what the record says that its job was opened with: grid, band, count of parts, lengths.
+fn answer_opened(held: &mut [u64; 686]) {
     let mut answers = vectors::zeros();
     calls::put_held(held, held::INPUT, 12, &mut answers, 0);
     calls::put_held(held, held::LENGTHS, 5, &mut answers, 12);
-    vectors::write_fields(&answers, 17);
+    answers::take(&answers, 17, held);
 }
 
 // So many elements as the list says, or all where there are no more.
-fn lent(held: &[u64; 684], slice: usize, most: usize) -> usize
+fn lent(held: &[u64; 686], slice: usize, most: usize) -> usize
     requires { ⌜ slice < 5 ⌝ }
     ensures { λ r. ⌜ r ≤ most ⌝ }
 {
@@ -68,7 +70,7 @@ fn lent(held: &[u64; 684], slice: usize, most: usize) -> usize
 fn lend(
     word: u64,
     fields: &[u64; 160],
-    held: &mut [u64; 684],
+    held: &mut [u64; 686],
     kinds: &mut [u8],
     numbers: &mut [f64],
     places: &mut [u32],
@@ -93,25 +95,25 @@ fn lend(
 }
 
 // Answers a line that is off its form.
-fn write_off() {
+fn answer_off(held: &mut [u64; 686]) {
     let mut answers = vectors::zeros();
     let count = vectors::put_off(&mut answers);
-    vectors::write_fields(&answers, count);
+    answers::take(&answers, count, held);
 }
 
 // The word of a line, its numbers put into the fields; 0 where the line is off its form.
-fn read(line: &[u8], fields: &mut [u64; 160]) -> u64 {
+fn read(line: &[u8], fields: &mut [u64; 160], held: &mut [u64; 686]) -> u64 {
     let word = vectors::word_of(line);
     let count = vectors::read_fields(line, vectors::word_end(line), fields);
     if words::takes(word, count) {
         return word;
     }
-    write_off();
+    answer_off(held);
     0
 }
 
 // What a line does with the numbers that are held, before it has to do with the slices.
-fn prepare(word: u64, fields: &[u64; 160], held: &mut [u64; 684]) {
+fn prepare(word: u64, fields: &[u64; 160], held: &mut [u64; 686]) {
     if word == words::LEND {
         held::lend(fields, held);
         return;
@@ -126,12 +128,16 @@ fn prepare(word: u64, fields: &[u64; 160], held: &mut [u64; 684]) {
     }
     if word == words::FORGE {
         held::forge(fields, held);
+        return;
+    }
+    if word == words::FULL {
+        held[held::WHOLE] = 1;
     }
 }
 
 fn take_line(
     line: &[u8],
-    held: &mut [u64; 684],
+    held: &mut [u64; 686],
     kinds: &mut [u8],
     numbers: &mut [f64],
     places: &mut [u32],
@@ -139,14 +145,14 @@ fn take_line(
     corners: &mut [f64],
 ) {
     let mut fields = vectors::zeros();
-    let word = read(line, &mut fields);
+    let word = read(line, &mut fields, held);
     prepare(word, &fields, held);
     lend(word, &fields, held, kinds, numbers, places, store, corners)
 }
 
 fn take_lines(
     text: &[u8],
-    held: &mut [u64; 684],
+    held: &mut [u64; 686],
     kinds: &mut [u8],
     numbers: &mut [f64],
     places: &mut [u32],
@@ -157,6 +163,7 @@ fn take_lines(
     while at < text.len() {
         let end = vectors::line_end(text, at);
         take_line(&text[at..end], held, kinds, numbers, places, store, corners);
+        answers::close(text, end, held);
         at = end;
     }
 }

@@ -21,20 +21,20 @@ fn wide_short(n: u32) -> u64 {
 }
 
 // The float with these bits.
-pub fn number(held: &[u64; 684], at: usize) -> f64
-    requires { ⌜ at < 684 ⌝ }
+pub fn number(held: &[u64; 686], at: usize) -> f64
+    requires { ⌜ at < 686 ⌝ }
 {
     float::from_bits(held[at])
 }
 
-pub fn vector(held: &[u64; 684], at: usize) -> Vec3
-    requires { ⌜ at + 3 ≤ 684 ⌝ }
+pub fn vector(held: &[u64; 686], at: usize) -> Vec3
+    requires { ⌜ at + 3 ≤ 686 ⌝ }
 {
     Vec3::new(number(held, at), number(held, at + 1), number(held, at + 2))
 }
 
-pub fn put_vector(p: Vec3, held: &mut [u64; 684], at: usize)
-    requires { ⌜ at + 3 ≤ 684 ⌝ }
+pub fn put_vector(p: Vec3, held: &mut [u64; 686], at: usize)
+    requires { ⌜ at + 3 ≤ 686 ⌝ }
 {
     held[at] = float::to_bits(p.x);
     held[at + 1] = float::to_bits(p.y);
@@ -59,8 +59,8 @@ fn operation(kind: u64, a: u32, b: u32) -> Part {
 }
 
 // A part: its kind, and four numbers.
-pub fn part_at(held: &[u64; 684], at: usize) -> Part
-    requires { ⌜ at + 5 ≤ 684 ⌝ }
+pub fn part_at(held: &[u64; 686], at: usize) -> Part
+    requires { ⌜ at + 5 ≤ 686 ⌝ }
 {
     let kind = held[at];
     if kind == 0 {
@@ -77,16 +77,16 @@ pub fn part_at(held: &[u64; 684], at: usize) -> Part
     operation(kind, short(held[at + 1]), short(held[at + 2]))
 }
 
-fn put_shape(kind: u64, v: Vec3, last: f64, held: &mut [u64; 684], at: usize)
-    requires { ⌜ at + 5 ≤ 684 ⌝ }
+fn put_shape(kind: u64, v: Vec3, last: f64, held: &mut [u64; 686], at: usize)
+    requires { ⌜ at + 5 ≤ 686 ⌝ }
 {
     held[at] = kind;
     put_vector(v, held, at + 1);
     held[at + 4] = float::to_bits(last);
 }
 
-fn put_operation(kind: u64, a: u64, b: u64, held: &mut [u64; 684], at: usize)
-    requires { ⌜ at + 5 ≤ 684 ⌝ }
+fn put_operation(kind: u64, a: u64, b: u64, held: &mut [u64; 686], at: usize)
+    requires { ⌜ at + 5 ≤ 686 ⌝ }
 {
     held[at] = kind;
     held[at + 1] = a;
@@ -96,8 +96,8 @@ fn put_operation(kind: u64, a: u64, b: u64, held: &mut [u64; 684], at: usize)
 }
 
 // Puts a part's five numbers.
-pub fn put_part(part: Part, held: &mut [u64; 684], at: usize)
-    requires { ⌜ at + 5 ≤ 684 ⌝ }
+pub fn put_part(part: Part, held: &mut [u64; 686], at: usize)
+    requires { ⌜ at + 5 ≤ 686 ⌝ }
 {
     match part {
         Part::Constant(x) => put_operation(0, float::to_bits(x), 0, held, at),

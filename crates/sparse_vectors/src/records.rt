@@ -7,19 +7,20 @@ use crate::held::JOB;
 use crate::held::LENGTHS;
 use crate::numbers;
 use geometry::BoundingBox;
-use grid::Band;
 use grid::Grid;
-use grid::Lengths;
+use grid::GridCounts;
+use input::Band;
+use input::Input;
+use input::Lengths;
 use model::ImplicitModel;
 use model::ModelComponent;
 use model::Part;
-use sparse_field::Counts;
-use sparse_field::Cursor;
-use sparse_field::Input;
+use schedule::Counts;
+use schedule::Cursor;
 use sparse_field::Record;
 
-fn grid_at(held: &[u64; 684], at: usize) -> Grid
-    requires { ⌜ at + 9 ≤ 684 ⌝ }
+fn grid_at(held: &[u64; 686], at: usize) -> Grid
+    requires { ⌜ at + 9 ≤ 686 ⌝ }
 {
     Grid {
         bounds: BoundingBox::new(numbers::vector(held, at), numbers::vector(held, at + 3)),
@@ -30,8 +31,8 @@ fn grid_at(held: &[u64; 684], at: usize) -> Grid
 }
 
 // So many of 64 parts, five numbers each.
-fn model_at(held: &[u64; 684], at: usize, count: u32) -> ImplicitModel
-    requires { ⌜ at + 320 ≤ 684 ⌝ }
+fn model_at(held: &[u64; 686], at: usize, count: u32) -> ImplicitModel
+    requires { ⌜ at + 320 ≤ 686 ⌝ }
 {
     let none = ModelComponent {
         part: Part::Constant(0.0),
@@ -47,8 +48,8 @@ fn model_at(held: &[u64; 684], at: usize, count: u32) -> ImplicitModel
 }
 
 // The input whose numbers begin at a place.
-pub fn input_at(held: &[u64; 684], at: usize) -> Input
-    requires { ⌜ at + 332 ≤ 684 ⌝ }
+pub fn input_at(held: &[u64; 686], at: usize) -> Input
+    requires { ⌜ at + 332 ≤ 686 ⌝ }
 {
     Input {
         grid: grid_at(held, at),
@@ -60,7 +61,7 @@ pub fn input_at(held: &[u64; 684], at: usize) -> Input
     }
 }
 
-fn lengths_in(held: &[u64; 684]) -> Lengths {
+fn lengths_in(held: &[u64; 686]) -> Lengths {
     Lengths {
         kinds: numbers::place(held[LENGTHS]),
         numbers: numbers::place(held[LENGTHS + 1]),
@@ -70,10 +71,12 @@ fn lengths_in(held: &[u64; 684]) -> Lengths {
     }
 }
 
-fn counts_in(held: &[u64; 684]) -> Counts {
+fn counts_in(held: &[u64; 686]) -> Counts {
     Counts {
-        nodes: held[COUNTS],
-        active: held[COUNTS + 1],
+        grid: GridCounts {
+            nodes: held[COUNTS],
+            active: held[COUNTS + 1],
+        },
         leaves: held[COUNTS + 2],
         sampled: held[COUNTS + 3],
         evaluations: held[COUNTS + 4],
@@ -81,7 +84,7 @@ fn counts_in(held: &[u64; 684]) -> Counts {
 }
 
 // The cursor: 0 is the end, 1 a corner, any other kind a point.
-fn cursor_in(held: &[u64; 684]) -> Cursor {
+fn cursor_in(held: &[u64; 686]) -> Cursor {
     let a = numbers::place(held[CURSOR + 1]);
     let b = numbers::place(held[CURSOR + 2]);
     if held[CURSOR] == 0 {
@@ -93,7 +96,7 @@ fn cursor_in(held: &[u64; 684]) -> Cursor {
     Cursor::Point(a, b, numbers::place(held[CURSOR + 3]))
 }
 
-pub fn record_in(held: &[u64; 684]) -> Record {
+pub fn record_in(held: &[u64; 686]) -> Record {
     Record {
         job: held[JOB] != 0,
         input: input_at(held, INPUT),
@@ -103,7 +106,7 @@ pub fn record_in(held: &[u64; 684]) -> Record {
     }
 }
 
-fn put_grid(g: Grid, held: &mut [u64; 684]) {
+fn put_grid(g: Grid, held: &mut [u64; 686]) {
     let bounds = g.bounds;
     numbers::put_vector(bounds.min, held, INPUT);
     numbers::put_vector(bounds.max, held, INPUT + 3);
@@ -112,7 +115,7 @@ fn put_grid(g: Grid, held: &mut [u64; 684]) {
     held[INPUT + 8] = g.leaf as u64;
 }
 
-fn put_parts(parts: [ModelComponent; 64], held: &mut [u64; 684]) {
+fn put_parts(parts: [ModelComponent; 64], held: &mut [u64; 686]) {
     let mut p: usize = 0;
     while p < 64 {
         let component = parts[p];
@@ -122,7 +125,7 @@ fn put_parts(parts: [ModelComponent; 64], held: &mut [u64; 684]) {
     }
 }
 
-fn put_input(input: Input, held: &mut [u64; 684]) {
+fn put_input(input: Input, held: &mut [u64; 686]) {
     let band = input.band;
     let model = input.model;
     let parts = model.parts;
@@ -133,7 +136,7 @@ fn put_input(input: Input, held: &mut [u64; 684]) {
     put_parts(parts, held);
 }
 
-fn put_lengths(lengths: Lengths, held: &mut [u64; 684]) {
+fn put_lengths(lengths: Lengths, held: &mut [u64; 686]) {
     held[LENGTHS] = numbers::wide(lengths.kinds);
     held[LENGTHS + 1] = numbers::wide(lengths.numbers);
     held[LENGTHS + 2] = numbers::wide(lengths.places);
@@ -141,22 +144,23 @@ fn put_lengths(lengths: Lengths, held: &mut [u64; 684]) {
     held[LENGTHS + 4] = numbers::wide(lengths.corners);
 }
 
-fn put_counts(counts: Counts, held: &mut [u64; 684]) {
-    held[COUNTS] = counts.nodes;
-    held[COUNTS + 1] = counts.active;
+fn put_counts(counts: Counts, held: &mut [u64; 686]) {
+    let counted = counts.grid;
+    held[COUNTS] = counted.nodes;
+    held[COUNTS + 1] = counted.active;
     held[COUNTS + 2] = counts.leaves;
     held[COUNTS + 3] = counts.sampled;
     held[COUNTS + 4] = counts.evaluations;
 }
 
-fn put_site(kind: u64, a: usize, b: usize, c: usize, held: &mut [u64; 684]) {
+fn put_site(kind: u64, a: usize, b: usize, c: usize, held: &mut [u64; 686]) {
     held[CURSOR] = kind;
     held[CURSOR + 1] = numbers::wide(a);
     held[CURSOR + 2] = numbers::wide(b);
     held[CURSOR + 3] = numbers::wide(c);
 }
 
-fn put_cursor(cursor: Cursor, held: &mut [u64; 684]) {
+fn put_cursor(cursor: Cursor, held: &mut [u64; 686]) {
     match cursor {
         Cursor::End => put_site(0, 0, 0, 0, held),
         Cursor::Corner(a, b) => put_site(1, a, b, 0, held),
@@ -164,7 +168,7 @@ fn put_cursor(cursor: Cursor, held: &mut [u64; 684]) {
     }
 }
 
-pub fn put_record(record: Record, held: &mut [u64; 684]) {
+pub fn put_record(record: Record, held: &mut [u64; 686]) {
     let cursor = record.cursor;
     held[JOB] = if record.job { 1 } else { 0 };
     put_input(record.input, held);

@@ -16,6 +16,8 @@ pub const POKE: u64 = 0x706f_6b65;
 
 pub const DUMP: u64 = 0x6475_6d70;
 
+pub const FULL: u64 = 0x6675_6c6c;
+
 // Whether a word is a call on the job.
 pub fn is_call(word: u64) -> bool {
     if word == OPEN {
@@ -56,6 +58,9 @@ fn numbers_of(word: u64) -> usize {
         return 0;
     }
     if word == DUMP {
+        return 0;
+    }
+    if word == FULL {
         return 0;
     }
     162

@@ -5,7 +5,7 @@ use native.Mathlib.Nat.{one-le-pow, pow-succ', mul-le-mul-right, mul-le-mul-left
 use native.Mathlib.Numerals.{add-one}
 use native.Mathlib.Omega.{arith}
 use mathlib.Core.List.{List, [], _∷_}
-use mathlib.Core.Bool.{Bool, true, false, _&&_}
+use mathlib.Core.Bool.{Bool, true, false, _&&_, and-false}
 use borrow.Author.Tests.{ltb-true, ltb-false, lt-ltb, le-ltb, le-leb, lt-leb, eq-eqb, ne-eqb}
 use lib.Dec.{ltb}
 use lib.ListN.{length, getD, drop, List·getD-eq-default}
@@ -121,10 +121,6 @@ unfolding hasWord
 word-done s at word i most least = let all : i ≡ length word = omega arith in rw (all, drop-length word)
 
 -- ---- a row
-
-and-false : (a : Bool) → (a && false) ≡ false
-and-false true = refl
-and-false false = refl
 
 module _ (s : List ℕ) (at : ℕ) where
   pub row-first : (byteAt s (at + 16) ≡ 32 → ⊥) → rowAt s at ≡ NoRow

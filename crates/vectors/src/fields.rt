@@ -3,6 +3,7 @@ ghost use mathlib.Core.Path.{_≡_};
 ghost use Prim.Native.Nat.{_+_, _<_, _≤_};
 ghost use lib.ListN.{length};
 use crate::Hex;
+use crate::digest::digest_with;
 use crate::digits::byte_at;
 use crate::numbers::hex16;
 
@@ -92,4 +93,20 @@ pub fn write_fields(answers: &[u64; 160], count: usize)
     let mut line = [32u8; 2720];
     let end = put_line(answers, count, &mut line);
     io::write_all(1, &line[..end]);
+}
+
+// The digest of a text whose digest so far is known, and of the line that `write_fields` would write.
+pub fn digest_fields(answers: &[u64; 160], count: usize, digest: u64) -> u64
+    requires { ⌜ (0 < count) × (count ≤ 160) ⌝ }
+{
+    let mut line = [32u8; 2720];
+    let end = put_line(answers, count, &mut line);
+    digest_with(digest, &line[..end])
+}
+
+// Writes a line of one number to standard output.
+pub fn write_number(n: u64) {
+    let mut answers = zeros();
+    answers[0] = n;
+    write_fields(&answers, 1);
 }

@@ -10,7 +10,7 @@ pub const SAMPLE: u64 = 2_000;
 /// A line for each, `NAME DIGEST`.
 const STORED: &str = include_str!("../../differential/digest");
 
-/// FNV-1a of 64 bits over the numbers' bytes, lowest first.
+/// FNV-1a of 64 bits.
 pub struct Digest(u64);
 
 impl Default for Digest {
@@ -20,10 +20,22 @@ impl Default for Digest {
 }
 
 impl Digest {
+    /// The numbers' bytes, of each the lowest first.
     pub fn add(&mut self, numbers: &[u64]) {
-        for byte in numbers.iter().flat_map(|number| number.to_le_bytes()) {
+        self.bytes(numbers.iter().flat_map(|number| number.to_le_bytes()));
+    }
+
+    fn bytes(&mut self, bytes: impl IntoIterator<Item = u8>) {
+        for byte in bytes {
             self.0 = (self.0 ^ u64::from(byte)).wrapping_mul(0x0100_0000_01b3);
         }
+    }
+
+    /// The digest of a text.
+    pub fn of(text: &str) -> u64 {
+        let mut digest = Digest::default();
+        digest.bytes(text.bytes());
+        digest.0
     }
 
     /// Holds it to the stored one of that name.

@@ -19,7 +19,7 @@ pub use listing::listing;
 #[derive(Default)]
 pub struct List {
     pub cases: Vec<u8>,
-    pub answers: Vec<u8>,
+    pub answers: Vec<String>,
 }
 
 impl List {
@@ -28,8 +28,7 @@ impl List {
     fn push(&mut self, text: &[u8], answer: &str) {
         self.cases.extend(format!("{:016x}\n", text.len()).bytes());
         self.cases.extend(text);
-        self.answers.extend(answer.bytes());
-        self.answers.push(b'\n');
+        self.answers.push(format!("{answer}\n"));
     }
 
     fn add(&mut self, text: impl AsRef<[u8]>) {

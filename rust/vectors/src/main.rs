@@ -1,6 +1,7 @@
 //! Writes the lists of stored cases. The same list comes out each time.
 //!
 //! usage: vectors float|model|dense|grid|sparse|jobs [answers]
+//!        vectors sparse|jobs whole [NUMBER]
 //!        vectors listing < JOB
 
 mod dense;
@@ -11,6 +12,7 @@ mod grids;
 mod jobs;
 mod models;
 mod sparse;
+mod whole;
 
 use cases::{bits, random};
 use std::io::{self, Read, Write};
@@ -26,19 +28,25 @@ fn main() -> ExitCode {
         ["dense", "answers"] => dense::list().answers.into_bytes(),
         ["grid"] => grids::list().cases.into_bytes(),
         ["grid", "answers"] => grids::list().answers.into_bytes(),
-        ["sparse"] => sparse::list().cases.into_bytes(),
-        ["sparse", "answers"] => sparse::list().answers.into_bytes(),
+        ["sparse"] => sparse::lists().list.cases.into_bytes(),
+        ["sparse", "answers"] => whole::digests(&sparse::lists().answers()).into_bytes(),
         ["jobs"] => jobs::list().cases,
-        ["jobs", "answers"] => jobs::list().answers,
+        ["jobs", "answers"] => whole::digests(&jobs::list().answers).into_bytes(),
+        [list @ ("sparse" | "jobs"), "whole", ref number @ ..] if number.len() < 2 => {
+            let answers = match list {
+                "sparse" => sparse::lists().answers(),
+                _ => jobs::list().answers,
+            };
+            match whole::whole(&answers, number.first().copied()) {
+                Some(whole) => whole.into_bytes(),
+                None => return usage(),
+            }
+        }
         ["listing"] => match listing() {
             Ok(lines) => lines,
             Err(error) => return failed(&error),
         },
-        _ => {
-            eprintln!("usage: vectors float|model|dense|grid|sparse|jobs [answers]");
-            eprintln!("       vectors listing < JOB");
-            return ExitCode::from(2);
-        }
+        _ => return usage(),
     };
     match io::stdout().write_all(&written) {
         Ok(()) => ExitCode::SUCCESS,
@@ -51,6 +59,13 @@ fn listing() -> io::Result<Vec<u8>> {
     let mut text = Vec::new();
     io::stdin().read_to_end(&mut text)?;
     Ok(jobs::listing(&text).into_bytes())
+}
+
+fn usage() -> ExitCode {
+    eprintln!("usage: vectors float|model|dense|grid|sparse|jobs [answers]");
+    eprintln!("       vectors sparse|jobs whole [NUMBER]");
+    eprintln!("       vectors listing < JOB");
+    ExitCode::from(2)
 }
 
 fn failed(error: &io::Error) -> ExitCode {

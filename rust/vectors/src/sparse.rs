@@ -10,14 +10,13 @@ pub mod original;
 mod random_lists;
 mod script;
 
-use crate::fields::List;
 pub use cases::inputs;
 use script::Script;
 
-pub fn list() -> List {
+pub fn lists() -> Script {
     let mut script = Script::default();
     jobs::lists(&mut script);
     forged::lists(&mut script);
     random_lists::lists(&mut script);
-    script.list
+    script
 }

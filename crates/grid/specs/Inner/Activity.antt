@@ -5,8 +5,8 @@ use mathlib.Core.Bool.{Bool, _&&_}
 use lib.Ieee.{Float, le}
 use Rattle.geometry.specs.Axis.{along, alongEnd}
 use Rattle.grid.specs.Boxes.{nodeLeast, nodeMost}
-use Rattle.grid.specs.Ranges.{countBelow}
-use Rattle.grid.specs.Counting.{sumBelow}
+use Rattle.lists.specs.Ranges.{countBelow}
+use Rattle.lists.specs.Sums.{sumBelow}
 
 -- whether bounds from `least` to `most` meet child ci of node i, where a node is s long and has n children
 unfoldable pub axisActive : (least most s : Float) → (n i ci : ℕ) → Bool
@@ -20,4 +20,4 @@ unfoldable pub axisCount : (least most s : Float) → (n i : ℕ) → ℕ
 axisCount least most s n i = countBelow n (axisActive least most s n i)
 
 unfoldable pub axisTotal : (least most s : Float) → (n nodes : ℕ) → ℕ
-axisTotal least most s n nodes = sumBelow nodes (axisCount least most s n)
+axisTotal least most s n nodes = sumBelow (axisCount least most s n) nodes

@@ -4,9 +4,9 @@ use mathlib.Core.Bool.{Bool, cond, _&&_}
 use mathlib.Core.List.{List, [], _∷_}
 use Prim.Native.Nat.{ℕ, _+_, _*_, _≤_, _<_}
 use lib.ListN.{length, getD, take, set}
-use Rattle.grid.specs.Ranges.{anyBelow, countBelow, listBelow}
+use Rattle.lists.specs.Ranges.{anyBelow, countBelow, listBelow, among}
 use Rattle.grid.specs.Blocks.{cube}
-use Rattle.grid.specs.Corners.{octet, among}
+use Rattle.grid.specs.Corners.{octet}
 use Rattle.grid.specs.CornerList.{nonzero}
 
 -- a 1 at each of some places
@@ -27,12 +27,6 @@ neededTo n act c corner = anyBelow c (λ c. act c && among corner (octet n c))
 pub record Marks (n : ℕ) (kinds : List ℕ) (c : ℕ) (list : List ℕ) : Type 0 where
   pub long : cube (n + 1) ≤ length list
   pub marks : (p : ℕ) → p < cube (n + 1) → getD list p 0 ≡ cond (neededTo n (nonzero kinds) c p) 1 0
-
--- a list that is as it was up to a place, and zero from there on
-pub record ZeroFrom (at : ℕ) (before after : List ℕ) : Type 0 where
-  pub kept : length after ≡ length before
-  pub front : take at after ≡ take at before
-  pub rest : (p : ℕ) → at ≤ p → getD after p 0 ≡ 0
 
 -- a list that begins with the places below n that were nonzero, in a row
 pub record Gathered (n : ℕ) (before after : List ℕ) (count : ℕ) : Type 0 where

@@ -1,5 +1,5 @@
 -- The input that read lines give, as the reader's functions state it.
-use Rattle.sparse_field.specs.declared.Input.{Input}
+use Rattle.input.specs.declared.Input.{Input}
 use Rattle.job_text.specs.Reading.{Written, bandOf, gridOf, inputWith, parts}
 
 abbrev pub inputOf : Written → Input

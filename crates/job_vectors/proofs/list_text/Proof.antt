@@ -15,20 +15,26 @@ list-whole-requires c κs = search needs
 array-share-prefix-out : tie.Need-array-share-prefix-out
 array-share-prefix-out c = search needs
 
-slice-aggregate-write-all : tie.Need-slice-aggregate-write-all
-slice-aggregate-write-all c = sym (length-take-le _ _ (omega arith))
+slice-aggregate-write-whole : tie.Need-slice-aggregate-write-whole
+slice-aggregate-write-whole c = sym (length-take-le _ _ (omega arith))
 
-write-all-requires : tie.Need-write-all-requires
-write-all-requires c κs = search needs
+write-whole-requires : tie.Need-write-whole-requires
+write-whole-requires c κs = search needs
 
-slice-aggregate-write-all-2 : tie.Need-slice-aggregate-write-all-2
-slice-aggregate-write-all-2 c = search needs
+array-share-prefix-out-2 : tie.Need-array-share-prefix-out-2
+array-share-prefix-out-2 c = search needs
 
-write-all-requires-2 : tie.Need-write-all-requires-2
-write-all-requires-2 c κs = search needs
+slice-aggregate-write-digest : tie.Need-slice-aggregate-write-digest
+slice-aggregate-write-digest c = sym (length-take-le _ _ (omega arith))
+
+write-digest-requires : tie.Need-write-digest-requires
+write-digest-requires c κs = search needs
 
 returns : tie.Need-returns
 returns c = search needs
+
+returns-2 : tie.Need-returns-2
+returns-2 c = search needs
 
 pub list-text-spec : {M : Type 1} → statement M
 list-text-spec =
@@ -37,8 +43,10 @@ list-text-spec =
     slice-aggregate-list-whole
     list-whole-requires
     array-share-prefix-out
-    slice-aggregate-write-all
-    write-all-requires
-    slice-aggregate-write-all-2
-    write-all-requires-2
-    returns)
+    slice-aggregate-write-whole
+    write-whole-requires
+    array-share-prefix-out-2
+    slice-aggregate-write-digest
+    write-digest-requires
+    returns
+    returns-2)

@@ -1,22 +1,27 @@
 -- `list_texts` is safe and ends: each turn goes past a length, at least.
 use Prim.Native.Nat.{_-_, _≤_}
-use native.Mathlib.Omega.{arith}
-use borrow.Author.Needs.{needs}
 use lib.ListN.{length}
+use borrow.Author.Needs.{needs}
 use Rattle.job_vectors.proofs.list_texts.Statement.{statement}
 use Rattle.job_vectors.proofs.list_texts.Tie as tie
 
 abbrev Inv-loop : tie.InvT-loop
-Inv-loop bytes at₀ at = at ≤ length bytes
+Inv-loop bytes whole at₀ at = 0 ≤ at
 
 abbrev μ-loop : tie.MeasureT-loop
-μ-loop bytes at₀ at = length bytes - at
+μ-loop bytes whole at₀ at = length bytes - at
+
+slice-aggregate-has-word : tie.Need-slice-aggregate-has-word Inv-loop μ-loop
+slice-aggregate-has-word c = search needs
+
+has-word-requires : tie.Need-has-word-requires Inv-loop μ-loop
+has-word-requires c κs = search needs
 
 loop-holds : tie.Need-loop-holds Inv-loop μ-loop
 loop-holds c = search needs
 
-sub-if1 : tie.Need-sub-if1 Inv-loop μ-loop
-sub-if1 c = search needs
+sub-if2 : tie.Need-sub-if2 Inv-loop μ-loop
+sub-if2 c = search needs
 
 returns : tie.Need-returns Inv-loop μ-loop
 returns c = search needs
@@ -66,8 +71,10 @@ list-texts-spec =
     (tie.spec
     Inv-loop
     μ-loop
+    slice-aggregate-has-word
+    has-word-requires
     loop-holds
-    sub-if1
+    sub-if2
     returns
     hex16-requires
     enum-known-count

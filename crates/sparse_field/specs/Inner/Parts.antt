@@ -2,18 +2,20 @@
 use Prim.Native.Nat.{ℕ, _*_}
 use mathlib.Core.Bool.{false, true}
 use Rattle.schedule.specs.Memory.{Memory}
-use Rattle.schedule.specs.Opened.{Lengths, opened}
+use Rattle.input.specs.declared.Lengths.{Lengths}
+use Rattle.schedule.specs.Opened.{opened}
 use Rattle.schedule.specs.Engine.{Engine, openedEngine, engineStepJob}
-use Rattle.sparse_field.specs.declared.Input.{Input}
+use Rattle.input.specs.declared.Input.{Input}
 use Rattle.sparse_field.specs.declared.Record.{Record}
-use Rattle.sparse_field.specs.Plan.{planOf}
-use Rattle.sparse_field.specs.Records.{sparse, jobIn, recordOut}
-use Rattle.grid.specs.declared.Lengths as grids
+use Rattle.plans.specs.Plan.{planOf}
+use Rattle.plans.specs.Sparse.{sparse}
+use Rattle.sparse_field.specs.Records.{jobIn, recordOut}
+use Rattle.grid.specs.declared.GridCounts.{GridCounts}
 use Rattle.schedule.specs.JobRecord.{job}
-use Rattle.sparse_field.specs.declared.Cursor.{Cursor}
-use Rattle.sparse_field.specs.declared.Cursor.the-variants.{End}
-use Rattle.sparse_field.specs.declared.Stop.{Stop}
-use Rattle.sparse_field.specs.declared.Stop.the-variants.{Through, At}
+use Rattle.schedule.specs.declared.Cursor.{Cursor}
+use Rattle.schedule.specs.declared.Cursor.the-variants.{End}
+use Rattle.engine.specs.declared.Stop.{Stop}
+use Rattle.engine.specs.declared.Stop.the-variants.{Through, At}
 
 -- what an accepted open writes before the first event
 abbrev pub startMemory : Input → Lengths → Memory
@@ -36,11 +38,11 @@ cursorAt Through = End
 cursorAt (At a) = a
 
 -- the record of an input's job: its lengths, its counts, and where it has come to (rules R1 to R3)
-abbrev pub recordAt : Input → grids.Lengths → (nodes active leaves points evaluations : ℕ) → Stop → Record
-recordAt i l nodes active leaves points evaluations stop = record {
+abbrev pub recordAt : Input → Lengths → GridCounts → (leaves points evaluations : ℕ) → Stop → Record
+recordAt i l counted leaves points evaluations stop = record {
   job = true;
   input = i;
   lengths = l;
-  counts = record { nodes = nodes; active = active; leaves = leaves; sampled = leaves * points; evaluations = evaluations };
+  counts = record { grid = counted; leaves = leaves; sampled = leaves * points; evaluations = evaluations };
   cursor = cursorAt stop;
 }

@@ -8,7 +8,8 @@ use Rattle.sparse_vectors.proofs.take_lines.Tie as tie
 
 abbrev Inv-loop : tie.InvT-loop
 Inv-loop text held₀ kinds₀ numbers₀ places₀ store₀ corners₀ at₀ held kinds numbers places store corners at =
-    (at ≤ length text) × (length kinds ≡ length kinds₀) × (length numbers ≡ length numbers₀) × (length places ≡ length places₀) × (length store ≡ length store₀) × (length corners ≡ length corners₀)
+    (at ≤ length text) × (length kinds ≡ length kinds₀) × (length numbers ≡ length numbers₀)
+    × (length places ≡ length places₀) × (length store ≡ length store₀) × (length corners ≡ length corners₀)
 
 abbrev μ-loop : tie.MeasureT-loop
 μ-loop text held₀ kinds₀ numbers₀ places₀ store₀ corners₀ at₀ held kinds numbers places store corners at =
@@ -31,6 +32,9 @@ part-take-line-end c = search needs
 
 take-line-requires : tie.Need-take-line-requires Inv-loop μ-loop
 take-line-requires c κs = search needs
+
+close-requires : tie.Need-close-requires Inv-loop μ-loop
+close-requires c κs = search needs
 
 loop-less : tie.Need-loop-less Inv-loop μ-loop
 loop-less c = search needs
@@ -68,6 +72,7 @@ take-lines-spec =
     part-take-line-start
     part-take-line-end
     take-line-requires
+    close-requires
     loop-less
     loop-again
     same-length

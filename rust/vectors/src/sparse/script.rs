@@ -46,6 +46,8 @@ const ROW: usize = 160;
 
 pub struct Script {
     pub list: List,
+    /// Where the answers to each list begin.
+    starts: Vec<usize>,
     memory: Memory,
     record: Record,
     /// None once a record or an element was set from outside.
@@ -59,6 +61,7 @@ impl Default for Script {
         let memory = Memory::zero(Record::none().lengths);
         Script {
             list: List::default(),
+            starts: Vec::new(),
             ledger: Some(Ledger::new(memory.clone())),
             memory,
             record: Record::none(),
@@ -214,11 +217,20 @@ impl Script {
     pub fn lend(&mut self, lengths: Lengths, seed: u64) {
         let mut numbers = length_numbers(lengths).to_vec();
         numbers.push(seed);
+        self.starts.push(self.list.answers.len());
         self.list.case("lend", &numbers);
         self.memory = poisoned(lengths, seed);
         self.record = poisoned_record(seed);
         self.ledger = Some(Ledger::new(self.memory.clone()));
         self.parts = vec![part_of([seed; 5]); 64];
+    }
+
+    /// The answers to each list.
+    pub fn answers(&self) -> Vec<String> {
+        let answers = &self.list.answers;
+        let ends = self.starts.iter().skip(1).copied().chain([answers.len()]);
+        let one = |(start, end): (&usize, usize)| answers[*start..end].to_string();
+        self.starts.iter().zip(ends).map(one).collect()
     }
 
     pub fn lengths(&self) -> Lengths {

@@ -18,7 +18,8 @@ put-point-requires c κs = search needs
 returns : tie.Need-returns
 returns c =
     let a = c .before .before .before .before .args in
-    c .put-point .ensures ∙ ap coordinates (c .before .before .corner-point .ensures ∙ ap (λ b. cornerPoint b (a .n) (a .corner)) (c .before .before .before .box-of .ensures))
+    c .put-point .ensures
+    ∙ ap coordinates (c .before .before .corner-point .ensures ∙ ap (λ b. cornerPoint b (a .n) (a .corner)) (c .before .before .before .box-of .ensures))
 
 pub bench-corner-point-spec : {M : Type 1} → statement M
 bench-corner-point-spec =

@@ -23,7 +23,8 @@ returns-2 : tie.Need-returns-2
 returns-2 c =
     let a = c .before .before .before .before .before .args in
     rw (ne-eqb (a .l) 0 (c .before .before .before .before .if1 .left))
-    (c .put-point .ensures ∙ ap coordinates (c .before .before .leaf-point .ensures ∙ ap (λ b. leafPoint b (a .l) (a .p)) (c .before .before .before .box-of .ensures)))
+    (c .put-point .ensures
+    ∙ ap coordinates (c .before .before .leaf-point .ensures ∙ ap (λ b. leafPoint b (a .l) (a .p)) (c .before .before .before .box-of .ensures)))
 
 pub bench-leaf-point-spec : {M : Type 1} → statement M
 bench-leaf-point-spec =

@@ -19,7 +19,9 @@ put-box-requires c κs = search needs
 returns : tie.Need-returns
 returns c =
     let a = c .before .before .before .before .args in
-    c .put-box .ensures ∙ ap ends (c .before .before .node-box .ensures ∙ ap (λ b. nodeBox (gridGiven b (a .cell) (a .inner) (a .leaf)) (a .v)) (c .before .before .before .box-of .ensures))
+    c .put-box .ensures
+    ∙ ap ends (c .before .before .node-box .ensures
+    ∙ ap (λ b. nodeBox (gridGiven b (a .cell) (a .inner) (a .leaf)) (a .v)) (c .before .before .before .box-of .ensures))
 
 pub bench-node-box-spec : {M : Type 1} → statement M
 bench-node-box-spec =

@@ -1,4 +1,5 @@
--- `counts::point_count` meets its contract: dimensions that are cut off right above the largest product are refused where the whole ones are, and are those where they pass.
+-- `counts::point_count` meets its contract: dimensions that are cut off right above the largest product are refused
+-- where the whole ones are, and are those where they pass.
 use mathlib.Core.Path.{sym, ap, _∙_}
 use borrow.Author.Needs.{needs}
 use Rattle.geometry.specs.Causes.{firstOf}
@@ -22,7 +23,11 @@ cell-refused-requires c κs = search needs
 
 returns-2 : tie.Need-returns-2
 unfolding firstOf pointCountOf
-returns-2 c = simp (sym (c .before .before .before .box-refused .ensures) ∙ c .before .before .if1 .left, sym (c .before .cell-refused .ensures) ∙ c .if2 .taken)
+returns-2 c =
+    simp (
+      sym (c .before .before .before .box-refused .ensures) ∙ c .before .before .if1 .left,
+      sym (c .before .cell-refused .ensures) ∙ c .if2 .taken,
+    )
 
 points-along-requires : tie.Need-points-along-requires
 points-along-requires c κs = search needs
@@ -46,8 +51,10 @@ returns-3 c =
     let nz = c .before .before .points-along3 .ensures in
     let cut = sym (λ i. dimensionsRefused (nx i) (ny i) (nz i)) ∙ sym (c .before .dimensions-refused .ensures) ∙ c .if3 .taken in
     simp (
-      sym (c .before .before .before .before .before .before .before .before .before .before .box-refused .ensures) ∙ c .before .before .before .before .before .before .before .before .before .if1 .left,
-      sym (c .before .before .before .before .before .before .before .before .cell-refused .ensures) ∙ c .before .before .before .before .before .before .before .if2 .left,
+      sym (c .before .before .before .before .before .before .before .before .before .before .box-refused .ensures)
+          ∙ c .before .before .before .before .before .before .before .before .before .if1 .left,
+      sym (c .before .before .before .before .before .before .before .before .cell-refused .ensures)
+          ∙ c .before .before .before .before .before .before .before .if2 .left,
       capped-refused _ _ _ cut,
     )
 
@@ -64,8 +71,11 @@ returns-4 c =
     let u = capped-passes _ _ _ passed in
     let whole = sym (λ i. dimensionsRefused (u .first i) (u .second i) (u .third i)) ∙ passed in
     simp (
-      sym (c .before .before .before .before .before .before .before .before .before .before .before .box-refused .ensures) ∙ c .before .before .before .before .before .before .before .before .before .before .if1 .left,
-      sym (c .before .before .before .before .before .before .before .before .before .cell-refused .ensures) ∙ c .before .before .before .before .before .before .before .before .if2 .left,
+      sym
+          (c .before .before .before .before .before .before .before .before .before .before .before .box-refused .ensures)
+          ∙ c .before .before .before .before .before .before .before .before .before .before .if1 .left,
+      sym (c .before .before .before .before .before .before .before .before .before .cell-refused .ensures)
+          ∙ c .before .before .before .before .before .before .before .before .if2 .left,
       whole,
     )
     (ap Points (c .new .ensures ∙ (λ i. vec3i ((nx ∙ u .first) i) ((ny ∙ u .second) i) ((nz ∙ u .third) i))))

@@ -19,7 +19,10 @@ computed-requires c κs = search needs
 
 returns : tie.Need-returns
 unfolding cornerIndex
-returns c = c .computed .ensures ∙ (λ t. add binary64 (c .before .before .args .origin) (mul binary64 (add binary64 (c .before .from-count .ensures t) (one-as-float t)) (c .before .before .args .cell)))
+returns c =
+    c .computed .ensures
+    ∙ (λ t. add binary64 (c .before .before .args .origin)
+    (mul binary64 (add binary64 (c .before .from-count .ensures t) (one-as-float t)) (c .before .before .args .cell)))
 
 pub corner-last-spec : {M : Type 1} → statement M
 corner-last-spec = tie.close (tie.spec from-count-requires computed-requires returns)

@@ -18,25 +18,51 @@ cell-refused-requires c κs = search needs
 
 returns-2 : tie.Need-returns-2
 unfolding firstOf cornersCause
-returns-2 c = simp (sym (c .before .before .before .point-refused .ensures) ∙ c .before .before .if1 .left, sym (c .before .cell-refused .ensures) ∙ c .if2 .taken)
+returns-2 c =
+    simp (
+      sym (c .before .before .before .point-refused .ensures) ∙ c .before .before .if1 .left,
+      sym (c .before .cell-refused .ensures) ∙ c .if2 .taken,
+    )
 
 dimensions-refused-requires : tie.Need-dimensions-refused-requires
 dimensions-refused-requires c κs = search needs
 
 returns-3 : tie.Need-returns-3
 unfolding firstOf cornersCause
-returns-3 c = simp (sym (c .before .before .before .before .before .point-refused .ensures) ∙ c .before .before .before .before .if1 .left, sym (c .before .before .before .cell-refused .ensures) ∙ c .before .before .if2 .left, sym (c .before .dimensions-refused .ensures) ∙ c .if3 .taken)
+returns-3 c =
+    simp (
+      sym (c .before .before .before .before .before .point-refused .ensures)
+          ∙ c .before .before .before .before .if1 .left,
+      sym (c .before .before .before .cell-refused .ensures) ∙ c .before .before .if2 .left,
+      sym (c .before .dimensions-refused .ensures) ∙ c .if3 .taken,
+    )
 
 cell-inside-requires : tie.Need-cell-inside-requires
 cell-inside-requires c κs = search needs
 
 returns-4 : tie.Need-returns-4
 unfolding firstOf cornersCause
-returns-4 c = simp (sym (c .before .before .before .before .before .before .before .point-refused .ensures) ∙ c .before .before .before .before .before .before .if1 .left, sym (c .before .before .before .before .before .cell-refused .ensures) ∙ c .before .before .before .before .if2 .left, sym (c .before .before .before .dimensions-refused .ensures) ∙ c .before .before .if3 .left, sym (c .before .cell-inside .ensures) ∙ c .if4 .taken)
+returns-4 c =
+    simp (
+      sym (c .before .before .before .before .before .before .before .point-refused .ensures)
+          ∙ c .before .before .before .before .before .before .if1 .left,
+      sym (c .before .before .before .before .before .cell-refused .ensures)
+          ∙ c .before .before .before .before .if2 .left,
+      sym (c .before .before .before .dimensions-refused .ensures) ∙ c .before .before .if3 .left,
+      sym (c .before .cell-inside .ensures) ∙ c .if4 .taken,
+    )
 
 returns-5 : tie.Need-returns-5
 unfolding firstOf cornersCause
-returns-5 c = simp (sym (c .before .before .before .before .before .before .before .point-refused .ensures) ∙ c .before .before .before .before .before .before .if1 .left, sym (c .before .before .before .before .before .cell-refused .ensures) ∙ c .before .before .before .before .if2 .left, sym (c .before .before .before .dimensions-refused .ensures) ∙ c .before .before .if3 .left, sym (c .before .cell-inside .ensures) ∙ c .if4 .left)
+returns-5 c =
+    simp (
+      sym (c .before .before .before .before .before .before .before .point-refused .ensures)
+          ∙ c .before .before .before .before .before .before .if1 .left,
+      sym (c .before .before .before .before .before .cell-refused .ensures)
+          ∙ c .before .before .before .before .if2 .left,
+      sym (c .before .before .before .dimensions-refused .ensures) ∙ c .before .before .if3 .left,
+      sym (c .before .cell-inside .ensures) ∙ c .if4 .left,
+    )
 
 pub corners-cause-spec : {M : Type 1} → statement M
 corners-cause-spec =

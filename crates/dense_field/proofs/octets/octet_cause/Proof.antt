@@ -18,11 +18,19 @@ cell-inside-requires c κs = search needs
 
 returns-2 : tie.Need-returns-2
 unfolding firstOf octetCause
-returns-2 c = simp (sym (c .before .before .before .values-refused .ensures) ∙ c .before .before .if1 .left, sym (c .before .cell-inside .ensures) ∙ c .if2 .taken)
+returns-2 c =
+    simp (
+      sym (c .before .before .before .values-refused .ensures) ∙ c .before .before .if1 .left,
+      sym (c .before .cell-inside .ensures) ∙ c .if2 .taken,
+    )
 
 returns-3 : tie.Need-returns-3
 unfolding firstOf octetCause
-returns-3 c = simp (sym (c .before .before .before .values-refused .ensures) ∙ c .before .before .if1 .left, sym (c .before .cell-inside .ensures) ∙ c .if2 .left)
+returns-3 c =
+    simp (
+      sym (c .before .before .before .values-refused .ensures) ∙ c .before .before .if1 .left,
+      sym (c .before .cell-inside .ensures) ∙ c .if2 .left,
+    )
 
 pub octet-cause-spec : {M : Type 1} → statement M
 octet-cause-spec =

@@ -1,16 +1,28 @@
 -- `octets::walk_step` meets its contract: each test is its part of the rule, in the rule's order.
-use mathlib.Core.Path.{sym, ap, _∙_}
+use mathlib.Core.Path.{_≡_, sym, ap, _∙_}
 use native.Mathlib.Omega.{arith}
 use borrow.Author.Needs.{needs}
 use borrow.Author.Tests.{lt-ltb, le-ltb, eq-eqb, ne-eqb}
-use mathlib.Core.Bool.{or-true}
+use mathlib.Core.Bool.{false, or-true}
 use Prim.Native.Nat.{_-_, _≤_, _<_}
 use Rattle.geometry.specs.Index.{nextIndices}
+use Rattle.dense_field.specs.Field.{valuesRefused}
 use Rattle.dense_field.specs.Walks.{octetStep}
 use Rattle.dense_field.specs.declared.OctetStep.the-variants.{Cell}
 use Rattle.dense_field.proofs.Lending.{lent}
 use Rattle.dense_field.proofs.octets.walk_step.Statement.{statement}
 use Rattle.dense_field.proofs.octets.walk_step.Tie as tie
+
+-- ---- where the numbers of cells are known
+
+abbrev start : tie.After-new → tie.Start
+start p = p .before .before .before .before .before .before
+
+-- the values are as many as the points
+fine : (p : tie.After-new) → valuesRefused (start p .args .n) (start p .args .len) ≡ false
+fine p = sym (p .before .before .before .before .before .values-refused .ensures) ∙ p .before .before .before .before .if1 .left
+
+-- ---- what is left
 
 values-refused-requires : tie.Need-values-refused-requires
 values-refused-requires c κs = search needs
@@ -40,46 +52,51 @@ new-requires c κs = search needs
 returns-2 : tie.Need-returns-2
 unfolding octetStep
 returns-2 c =
-    let e = c .before .before .new .ensures in
+    let p = c .before .before in
+    let e = p .new .ensures in
     let t = eq-eqb _ _ (sym (ap (λ v. v .i) e) ∙ c .if2 .taken) in
-    simp (sym (c .before .before .before .before .before .before .before .values-refused .ensures) ∙ c .before .before .before .before .before .before .if1 .left, t)
+    simp (fine p, t)
 
 returns-3 : tie.Need-returns-3
 unfolding octetStep
 returns-3 c =
-    let e = c .before .before .before .before .new .ensures in
+    let p = c .before .before .before .before in
+    let e = p .new .ensures in
     let t = eq-eqb _ _ (sym (ap (λ v. v .j) e) ∙ c .if3 .taken) in
-    simp (sym (c .before .before .before .before .before .before .before .before .before .values-refused .ensures) ∙ c .before .before .before .before .before .before .before .before .if1 .left, t, or-true)
+    simp (fine p, t, or-true)
 
 returns-4 : tie.Need-returns-4
 unfolding octetStep
 returns-4 c =
-    let e = c .before .before .before .before .before .before .before .new .ensures in
-    let a = c .before .before .before .before .before .before .before .before .before .before .before .before .before .args in
+    let p = c .before .before .before .before .before .before .before in
+    let e = p .new .ensures in
+    let a = start p .args in
     let t : a .n .k - 1 ≤ a .c .k = omega (arith, ap (λ v. v .k) e) in
-    simp (sym (c .before .before .before .before .before .before .before .before .before .before .before .before .values-refused .ensures) ∙ c .before .before .before .before .before .before .before .before .before .before .before .if1 .left, le-ltb _ _ t, or-true)
+    simp (fine p, le-ltb _ _ t, or-true)
 
 returns-5 : tie.Need-returns-5
 unfolding octetStep
 returns-5 c =
-    let e = c .before .before .before .before .before .before .before .before .before .before .new .ensures in
-    let a = c .before .before .before .before .before .before .before .before .before .before .before .before .before .before .before .before .args in
+    let p = c .before .before .before .before .before .before .before .before .before .before in
+    let e = p .new .ensures in
+    let a = start p .args in
     let i = ne-eqb _ _ (λ z. c .before .before .before .before .before .before .before .before .if2 .left (ap (λ v. v .i) e ∙ z)) in
     let j = ne-eqb _ _ (λ z. c .before .before .before .before .before .before .if3 .left (ap (λ v. v .j) e ∙ z)) in
     let k : a .c .k < a .n .k - 1 = omega (arith, ap (λ v. v .k) e) in
     let t : a .n .i - 1 ≤ a .c .i = omega (arith, ap (λ v. v .i) e) in
-    simp (sym (c .before .before .before .before .before .before .before .before .before .before .before .before .before .before .before .values-refused .ensures) ∙ c .before .before .before .before .before .before .before .before .before .before .before .before .before .before .if1 .left, i, j, lt-ltb _ _ k, le-ltb _ _ t)
+    simp (fine p, i, j, lt-ltb _ _ k, le-ltb _ _ t)
 
 returns-6 : tie.Need-returns-6
 unfolding octetStep
 returns-6 c =
-    let e = c .before .before .before .before .before .before .before .before .before .before .before .before .before .new .ensures in
-    let a = c .before .before .before .before .before .before .before .before .before .before .before .before .before .before .before .before .before .before .before .args in
+    let p = c .before .before .before .before .before .before .before .before .before .before .before .before .before in
+    let e = p .new .ensures in
+    let a = start p .args in
     let i = ne-eqb _ _ (λ z. c .before .before .before .before .before .before .before .before .before .before .before .if2 .left (ap (λ v. v .i) e ∙ z)) in
     let j = ne-eqb _ _ (λ z. c .before .before .before .before .before .before .before .before .before .if3 .left (ap (λ v. v .j) e ∙ z)) in
     let k : a .c .k < a .n .k - 1 = omega (arith, ap (λ v. v .k) e) in
     let t : a .n .j - 1 ≤ a .c .j = omega (arith, ap (λ v. v .j) e) in
-    simp (sym (c .before .before .before .before .before .before .before .before .before .before .before .before .before .before .before .before .before .before .values-refused .ensures) ∙ c .before .before .before .before .before .before .before .before .before .before .before .before .before .before .before .before .before .if1 .left, i, j, lt-ltb _ _ k, le-ltb _ _ t, or-true)
+    simp (fine p, i, j, lt-ltb _ _ k, le-ltb _ _ t, or-true)
 
 next-indices-requires : tie.Need-next-indices-requires
 next-indices-requires c κs = search needs
@@ -87,14 +104,18 @@ next-indices-requires c κs = search needs
 returns-7 : tie.Need-returns-7
 unfolding octetStep
 returns-7 c =
-    let e = c .before .before .before .before .before .before .before .before .before .before .before .before .before .before .new .ensures in
-    let a = c .before .before .before .before .before .before .before .before .before .before .before .before .before .before .before .before .before .before .before .before .args in
-    let i = ne-eqb _ _ (λ z. c .before .before .before .before .before .before .before .before .before .before .before .before .if2 .left (ap (λ v. v .i) e ∙ z)) in
+    let p = c .before .before .before .before .before .before .before .before .before .before .before .before .before .before in
+    let e = p .new .ensures in
+    let a = start p .args in
+    let i =
+    ne-eqb _ _
+    (λ z. c .before .before .before .before .before .before .before .before .before .before .before .before .if2 .left
+    (ap (λ v. v .i) e ∙ z)) in
     let j = ne-eqb _ _ (λ z. c .before .before .before .before .before .before .before .before .before .before .if3 .left (ap (λ v. v .j) e ∙ z)) in
     let k : a .c .k < a .n .k - 1 = omega (arith, ap (λ v. v .k) e) in
     let ci : a .c .i < a .n .i - 1 = omega (arith, ap (λ v. v .i) e) in
     let cj : a .c .j < a .n .j - 1 = omega (arith, ap (λ v. v .j) e) in
-    simp (sym (c .before .before .before .before .before .before .before .before .before .before .before .before .before .before .before .before .before .before .before .values-refused .ensures) ∙ c .before .before .before .before .before .before .before .before .before .before .before .before .before .before .before .before .before .before .if1 .left, i, j, lt-ltb _ _ k, lt-ltb _ _ ci, lt-ltb _ _ cj)
+    simp (fine p, i, j, lt-ltb _ _ k, lt-ltb _ _ ci, lt-ltb _ _ cj)
     (ap Cell (c .next-indices .ensures ∙ ap (λ v. nextIndices (a .c) (v .i) (v .j)) e))
 
 pub walk-step-spec : {M : Type 1} → statement M

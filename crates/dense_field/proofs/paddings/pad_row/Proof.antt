@@ -36,8 +36,8 @@ add-at c =
     let w = within-of s in
     omega arith
 
-fill-requires : tie.Need-fill-requires
-fill-requires c κs =
+fill-floats-requires : tie.Need-fill-floats-requires
+fill-floats-requires c κs =
     let s = c .before .before .before .before in
     let w = within-of s in
     omega arith
@@ -48,13 +48,14 @@ same-length c = search needs
 returns : tie.Need-returns
 returns c =
     let a = c .before .before .before .before .before .before .before .args in
-    outer-stretch (a .n) (a .value) (a .values .now) _ _ (outer-row (a .n) (a .j) (a .k) (omega arith) (edge-first _ _ (omega arith))) (c .before .before .fill .ensures)
+    outer-stretch (a .n) (a .value) (a .values .now) _ _ (outer-row (a .n) (a .j) (a .k) (omega arith) (edge-first _ _ (omega arith)))
+    (c .before .before .fill-floats .ensures)
 
 add-if2 : tie.Need-add-if2
 add-if2 c = search needs
 
-fill-requires-2 : tie.Need-fill-requires-2
-fill-requires-2 c κs =
+fill-floats-requires-2 : tie.Need-fill-floats-requires-2
+fill-floats-requires-2 c κs =
     let s = c .before .before .before .before .before .before in
     let w = within-of s in
     omega arith
@@ -65,7 +66,8 @@ same-length-2 c = search needs
 returns-2 : tie.Need-returns-2
 returns-2 c =
     let a = c .before .before .before .before .before .before .before .before .before .args in
-    outer-stretch (a .n) (a .value) (a .values .now) _ _ (outer-row (a .n) (a .j) (a .k) (omega arith) (edge-last _ _ (omega arith))) (c .before .before .fill2 .ensures)
+    outer-stretch (a .n) (a .value) (a .values .now) _ _ (outer-row (a .n) (a .j) (a .k) (omega arith) (edge-last _ _ (omega arith)))
+    (c .before .before .fill-floats2 .ensures)
 
 mul-values : tie.Need-mul-values
 mul-values c =
@@ -121,11 +123,11 @@ pad-row-spec =
     mul-at-2
     mul-at-3
     add-at
-    fill-requires
+    fill-floats-requires
     same-length
     returns
     add-if2
-    fill-requires-2
+    fill-floats-requires-2
     same-length-2
     returns-2
     mul-values

@@ -2,7 +2,7 @@
 use mathlib.Core.Path.{_≡_, sym, ap, _∙_}
 use native.Mathlib.Omega.{arith}
 use borrow.Author.Needs.{needs}
-use Prim.Native.Nat.{_+_, _*_, _-_, _≤_}
+use Prim.Native.Nat.{_+_, _*_, _≤_, _-_}
 use native.Mathlib.Nat.{mul-comm}
 use lib.ListN.{length}
 use Rattle.lists.specs.Filled.{filled}
@@ -15,7 +15,8 @@ use Rattle.dense_field.proofs.paddings.pad_slab.Statement.{statement}
 use Rattle.dense_field.proofs.paddings.pad_slab.Tie as tie
 
 abbrev Inv-loop : tie.InvT-loop
-Inv-loop n value values₀ k slab j₀ values j = (j ≤ n .j) × (length values ≡ length values₀) × (values ≡ filled (k * (n .i * n .j)) (j * n .i) (paddedAt n value values₀) values₀)
+Inv-loop n value values₀ k slab j₀ values j = (j ≤ n .j) × (length values ≡ length values₀) ×
+    (values ≡ filled (k * (n .i * n .j)) (j * n .i) (paddedAt n value values₀) values₀)
 
 abbrev μ-loop : tie.MeasureT-loop
 μ-loop n value values₀ k slab j₀ values j = n .j - j
@@ -30,14 +31,14 @@ mul-slab c =
     let w = within-of s in
     omega arith
 
-mul-fill : tie.Need-mul-fill Inv-loop μ-loop
-mul-fill c =
+mul-fill-floats : tie.Need-mul-fill-floats Inv-loop μ-loop
+mul-fill-floats c =
     let s = c .before .before .before .before in
     let w = within-of s in
     omega arith
 
-fill-requires : tie.Need-fill-requires Inv-loop μ-loop
-fill-requires c κs =
+fill-floats-requires : tie.Need-fill-floats-requires Inv-loop μ-loop
+fill-floats-requires c κs =
     let s = c .before .before .before .before in
     let w = within-of s in
     omega arith
@@ -48,19 +49,19 @@ same-length c = search needs
 returns : tie.Need-returns Inv-loop μ-loop
 returns c =
     let a = c .before .before .before .before .before .before .before .args in
-    outer-stretch (a .n) (a .value) (a .values .now) _ _ (outer-slab (a .n) (a .k) (edge-first _ _ (omega arith))) (c .before .before .fill .ensures)
+    outer-stretch (a .n) (a .value) (a .values .now) _ _ (outer-slab (a .n) (a .k) (edge-first _ _ (omega arith))) (c .before .before .fill-floats .ensures)
 
 add-if2 : tie.Need-add-if2 Inv-loop μ-loop
 add-if2 c = search needs
 
-mul-fill-2 : tie.Need-mul-fill-2 Inv-loop μ-loop
-mul-fill-2 c =
+mul-fill-floats-2 : tie.Need-mul-fill-floats-2 Inv-loop μ-loop
+mul-fill-floats-2 c =
     let s = c .before .before .before .before .before .before in
     let w = within-of s in
     omega arith
 
-fill-requires-2 : tie.Need-fill-requires-2 Inv-loop μ-loop
-fill-requires-2 c κs =
+fill-floats-requires-2 : tie.Need-fill-floats-requires-2 Inv-loop μ-loop
+fill-floats-requires-2 c κs =
     let s = c .before .before .before .before .before .before in
     let w = within-of s in
     omega arith
@@ -71,7 +72,7 @@ same-length-2 c = search needs
 returns-2 : tie.Need-returns-2 Inv-loop μ-loop
 returns-2 c =
     let a = c .before .before .before .before .before .before .before .before .before .args in
-    outer-stretch (a .n) (a .value) (a .values .now) _ _ (outer-slab (a .n) (a .k) (edge-last _ _ (omega arith))) (c .before .before .fill2 .ensures)
+    outer-stretch (a .n) (a .value) (a .values .now) _ _ (outer-slab (a .n) (a .k) (edge-last _ _ (omega arith))) (c .before .before .fill-floats2 .ensures)
 
 loop-holds : tie.Need-loop-holds Inv-loop μ-loop
 loop-holds c =
@@ -84,7 +85,10 @@ loop-holds c =
 pad-row-requires : tie.Need-pad-row-requires Inv-loop μ-loop
 pad-row-requires c κs =
     let p = c .before .before .before .before .before .before .before .before .before .pre .0 in
-    let long : length (c .before .before .before .loop .values) ≡ length (c .before .before .before .before .before .before .before .before .before .args .values .now) = c .before .before .before .loop .inv .1 in
+    let long :
+    length (c .before .before .before .loop .values)
+    ≡ length (c .before .before .before .before .before .before .before .before .before .args .values .now) =
+    c .before .before .before .loop .inv .1 in
     (as-long p long, (omega arith, omega arith, omega arith))
 
 add-j : tie.Need-add-j Inv-loop μ-loop
@@ -97,7 +101,8 @@ loop-again : tie.Need-loop-again Inv-loop μ-loop
 loop-again c =
     let a = c .before .before .before .before .before .before .before .before .before .before .before .before .args in
     let s = c .before .before .before .before .before .before .loop in
-    let next = pad-more (a .n) (a .value) (a .values .now) (a .k * (a .n .i * a .n .j)) (s .j * a .n .i) (a .n .i) {total = (s .j + 1) * a .n .i} (s .inv .2) (c .before .before .pad-row .ensures) (omega arith) in
+    let next = pad-more (a .n) (a .value) (a .values .now) (a .k * (a .n .i * a .n .j)) (s .j * a .n .i) (a .n .i) {total = (s .j + 1) * a .n .i}
+    (s .inv .2) (c .before .before .pad-row .ensures) (omega arith) in
     (search needs, ap length next ∙ filled-length _ _ _ _, next)
 
 same-length-3 : tie.Need-same-length-3 Inv-loop μ-loop
@@ -117,13 +122,13 @@ pad-slab-spec =
     Inv-loop
     μ-loop
     mul-slab
-    mul-fill
-    fill-requires
+    mul-fill-floats
+    fill-floats-requires
     same-length
     returns
     add-if2
-    mul-fill-2
-    fill-requires-2
+    mul-fill-floats-2
+    fill-floats-requires-2
     same-length-2
     returns-2
     loop-holds

@@ -14,7 +14,9 @@ use Rattle.dense_field.proofs.paddings.pad_slabs.Statement.{statement}
 use Rattle.dense_field.proofs.paddings.pad_slabs.Tie as tie
 
 abbrev Inv-loop : tie.InvT-loop
-Inv-loop n value values₀ k₀ values k = (k ≤ n .k) × (length values ≡ length values₀) × (values ≡ filled 0 (k * (n .i * n .j)) (paddedAt n value values₀) values₀)
+Inv-loop n value values₀ k₀ values k =
+    (k ≤ n .k) × (length values ≡ length values₀)
+    × (values ≡ filled 0 (k * (n .i * n .j)) (paddedAt n value values₀) values₀)
 
 abbrev μ-loop : tie.MeasureT-loop
 μ-loop n value values₀ k₀ values k = n .k - k

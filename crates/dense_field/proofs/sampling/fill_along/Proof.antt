@@ -12,7 +12,9 @@ use Rattle.dense_field.proofs.sampling.fill_along.Statement.{statement}
 use Rattle.dense_field.proofs.sampling.fill_along.Tie as tie
 
 abbrev Inv-loop : tie.InvT-loop
-Inv-loop origin cell from places₀ at count t₀ places t = (t ≤ count) × (length places ≡ length places₀) × (places ≡ filled at t (λ q. axisPoint origin cell (from + (q - at))) places₀)
+Inv-loop origin cell from places₀ at count t₀ places t =
+    (t ≤ count) × (length places ≡ length places₀)
+    × (places ≡ filled at t (λ q. axisPoint origin cell (from + (q - at))) places₀)
 
 abbrev μ-loop : tie.MeasureT-loop
 μ-loop origin cell from places₀ at count t₀ places t = count - t

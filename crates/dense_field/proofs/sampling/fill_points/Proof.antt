@@ -23,13 +23,13 @@ next-in c =
     let s = c .before .before in
     indices (s .args .n) (s .pre .x-above) (s .pre .y-above) _ (c .loop .inv .1)
 
-point-at-requires : tie.Need-point-at-requires Inv-loop μ-loop
-point-at-requires c κs = search needs
+indices-requires : tie.Need-indices-requires Inv-loop μ-loop
+indices-requires c κs = search needs
 
 loop-holds : tie.Need-loop-holds Inv-loop μ-loop
 loop-holds c =
     let n = c .before .args .n in
-    (search needs, c .point-at .ensures ∙ ap (pointAt n) (sym (add-zero _)), record { point = λ q none. absurd (omega arith) })
+    (search needs, c .indices .ensures ∙ ap (pointAt n) (sym (add-zero _)), record { point = λ q none. absurd (omega arith) })
 
 sub-lesser : tie.Need-sub-lesser Inv-loop μ-loop
 sub-lesser c = omega (arith, next-in (c .before .before .before) .i-in)
@@ -86,9 +86,11 @@ loop-again c =
     let v = next-in s in
     let fits : s .loop .first .i + some .result ≤ a .n .i = omega arith in (
       omega arith,
-      after-stretch (a .n) (p .x-above) (p .y-above) (a .at + t) (some .result) (inv .1) (some .ensures .0) fits (c .before .new .ensures) (c .next-indices .ensures)
+      after-stretch (a .n) (p .x-above) (p .y-above) (a .at + t) (some .result) (inv .1) (some .ensures .0) fits (c .before .new .ensures)
+          (c .next-indices .ensures)
           ∙ ap (pointAt (a .n)) (add-assoc (a .at) t (some .result)),
-      more-points (a .n) (p .x-above) (p .y-above) (a .origin) (a .cell) (a .at) t (some .result) (inv .1) fits (omega (arith, p .short)) (inv .2) (long .0) (long .1) (long .2) (e .0) (e .1 .0) (e .1 .1 .0),
+      more-points (a .n) (p .x-above) (p .y-above) (a .origin) (a .cell) (a .at) t (some .result) (inv .1) fits (omega (arith, p .short)) (inv .2)
+          (long .0) (long .1) (long .2) (e .0) (e .1 .0) (e .1 .1 .0),
     )
 
 returns : tie.Need-returns Inv-loop μ-loop
@@ -100,7 +102,7 @@ fill-points-spec =
     (tie.spec
     Inv-loop
     μ-loop
-    point-at-requires
+    indices-requires
     loop-holds
     sub-lesser
     sub-lesser-2

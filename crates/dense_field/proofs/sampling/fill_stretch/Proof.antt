@@ -11,14 +11,14 @@ fill-along-requires c κs = search needs
 axis-point-requires : tie.Need-axis-point-requires
 axis-point-requires c κs = search needs
 
-fill-requires : tie.Need-fill-requires
-fill-requires c κs = search needs
+fill-floats-requires : tie.Need-fill-floats-requires
+fill-floats-requires c κs = search needs
 
 axis-point-requires-2 : tie.Need-axis-point-requires-2
 axis-point-requires-2 c κs = search needs
 
-fill-requires-2 : tie.Need-fill-requires-2
-fill-requires-2 c κs = search needs
+fill-floats-requires-2 : tie.Need-fill-floats-requires-2
+fill-floats-requires-2 c κs = search needs
 
 returns : tie.Need-returns
 returns c =
@@ -28,10 +28,10 @@ returns c =
     let a = x .before .before .args in (
       x .fill-along .ensures,
       (
-        z .before .fill .ensures ∙ ap (λ v. filled (a .at) (a .count) (λ q. v) (a .py .now)) (y .axis-point .ensures),
+        z .before .fill-floats .ensures ∙ ap (λ v. filled (a .at) (a .count) (λ q. v) (a .py .now)) (y .axis-point .ensures),
         (
-          c .fill2 .ensures ∙ ap (λ v. filled (a .at) (a .count) (λ q. v) (a .pz .now)) (z .axis-point2 .ensures),
-          (x .before .fill-along-arg .given .0 .1, z .before .before .fill-arg .given .0 .1, c .before .fill-arg2 .given .0 .1),
+          c .fill-floats2 .ensures ∙ ap (λ v. filled (a .at) (a .count) (λ q. v) (a .pz .now)) (z .axis-point2 .ensures),
+          (x .before .fill-along-arg .given .0 .1, z .before .before .fill-floats-arg .given .0 .1, c .before .fill-floats-arg2 .given .0 .1),
         ),
       ),
     )
@@ -42,7 +42,7 @@ fill-stretch-spec =
     (tie.spec
     fill-along-requires
     axis-point-requires
-    fill-requires
+    fill-floats-requires
     axis-point-requires-2
-    fill-requires-2
+    fill-floats-requires-2
     returns)

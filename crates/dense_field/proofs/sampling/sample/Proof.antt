@@ -28,7 +28,7 @@ cast-count c = search needs
 
 sample-places-requires : tie.Need-sample-places-requires
 sample-places-requires c κs =
-    let s = c .before .before .before .before .before .before .before .before .before .before .before .before in
+    let s = c .before .before .before .before .before .before .before in
     let none = sym (s .before .sample-cause .ensures) ∙ s .if1 .left in
     lent _ _ (passed _ _ _ _ _ none .right-length)
 
@@ -39,13 +39,18 @@ returns-2 : tie.Need-returns-2
 unfolding sampleOutcome
 returns-2 c =
     let places = c .before .before in
-    let laid = places .before .before .before .before .before .before .before .before .before .before in
+    let laid = places .before .before .before .before .before in
     let s = laid .before .before .before in
     let a = s .before .before .before .args in
     let none = sym (s .before .sample-cause .ensures) ∙ s .if1 .left in
     let zero = ap (λ m. eqb m 0) none in
-    let in-order = passed _ _ _ _ _ none .in-order in
-    (rw zero refl, rw zero (places .sample-places .ensures ∙ flat-sampled (a .model) _ (a .origin) (a .cell) (a .n) in-order (laid .lay-out .ensures .1) (laid .lay-out .ensures .0)))
+    let in-order = passed _ _ _ _ _ none .in-order in (
+      rw zero refl,
+      rw zero
+          (places .sample-places .ensures
+          ∙ flat-sampled (a .model) _ (a .origin) (a .cell) (a .n) in-order (laid .lay-out .ensures .1)
+          (laid .lay-out .ensures .0)),
+    )
 
 pub sample-spec : {M : Type 1} → statement M
 sample-spec =

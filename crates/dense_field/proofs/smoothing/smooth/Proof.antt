@@ -33,8 +33,8 @@ smooth-rounds-requires c κs =
     let passed = sym (w .before .smooth-refused .ensures) ∙ w .if1 .left in
     (values-lent _ _ _ passed, length-take-le _ _ (scratch-long _ _ _ passed))
 
-clear-requires : tie.Need-clear-requires
-clear-requires c κs = search needs
+zero-floats-requires : tie.Need-zero-floats-requires
+zero-floats-requires c κs = search needs
 
 same-length : tie.Need-same-length
 same-length c = search needs
@@ -52,7 +52,7 @@ returns-2 c =
     let kept : length part ≡ length (take (length (a .values .now)) (a .scratch .now)) = search needs in
     let long = length-front (a .scratch .now) part (length (a .values .now)) kept in (
       simp e,
-      (simp e (called .ensures), simp e (c .before .before .clear .ensures ∙ ap (λ (m : ℕ). replicate m plusZero) long)),
+      (simp e (called .ensures), simp e (c .before .before .zero-floats .ensures ∙ ap (λ (m : ℕ). replicate m plusZero) long)),
     )
 
 pub smooth-spec : {M : Type 1} → statement M
@@ -64,7 +64,7 @@ smooth-spec =
     slice-relend-prefix-smooth-rounds
     slice-aggregate-smooth-rounds
     smooth-rounds-requires
-    clear-requires
+    zero-floats-requires
     same-length
     same-length-2
     returns-2)

@@ -66,7 +66,8 @@ same-length-2 c = search needs
 returns-2 : tie.Need-returns-2
 returns-2 c =
     let a = c .before .before .before .before .before .before .before .before .before .args in
-    edge-row (a .n) (a .factor) (a .old .now) (a .j) (a .k) (a .new .now) (omega arith) (edge-first _ _ (omega arith)) (c .before .before .copy-values2 .ensures)
+    edge-row (a .n) (a .factor) (a .old .now) (a .j) (a .k) (a .new .now) (omega arith) (edge-first _ _ (omega arith))
+    (c .before .before .copy-values2 .ensures)
 
 add-if3 : tie.Need-add-if3
 add-if3 c = search needs
@@ -146,9 +147,10 @@ same-length-4 c = search needs
 
 returns-4 : tie.Need-returns-4
 returns-4 c =
-    let a = c .before .before .before .before .before .before .before .before .before .before .before .before .before .before .before .before .before .before .before .args in
+    let copied = c .before .before .before .before .before .before .before .before .before .before in
+    let a = copied .before .before .before .before .before .before .before .before .before .args in
     inner-row (a .n) (a .factor) (a .old .now) (a .j) (a .k) (a .new .now) (omega arith) (omega arith) (omega arith) (omega arith) (omega arith)
-    (c .before .before .before .before .before .before .before .before .before .before .copy-values4 .ensures)
+    (copied .copy-values4 .ensures)
     (c .before .before .before .before .before .before .blend-values .ensures)
     (c .before .before .copy-values5 .ensures)
 

@@ -1,6 +1,6 @@
 -- `thresholds::cut` meets its contract: the two comparisons are the one of |v|.
 use Rattle.dense_field.specs.Threshold.{cut}
-use Rattle.dense_field.proofs.CutLaws.{both-below, not-below, minus-not-below}
+use Rattle.float.proofs.AbsOrder.{both-below, not-below, minus-not-below}
 use Rattle.dense_field.proofs.thresholds.cut.Statement.{statement}
 use Rattle.dense_field.proofs.thresholds.cut.Tie as tie
 

@@ -48,7 +48,8 @@ loop-again c =
     let a = c .before .before .before .before .before .args in
     let next : set (s .values) (s .i) (c .cut .result) ≡ mapFirst (cut (a .limit)) (s .i + 1) (a .values .now) =
     ap₂ (λ (x : List Float) (v : Float). set x (s .i) v) (s .inv .2)
-    (c .cut .ensures ∙ ap (λ (x : List Float). cut (a .limit) (getD x (s .i) nan)) (s .inv .2) ∙ ap (cut (a .limit)) (mapFirst-next (cut (a .limit)) (s .i) (a .values .now) nan))
+    (c .cut .ensures ∙ ap (λ (x : List Float). cut (a .limit) (getD x (s .i) nan)) (s .inv .2)
+    ∙ ap (cut (a .limit)) (mapFirst-next (cut (a .limit)) (s .i) (a .values .now) nan))
     ∙ mapFirst-set (cut (a .limit)) (s .i) (a .values .now) nan
     ∙ rw (add-one (s .i)) refl in
     (search needs, ap length next ∙ mapFirst-length _ _ _, next)

@@ -23,11 +23,21 @@ walk-refused-requires c κs = search needs
 
 returns-2 : tie.Need-returns-2
 unfolding firstOf cellStep
-returns-2 c = simp (sym (c .before .before .before .box-refused .ensures) ∙ c .before .before .if1 .left, sym (c .before .walk-refused .ensures) ∙ c .if2 .taken)
+returns-2 c =
+    simp (
+      sym (c .before .before .before .box-refused .ensures) ∙ c .before .before .if1 .left,
+      sym (c .before .walk-refused .ensures) ∙ c .if2 .taken,
+    )
 
 returns-3 : tie.Need-returns-3
 unfolding firstOf cellStep
-returns-3 c = simp (sym (c .before .before .before .before .before .before .box-refused .ensures) ∙ c .before .before .before .before .before .if1 .left, sym (c .before .before .before .before .walk-refused .ensures) ∙ c .before .before .before .if2 .left, le-ltb _ _ (c .if3 .taken))
+returns-3 c =
+    simp (
+      sym (c .before .before .before .before .before .before .box-refused .ensures)
+          ∙ c .before .before .before .before .before .if1 .left,
+      sym (c .before .before .before .before .walk-refused .ensures) ∙ c .before .before .before .if2 .left,
+      le-ltb _ _ (c .if3 .taken),
+    )
 
 cell-min-requires : tie.Need-cell-min-requires
 cell-min-requires c κs = search needs
@@ -40,7 +50,10 @@ new-requires c κs = search needs
 
 next-indices-requires : tie.Need-next-indices-requires
 next-indices-requires c κs =
-    let walk = walk-passed _ _ _ (sym (c .before .before .before .before .before .before .before .walk-refused .ensures) ∙ c .before .before .before .before .before .before .if2 .left) in
+    let walk =
+    walk-passed _ _ _
+    (sym (c .before .before .before .before .before .before .before .walk-refused .ensures)
+    ∙ c .before .before .before .before .before .before .if2 .left) in
     (omega arith, omega arith, omega arith)
 
 returns-4 : tie.Need-returns-4
@@ -48,7 +61,14 @@ unfolding firstOf cellStep walkCell
 returns-4 c =
     let low = c .before .before .before .cell-min .ensures in
     let high = c .before .before .cell-max .ensures in
-    simp (sym (c .before .before .before .before .before .before .before .before .before .before .box-refused .ensures) ∙ c .before .before .before .before .before .before .before .before .before .if1 .left, sym (c .before .before .before .before .before .before .before .before .walk-refused .ensures) ∙ c .before .before .before .before .before .before .before .if2 .left, lt-ltb _ _ (c .before .before .before .before .if3 .left))
+    simp (
+      sym
+          (c .before .before .before .before .before .before .before .before .before .before .box-refused .ensures)
+          ∙ c .before .before .before .before .before .before .before .before .before .if1 .left,
+      sym (c .before .before .before .before .before .before .before .before .walk-refused .ensures)
+          ∙ c .before .before .before .before .before .before .before .if2 .left,
+      lt-ltb _ _ (c .before .before .before .before .if3 .left),
+    )
     (ap₂ Cell (c .before .new .ensures ∙ (λ i. box (low i) (high i))) (c .next-indices .ensures))
 
 pub cell-step-spec : {M : Type 1} → statement M

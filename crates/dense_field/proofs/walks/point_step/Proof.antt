@@ -22,11 +22,21 @@ walk-refused-requires c κs = search needs
 
 returns-2 : tie.Need-returns-2
 unfolding firstOf pointStep
-returns-2 c = simp (sym (c .before .before .before .box-refused .ensures) ∙ c .before .before .if1 .left, sym (c .before .walk-refused .ensures) ∙ c .if2 .taken)
+returns-2 c =
+    simp (
+      sym (c .before .before .before .box-refused .ensures) ∙ c .before .before .if1 .left,
+      sym (c .before .walk-refused .ensures) ∙ c .if2 .taken,
+    )
 
 returns-3 : tie.Need-returns-3
 unfolding firstOf pointStep
-returns-3 c = simp (sym (c .before .before .before .before .before .before .box-refused .ensures) ∙ c .before .before .before .before .before .if1 .left, sym (c .before .before .before .before .walk-refused .ensures) ∙ c .before .before .before .if2 .left, le-ltb _ _ (c .if3 .taken))
+returns-3 c =
+    simp (
+      sym (c .before .before .before .before .before .before .box-refused .ensures)
+          ∙ c .before .before .before .before .before .if1 .left,
+      sym (c .before .before .before .before .walk-refused .ensures) ∙ c .before .before .before .if2 .left,
+      le-ltb _ _ (c .if3 .taken),
+    )
 
 walk-point-requires : tie.Need-walk-point-requires
 walk-point-requires c κs =
@@ -41,7 +51,13 @@ next-indices-requires c κs =
 returns-4 : tie.Need-returns-4
 unfolding firstOf pointStep
 returns-4 c =
-    simp (sym (c .before .before .before .before .before .before .before .before .box-refused .ensures) ∙ c .before .before .before .before .before .before .before .if1 .left, sym (c .before .before .before .before .before .before .walk-refused .ensures) ∙ c .before .before .before .before .before .if2 .left, lt-ltb _ _ (c .before .before .if3 .left))
+    simp (
+      sym (c .before .before .before .before .before .before .before .before .box-refused .ensures)
+          ∙ c .before .before .before .before .before .before .before .if1 .left,
+      sym (c .before .before .before .before .before .before .walk-refused .ensures)
+          ∙ c .before .before .before .before .before .if2 .left,
+      lt-ltb _ _ (c .before .before .if3 .left),
+    )
     (ap₂ Point (c .before .walk-point .ensures) (c .next-indices .ensures))
 
 pub point-step-spec : {M : Type 1} → statement M

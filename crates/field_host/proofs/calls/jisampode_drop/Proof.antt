@@ -38,13 +38,24 @@ same-length-4 c = search needs
 same-length-5 : tie.Need-same-length-5
 same-length-5 c = search needs
 
+-- ---- from the end back to the call, to what it was given, and to the start
+
+abbrev at-call : tie.After-hand-back → tie.After-drop
+at-call p = p .before .before .before .before .before .before .before .before .before .before .before .before .before .before .before
+
+abbrev at-record : tie.After-drop → tie.After-no-record
+at-record p = p .before .before .before .before .before .before
+
+abbrev start : tie.After-no-record → tie.Start
+start p = p .before .before .before .before .before .before
+
 returns : tie.Need-returns
 returns c =
-    let a = c .before .before .before .before .before .before .before .before .before .before .before .before .before .before .before .before .before .before .before .before .before .before .before .before .before .before .before .args in
+    let a = start (at-record (at-call c)) .args in
     let old : Carried = carriedOf (now (a .record-words)) (now (a .record-parts)) (now (a .record-settings)) (now (a .record-reals)) in
     let m : Memory = memoryOf (now (a .kinds)) (now (a .numbers)) (now (a .places)) (now (a .store)) (now (a .corners)) in
-    let none = c .before .before .before .before .before .before .before .before .before .before .before .before .before .before .before .before .before .before .before .before .before .no-record .ensures in
-    let dropped = c .before .before .before .before .before .before .before .before .before .before .before .before .before .before .before .drop .ensures in
+    let none = at-record (at-call c) .no-record .ensures in
+    let dropped = at-call c .drop .ensures in
     let whole = dropped .0 ∙ ap (λ (r : Record). called drops r m .outcome) none in
     let back = c .hand-back .ensures in
     let same = drop-from-none old m in (

@@ -9,7 +9,7 @@ use Rattle.sparse_field.specs.Calls.{called, Handed}
 use Rattle.field_host.specs.Carried.{Carried, carriedOf}
 use Rattle.schedule.specs.Calls.{opens}
 use Rattle.model.specs.Flat.{flatOf}
-use Rattle.sparse_field.specs.declared.Input.{Input}
+use Rattle.input.specs.declared.Input.{Input}
 use Rattle.sparse_field.specs.declared.Record.{Record}
 use Rattle.sparse_field.specs.Records.{noRecord}
 use Rattle.field_host.specs.Given.{inputGiven}
@@ -45,16 +45,29 @@ same-length-4 c = search needs
 same-length-5 : tie.Need-same-length-5
 same-length-5 c = search needs
 
+-- ---- from the end back to the call, to what it was given, and to the start
+
+abbrev at-call : tie.After-hand-back → tie.After-open
+at-call p = p .before .before .before .before .before .before .before .before .before .before .before .before .before .before .before
+
+abbrev at-input : tie.After-open → tie.After-input-given
+at-input p = p .before .before .before .before .before .before .before
+
+abbrev start : tie.After-input-given → tie.Start
+start p = p .before .before .before .before .before .before
+
 returns : tie.Need-returns
 returns c =
-    let a = c .before .before .before .before .before .before .before .before .before .before .before .before .before .before .before .before .before .before .before .before .before .before .before .before .before .before .before .before .args in
+    let a = start (at-input (at-call c)) .args in
     let old : Carried = carriedOf (now (a .record-words)) (now (a .record-parts)) (now (a .record-settings)) (now (a .record-reals)) in
     let m : Memory = memoryOf (now (a .kinds)) (now (a .numbers)) (now (a .places)) (now (a .store)) (now (a .corners)) in
     let i : Input = inputGiven (now (a .settings)) (a .inner) (a .leaf) (flatOf (now (a .parts)) (now (a .reals))) (a .count) in
-    let none = c .before .before .before .before .before .before .before .before .before .before .before .before .before .before .before .before .before .before .before .before .before .no-record .ensures in
-    let given = c .before .before .before .before .before .before .before .before .before .before .before .before .before .before .before .before .before .before .before .before .before .before .input-given .ensures in
-    let opened = c .before .before .before .before .before .before .before .before .before .before .before .before .before .before .before .«open» .ensures in
-    let from = ap (λ (r : Record). called (opens (c .before .before .before .before .before .before .before .before .before .before .before .before .before .before .before .before .before .before .before .before .before .before .input-given .result)) r m) none ∙ ap (λ (x : Input). called (opens x) noRecord m) given in
+    let none = at-call c .before .before .before .before .before .before .no-record .ensures in
+    let given = at-input (at-call c) .input-given .ensures in
+    let opened = at-call c .«open» .ensures in
+    let from =
+    ap (λ (r : Record). called (opens (at-input (at-call c) .input-given .result)) r m) none
+    ∙ ap (λ (x : Input). called (opens x) noRecord m) given in
     let whole = opened .0 ∙ ap (λ (h : Handed). h .outcome) from in
     let back = c .hand-back .ensures in
     let same = open-from-none old m i in (

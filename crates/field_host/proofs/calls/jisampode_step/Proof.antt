@@ -37,14 +37,25 @@ same-length-4 c = search needs
 same-length-5 : tie.Need-same-length-5
 same-length-5 c = search needs
 
+-- ---- from the end back to the call, to what it was given, and to the start
+
+abbrev at-call : tie.After-hand-back → tie.After-step
+at-call p = p .before .before .before .before .before .before .before .before .before .before .before .before .before .before .before
+
+abbrev at-record : tie.After-step → tie.After-decode
+at-record p = p .before .before .before .before .before .before
+
+abbrev start : tie.After-decode → tie.Start
+start p = p .before .before .before .before .before .before .before .before .before .before
+
 returns : tie.Need-returns
 unfolding hosted
 returns c =
-    let a = c .before .before .before .before .before .before .before .before .before .before .before .before .before .before .before .before .before .before .before .before .before .before .before .before .before .before .before .before .before .before .before .args in
+    let a = start (at-record (at-call c)) .args in
     let old : Carried = carriedOf (now (a .record-words)) (now (a .record-parts)) (now (a .record-settings)) (now (a .record-reals)) in
     let m : Memory = memoryOf (now (a .kinds)) (now (a .numbers)) (now (a .places)) (now (a .store)) (now (a .corners)) in
-    let found = c .before .before .before .before .before .before .before .before .before .before .before .before .before .before .before .before .before .before .before .before .before .decode .ensures in
-    let stepped = c .before .before .before .before .before .before .before .before .before .before .before .before .before .before .before .step .ensures in
+    let found = at-record (at-call c) .decode .ensures in
+    let stepped = at-call c .step .ensures in
     let whole = stepped .0 ∙ ap (λ (r : Record). called (steps (a .budget)) r m .outcome) found in
     let back = c .hand-back .ensures in (
       back .0 ∙ ap (λ (o : Outcome). answerNumber (o .answer)) whole,

@@ -24,7 +24,9 @@ returns c =
     let put = c .put-count .ensures in (
       put .0 ∙ ap cornersNumber (listed .0),
       (
-        subst (λ (x : CornerList). HoldsCorners x (a .inner) (now (a .kinds)) (now (a .list)) (c .before .before .before .before .corner-list .last .1 .1 .0)) (listed .0) (listed .1),
+        subst
+            (λ (x : CornerList). HoldsCorners x (a .inner) (now (a .kinds)) (now (a .list))
+            (c .before .before .before .before .corner-list .last .1 .1 .0)) (listed .0) (listed .1),
         put .1 ∙ ap (cornersCount (now (a .count))) (listed .0),
       ),
     )

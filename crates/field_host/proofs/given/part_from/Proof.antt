@@ -57,7 +57,10 @@ returns-8 c = rw (c .match .keys8) refl
 returns-9 : tie.Need-returns-9
 returns-9 c =
     let none = c .match .rest in
-    sym (unknown _ _ _ _ _ (beyond _ (none .0 .0 .0 .0 .0 .0 .0 .1) (none .0 .0 .0 .0 .0 .0 .1) (none .0 .0 .0 .0 .0 .1) (none .0 .0 .0 .0 .1) (none .0 .0 .0 .1) (none .0 .0 .1) (none .0 .1) (none .1)))
+    sym
+    (unknown _ _ _ _ _
+    (beyond _ (none .0 .0 .0 .0 .0 .0 .0 .1) (none .0 .0 .0 .0 .0 .0 .1) (none .0 .0 .0 .0 .0 .1) (none .0 .0 .0 .0 .1)
+    (none .0 .0 .0 .1) (none .0 .0 .1) (none .0 .1) (none .1)))
 
 pub part-from-spec : {M : Type 1} → statement M
 part-from-spec =

@@ -1,10 +1,11 @@
 -- `needed::jisampode_lengths` meets its contract, for an input with a cause and without.
 use borrow.Author.Needs.{needs}
 use mathlib.Core.Path.{refl, sym, ap, _∙_}
-use Rattle.sparse_field.specs.declared.Input.{Input}
-use Rattle.sparse_field.specs.Records.{numberOf}
-use Rattle.sparse_field.proofs.Judgement.{no-cause}
-use Rattle.field_host.specs.Needed.{neededLengths, lengthList, longest, anyRefusal, refusalNumber, lengthsLeft}
+use Rattle.input.specs.declared.Input.{Input}
+use Rattle.input.specs.Causes.{numberOf}
+use Rattle.input.proofs.Clear.{no-cause}
+use Rattle.input.specs.Needed.{neededLengths}
+use Rattle.field_host.specs.Needed.{lengthList, longest, anyRefusal, lengthsLeft}
 use Rattle.field_host.proofs.needed.jisampode_lengths.Statement.{statement}
 use Rattle.field_host.proofs.needed.jisampode_lengths.Tie as tie
 
@@ -18,9 +19,13 @@ enum-known-refusal : tie.Need-enum-known-refusal
 enum-known-refusal c = search needs
 
 returns : tie.Need-returns
-unfolding refusalNumber lengthsLeft
+unfolding lengthsLeft
 returns c =
-    let known = sym (c .before .before .before .any-refusal .ensures ∙ ap (λ (x : Input). anyRefusal x) (c .before .before .before .before .input-given .ensures)) ∙ c .before .refusal .given .1 in
+    let known =
+    sym
+    (c .before .before .before .any-refusal .ensures
+    ∙ ap (λ (x : Input). anyRefusal x) (c .before .before .before .before .input-given .ensures))
+    ∙ c .before .refusal .given .1 in
     (rw known refl, rw known refl)
 
 enum-told : tie.Need-enum-told
@@ -29,14 +34,18 @@ enum-told c = search needs
 needed-lengths-requires : tie.Need-needed-lengths-requires
 needed-lengths-requires c κs =
     let i : Input = c .before .before .before .input-given .result in
-    let none = no-cause (i .grid) (i .band) (i .model) longest (ap numberOf (sym (c .before .before .any-refusal .ensures) ∙ c .enum-told .given .1)) in
+    let none = no-cause i longest (ap numberOf (sym (c .before .before .any-refusal .ensures) ∙ c .enum-told .given .1)) in
     (none .two, none .five)
 
 returns-2 : tie.Need-returns-2
-unfolding refusalNumber lengthsLeft
+unfolding lengthsLeft
 returns-2 c =
     let given = c .before .before .before .before .before .input-given .ensures in
-    let known = sym (c .before .before .before .before .any-refusal .ensures ∙ ap (λ (x : Input). anyRefusal x) (c .before .before .before .before .before .input-given .ensures)) ∙ c .before .before .enum-told .given .1 in
+    let known =
+    sym
+    (c .before .before .before .before .any-refusal .ensures
+    ∙ ap (λ (x : Input). anyRefusal x) (c .before .before .before .before .before .input-given .ensures))
+    ∙ c .before .before .enum-told .given .1 in
     let lengths = ap lengthList (c .before .needed-lengths .ensures) ∙ ap (λ (x : Input). lengthList (neededLengths (x .grid))) given in
     (rw known refl, rw known lengths)
 

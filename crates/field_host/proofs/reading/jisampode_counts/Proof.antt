@@ -1,7 +1,6 @@
 -- `reading::jisampode_counts` meets its contract.
 use borrow.Author.Needs.{needs}
 use mathlib.Core.Path.{refl, sym, ap, _∙_}
-use mathlib.Core.Path.{refl, sym, ap, _∙_}
 use borrow.Author.Tests.{ne-eqb}
 use Rattle.field_host.specs.Hosted.{countsList}
 use Rattle.field_host.proofs.reading.jisampode_counts.Statement.{statement}
@@ -15,8 +14,9 @@ counts-given-requires c κs = search needs
 
 returns : tie.Need-returns
 returns c =
-    let number = c .before .before .before .words-number .ensures in
-    (number, rw (sym number ∙ c .before .before .if1 .taken) (ap countsList (c .before .counts-given .ensures)))
+    let read = c .before .before in
+    let number = read .before .before .words-number .ensures in
+    (number, rw (sym number ∙ read .before .if1 .taken) (ap countsList (read .counts-given .ensures)))
 
 returns-2 : tie.Need-returns-2
 returns-2 c =

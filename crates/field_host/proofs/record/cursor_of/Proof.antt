@@ -1,6 +1,6 @@
 -- `record::cursor_of` meets its contract, for each tag.
 use Prim.Native.Nat.{ℕ, zero, suc}
-use Rattle.sparse_field.specs.declared.Cursor.the-variants.{Point}
+use Rattle.schedule.specs.declared.Cursor.the-variants.{Point}
 use mathlib.Core.Path.{_≡_, refl}
 use Rattle.field_host.specs.Carried.{cursorOf}
 use Rattle.field_host.proofs.record.cursor_of.Statement.{statement}

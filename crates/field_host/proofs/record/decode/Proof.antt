@@ -3,7 +3,7 @@ use borrow.Author.Needs.{needs}
 use borrow.Author.Tests.{not-true, not-false}
 use mathlib.Core.Path.{sym, ap, _∙_}
 use denote.Ref.{now}
-use Rattle.sparse_field.specs.declared.Input.{Input}
+use Rattle.input.specs.declared.Input.{Input}
 use native.Mathlib.Omega.{arith}
 use Rattle.field_host.specs.Carried.{decoded, recordGiven}
 use Rattle.field_host.proofs.Fitting.{inner-fits, leaf-fits, count-fits}
@@ -58,7 +58,9 @@ returns-2 : tie.Need-returns-2
 unfolding decoded
 returns-2 c =
     let a = c .before .before .before .before .before .before .before .args in
-    let fit = sym (c .before .before .before .before .before .before .words-fit .ensures) ∙ not-false _ (c .before .before .before .before .before .if1 .left) in
+    let fit =
+    sym (c .before .before .before .before .before .before .words-fit .ensures)
+    ∙ not-false _ (c .before .before .before .before .before .if1 .left) in
     rw fit (c .record-given .ensures ∙ ap (λ (i : Input). recordGiven i (now (a .words))) (c .before .input-given .ensures))
 
 pub decode-spec : {M : Type 1} → statement M

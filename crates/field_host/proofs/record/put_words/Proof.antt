@@ -10,18 +10,18 @@ cursor-words-requires c κs = search needs
 flag-word-requires : tie.Need-flag-word-requires
 flag-word-requires c κs = search needs
 
-cast-t11 : tie.Need-cast-t11
-cast-t11 c = search needs
-
 cast-t12 : tie.Need-cast-t12
 cast-t12 c = search needs
 
 cast-t13 : tie.Need-cast-t13
 cast-t13 c = search needs
 
+cast-t14 : tie.Need-cast-t14
+cast-t14 c = search needs
+
 returns : tie.Need-returns
 returns c =
-    let r = c .before .before .before .before .before .before .before .before .before .before .before .args .r in
+    let r = c .before .before .before .before .before .before .before .before .before .before .before .before .args .r in
     let l = r .lengths in
     let k = r .counts in
     let flag = c .before .before .before .before .flag-word .ensures in
@@ -30,11 +30,11 @@ returns c =
     flag i
     ∷ r .input .grid .inner ∷ r .input .grid .leaf ∷ r .input .model .count
     ∷ l .kinds ∷ l .numbers ∷ l .places ∷ l .store ∷ l .corners
-    ∷ k .nodes ∷ k .active ∷ k .leaves ∷ k .sampled ∷ k .evaluations
+    ∷ k .grid .nodes ∷ k .grid .active ∷ k .leaves ∷ k .sampled ∷ k .evaluations
     ∷ at .0 i ∷ at .1 i ∷ at .2 i ∷ at .3 i
     ∷ []
 
 pub put-words-spec : {M : Type 1} → statement M
 put-words-spec =
     tie.close
-    (tie.spec cursor-words-requires flag-word-requires cast-t11 cast-t12 cast-t13 returns)
+    (tie.spec cursor-words-requires flag-word-requires cast-t12 cast-t13 cast-t14 returns)

@@ -11,7 +11,10 @@ no-record-requires c κs = search needs
 returns : tie.Need-returns
 returns c =
     let job = c .before .before .before .before .args .job in
-    ap (λ (n : Record). record { job = job; input = n .input; lengths = n .lengths; counts = n .counts; cursor = n .cursor }) (c .before .before .before .no-record .ensures)
+    ap
+    (λ (n : Record). record
+    { job = job; input = n .input; lengths = n .lengths; counts = n .counts; cursor = n .cursor })
+    (c .before .before .before .no-record .ensures)
 
 pub unread-record-spec : {M : Type 1} → statement M
 unread-record-spec = tie.close (tie.spec no-record-requires returns)

@@ -2,7 +2,7 @@
 use mathlib.Core.Path.{_≡_, sym, _∙_}
 use Prim.Native.Nat.{_-_, _≤_}
 use lib.ListN.{length, drop}
-use Rattle.forms.specs.Inner.Answers.{Finds}
+use Rattle.forms.specs.Inner.Places.{Finds}
 use Rattle.forms.specs.Fronts.{decimalAfter}
 use Rattle.forms.proofs.Turns.{after-turn, after-past, after-ends, after-all}
 use borrow.Author.Needs.{needs}
@@ -11,7 +11,9 @@ use Rattle.forms.proofs.reading.digits_after.Statement.{statement}
 use Rattle.forms.proofs.reading.digits_after.Tie as tie
 
 abbrev Inv-loop : tie.InvT-loop
-Inv-loop text at first limit value₀ place₀ value place = (decimalAfter limit value (drop place text) ≡ decimalAfter limit first (drop at text)) × (value ≤ limit) × (place ≤ length text)
+Inv-loop text at first limit value₀ place₀ value place =
+    (decimalAfter limit value (drop place text) ≡ decimalAfter limit first (drop at text)) × (value ≤ limit)
+    × (place ≤ length text)
 
 abbrev μ-loop : tie.MeasureT-loop
 μ-loop text at first limit value₀ place₀ value place = length text - place
@@ -27,7 +29,12 @@ digit-of-requires c κs = search needs
 
 returns : tie.Need-returns Inv-loop μ-loop
 unfolding Finds
-returns c = (sym (c .before .before .before .before .loop .inv .0) ∙ after-ends _ _ _ (c .before .before .before .loop-test .taken) (c .before .digit-of .ensures) _ _ (c .if1 .taken), omega arith)
+returns c = (
+  sym (c .before .before .before .before .loop .inv .0)
+      ∙ after-ends _ _ _ (c .before .before .before .loop-test .taken) (c .before .digit-of .ensures) _ _
+      (c .if1 .taken),
+  omega arith,
+)
 
 mul-more : tie.Need-mul-more Inv-loop μ-loop
 mul-more c = search needs
@@ -37,7 +44,10 @@ add-more c = search needs
 
 returns-2 : tie.Need-returns-2 Inv-loop μ-loop
 unfolding Finds
-returns-2 c = sym (c .before .before .before .before .before .loop .inv .0) ∙ after-past _ _ _ (c .before .before .before .before .loop-test .taken) (c .before .before .digit-of .ensures) _ _ (omega arith) (c .if2 .taken)
+returns-2 c =
+    sym (c .before .before .before .before .before .loop .inv .0)
+    ∙ after-past _ _ _ (c .before .before .before .before .loop-test .taken) (c .before .before .digit-of .ensures) _ _
+    (omega arith) (c .if2 .taken)
 
 add-place : tie.Need-add-place Inv-loop μ-loop
 add-place c = search needs
@@ -46,7 +56,13 @@ loop-less : tie.Need-loop-less Inv-loop μ-loop
 loop-less c = search needs
 
 loop-again : tie.Need-loop-again Inv-loop μ-loop
-loop-again c = (after-turn _ _ _ (c .before .before .before .before .loop-test .taken) (c .before .before .digit-of .ensures) _ _ (omega arith) (c .if2 .left) ∙ c .before .before .before .before .before .loop .inv .0, omega arith, omega arith)
+loop-again c = (
+  after-turn _ _ _ (c .before .before .before .before .loop-test .taken) (c .before .before .digit-of .ensures) _
+      _ (omega arith) (c .if2 .left)
+      ∙ c .before .before .before .before .before .loop .inv .0,
+  omega arith,
+  omega arith,
+)
 
 returns-3 : tie.Need-returns-3 Inv-loop μ-loop
 unfolding Finds

@@ -1,5 +1,5 @@
 -- `read_byte` meets its contract.
-use Rattle.forms.specs.Inner.Answers.{Finds}
+use Rattle.forms.specs.Inner.Places.{Finds}
 use Rattle.forms.proofs.Turns.{byte-here, byte-off, byte-ended}
 use borrow.Author.Needs.{needs}
 use native.Mathlib.Omega.{arith}

@@ -1,5 +1,5 @@
 -- `read_decimal` meets its contract: one law for each way out.
-use Rattle.forms.specs.Inner.Answers.{Finds}
+use Rattle.forms.specs.Inner.Places.{Finds}
 use Rattle.forms.proofs.AnswerLaws.{finds-same}
 use Rattle.forms.proofs.Turns.{front-ended, front-nought, front-none, front-large, front-first}
 use borrow.Author.Needs.{needs}
@@ -30,7 +30,9 @@ returns-3 c = front-none _ _ _ (c .before .before .before .before .if1 .left) (c
 
 returns-4 : tie.Need-returns-4
 unfolding Finds
-returns-4 c = front-large _ _ _ (c .before .before .before .before .before .if1 .left) (c .before .before .digit-of .ensures) _ (c .before .before .before .if2 .left) (omega arith) (c .if4 .taken)
+returns-4 c =
+    front-large _ _ _ (c .before .before .before .before .before .if1 .left) (c .before .before .digit-of .ensures) _
+    (c .before .before .before .if2 .left) (omega arith) (c .if4 .taken)
 
 add-digits-after : tie.Need-add-digits-after
 add-digits-after c = search needs
@@ -39,7 +41,11 @@ digits-after-requires : tie.Need-digits-after-requires
 digits-after-requires c κs = search needs
 
 returns-5 : tie.Need-returns-5
-returns-5 c = finds-same _ _ _ (c .digits-after .ensures) _ (front-first _ _ _ (c .before .before .before .before .before .before .if1 .left) (c .before .before .before .digit-of .ensures) _ (c .before .before .before .before .if2 .left) (omega arith) (c .before .if4 .left))
+returns-5 c =
+    finds-same _ _ _ (c .digits-after .ensures) _
+    (front-first _ _ _ (c .before .before .before .before .before .before .if1 .left)
+    (c .before .before .before .digit-of .ensures) _ (c .before .before .before .before .if2 .left) (omega arith)
+    (c .before .if4 .left))
 
 pub read-decimal-spec : {M : Type 1} → statement M
 read-decimal-spec =

@@ -2,7 +2,7 @@
 use mathlib.Core.Path.{refl}
 use Prim.Native.Nat.{_-_}
 use lib.ListN.{length}
-use Rattle.forms.specs.Inner.Answers.{ReadsTo}
+use Rattle.forms.specs.Inner.Places.{ReadsTo}
 use Rattle.forms.proofs.AnswerLaws.{finds-off, finds-number}
 use Rattle.forms.proofs.FormTurns.{Kept, kept-first, kept-room, kept-off, kept-turn, kept-done}
 use borrow.Author.Needs.{needs}
@@ -33,13 +33,26 @@ enum-told c = search needs
 
 returns : tie.Need-returns Inv-loop μ-loop
 unfolding ReadsTo
-returns c = (kept-off _ _ _ _ _ _ _ _ (c .before .before .before .before .loop-test .taken) (c .before .before .before .before .before .loop .inv) (finds-off _ _ _ (c .before .before .read-piece .ensures) (c .enum-told .given .1)), refl)
+returns c = (
+  kept-off _ _ _ _ _ _ _ _ (c .before .before .before .before .loop-test .taken)
+      (c .before .before .before .before .before .loop .inv)
+      (finds-off _ _ _ (c .before .before .read-piece .ensures) (c .enum-told .given .1)),
+  refl,
+)
 
 keep-requires : tie.Need-keep-requires Inv-loop μ-loop
-keep-requires c κs = kept-room _ _ _ _ _ _ _ _ (c .before .before .before .before .before .before .loop-test .taken) (c .before .before .before .before .before .before .before .loop .inv) (c .before .before .before .before .before .before .before .before .before .before .pre .1)
+keep-requires c κs =
+    kept-room _ _ _ _ _ _ _ _ (c .before .before .before .before .before .before .loop-test .taken)
+    (c .before .before .before .before .before .before .before .loop .inv)
+    (c .before .before .before .before .before .before .before .before .before .before .pre .1)
 
 next-field-requires : tie.Need-next-field-requires Inv-loop μ-loop
-next-field-requires c κs = omega (arith, c .before .before .before .before .before .before .before .before .loop .inv .count-left, c .before .before .before .before .before .before .before .before .before .before .before .pre .1)
+next-field-requires c κs =
+    omega (
+      arith,
+      c .before .before .before .before .before .before .before .before .loop .inv .count-left,
+      c .before .before .before .before .before .before .before .before .before .before .before .pre .1,
+    )
 
 add-i : tie.Need-add-i Inv-loop μ-loop
 add-i c = search needs
@@ -49,10 +62,14 @@ loop-less c = search needs
 
 loop-again : tie.Need-loop-again Inv-loop μ-loop
 loop-again c =
-    let read = finds-number _ _ _ (c .before .before .before .before .before .before .read-piece .ensures) _ _ (c .before .before .before .before .x .given .1) in
+    let read =
+    finds-number _ _ _ (c .before .before .before .before .before .before .read-piece .ensures) _ _
+    (c .before .before .before .before .x .given .1) in
     let taken = c .before .before .before .before .before .before .before .before .loop-test .taken in
     let inv = c .before .before .before .before .before .before .before .before .before .loop .inv in
-    kept-turn _ _ _ _ _ _ _ _ taken inv _ _ (read .0) (c .before .before .before .before .before .before .before .before .before .before .before .before .pre .1) (read .1) _ _ (c .before .keep .ensures) (c .next-field .ensures)
+    kept-turn _ _ _ _ _ _ _ _ taken inv _ _ (read .0)
+    (c .before .before .before .before .before .before .before .before .before .before .before .before .pre .1)
+    (read .1) _ _ (c .before .keep .ensures) (c .next-field .ensures)
 
 returns-2 : tie.Need-returns-2 Inv-loop μ-loop
 returns-2 c = kept-done _ _ _ _ _ _ _ _ (c .loop-test .left) (c .before .loop .inv)

@@ -2,7 +2,7 @@
 use mathlib.Core.Path.{_≡_, sym, _∙_}
 use Prim.Native.Nat.{_+_, _*_, _^_, _≤_, _<_}
 use lib.ListN.{length, drop}
-use Rattle.forms.specs.Inner.Answers.{Finds}
+use Rattle.forms.specs.Inner.Places.{Finds}
 use Rattle.forms.specs.Fronts.{hexAfter}
 use Rattle.forms.proofs.Turns.{hex-ended, hex-turn, hex-stop, hex-done, room-one, room-turn}
 use borrow.Author.Needs.{needs}
@@ -11,7 +11,9 @@ use Rattle.forms.proofs.reading.read_hex.Statement.{statement}
 use Rattle.forms.proofs.reading.read_hex.Tie as tie
 
 abbrev Inv-loop : tie.InvT-loop
-Inv-loop text at value₀ place₀ left₀ value place left = (hexAfter left value (drop place text) ≡ hexAfter 16 0 (drop at text)) × ((value + 1) * 16 ^ left ≤ 2 ^ 64) × (place ≤ length text)
+Inv-loop text at value₀ place₀ left₀ value place left =
+    (hexAfter left value (drop place text) ≡ hexAfter 16 0 (drop at text)) × ((value + 1) * 16 ^ left ≤ 2 ^ 64)
+    × (place ≤ length text)
 
 abbrev μ-loop : tie.MeasureT-loop
 μ-loop text at value₀ place₀ left₀ value place left = left
@@ -31,7 +33,10 @@ digit-of-requires c κs = search needs
 
 returns-2 : tie.Need-returns-2 Inv-loop μ-loop
 unfolding Finds
-returns-2 c = sym (c .before .before .before .before .before .loop .inv .0) ∙ hex-stop _ _ _ (c .before .before .before .if1 .left) (c .before .digit-of .ensures) _ _ (c .before .before .before .before .loop-test .taken) (c .if2 .taken)
+returns-2 c =
+    sym (c .before .before .before .before .before .loop .inv .0)
+    ∙ hex-stop _ _ _ (c .before .before .before .if1 .left) (c .before .digit-of .ensures) _ _
+    (c .before .before .before .before .loop-test .taken) (c .if2 .taken)
 
 mul-value : tie.Need-mul-value Inv-loop μ-loop
 mul-value c = omega (arith, room-one _ _ (c .before .before .before .before .loop-test .taken) (c .before .before .before .before .before .loop .inv .1))
@@ -50,7 +55,9 @@ loop-less c = search needs
 
 loop-again : tie.Need-loop-again Inv-loop μ-loop
 loop-again c = let digit : c .before .digit-of .result < 16 = omega arith in (
-  hex-turn _ _ _ (c .before .before .before .if1 .left) (c .before .digit-of .ensures) _ _ (c .before .before .before .before .loop-test .taken) digit ∙ c .before .before .before .before .before .loop .inv .0,
+  hex-turn _ _ _ (c .before .before .before .if1 .left) (c .before .digit-of .ensures) _ _
+      (c .before .before .before .before .loop-test .taken) digit
+      ∙ c .before .before .before .before .before .loop .inv .0,
   room-turn _ _ _ (c .before .before .before .before .loop-test .taken) digit (c .before .before .before .before .before .loop .inv .1),
   omega arith,
 )

@@ -13,7 +13,9 @@ use Rattle.forms.proofs.writing.form_length.Statement.{statement}
 use Rattle.forms.proofs.writing.form_length.Tie as tie
 
 abbrev Inv-loop : tie.InvT-loop
-Inv-loop form numbers total₀ count₀ i₀ total count i = (total + length (spellFrom form numbers i count) ≡ length (spell (map pieceOf form) numbers)) × (total ≤ 20 * i) × (count ≤ i) × (i ≤ length form)
+Inv-loop form numbers total₀ count₀ i₀ total count i =
+    (total + length (spellFrom form numbers i count) ≡ length (spell (map pieceOf form) numbers)) × (total ≤ 20 * i)
+    × (count ≤ i) × (i ≤ length form)
 
 abbrev μ-loop : tie.MeasureT-loop
 μ-loop form numbers total₀ count₀ i₀ total count i = length form - i
@@ -31,7 +33,15 @@ piece-length-requires : tie.Need-piece-length-requires Inv-loop μ-loop
 piece-length-requires c κs = search needs
 
 add-total : tie.Need-add-total Inv-loop μ-loop
-add-total c = let f = c .before .before .before .before .before .before .before .args .form .now in omega (arith, c .before .before .before .before .loop .inv .1, c .piece-length .ensures, piece-widest (pieceOf (getD f (c .before .before .before .before .loop .i) 0)) (c .before .number-at .result))
+add-total c =
+    let f = c .before .before .before .before .before .before .before .args .form .now in
+    omega (
+      arith,
+      c .before .before .before .before .loop .inv .1,
+      c .piece-length .ensures,
+      piece-widest (pieceOf (getD f (c .before .before .before .before .loop .i) 0))
+          (c .before .number-at .result),
+    )
 
 next-field-requires : tie.Need-next-field-requires Inv-loop μ-loop
 next-field-requires c κs = search needs
@@ -47,7 +57,9 @@ loop-again c =
     let a = c .before .before .before .before .before .before .before .before .args in
     let s = c .before .before .before .before .before .loop in
     let turn =
-    length-turn (a .form .now) (a .numbers .now) (s .i) (s .count) (c .before .before .number-at .result) (c .before .before .before .before .loop-test .taken) (c .before .before .number-at .ensures) (c .next-field .result) (c .next-field .ensures) in (
+    length-turn (a .form .now) (a .numbers .now) (s .i) (s .count) (c .before .before .number-at .result)
+    (c .before .before .before .before .loop-test .taken) (c .before .before .number-at .ensures)
+    (c .next-field .result) (c .next-field .ensures) in (
       omega (arith, turn, s .inv .0, c .before .piece-length .ensures),
       omega (arith, s .inv .1, c .before .piece-length .ensures, piece-widest (pieceOf (getD (a .form .now) (s .i) 0)) (c .before .before .number-at .result)),
       count-goes _ _ _ _ (c .next-field .ensures) (s .inv .2),

@@ -12,7 +12,9 @@ use Rattle.forms.proofs.writing.put_digits.Statement.{statement}
 use Rattle.forms.proofs.writing.put_digits.Tie as tie
 
 abbrev Inv-loop : tie.InvT-loop
-Inv-loop x base count at out₀ rest₀ left₀ out rest left = (sets out at (digits base left rest) ≡ sets out₀ at (digits base count x)) × (left ≤ count) × (length out ≡ length out₀)
+Inv-loop x base count at out₀ rest₀ left₀ out rest left =
+    (sets out at (digits base left rest) ≡ sets out₀ at (digits base count x)) × (left ≤ count)
+    × (length out ≡ length out₀)
 
 abbrev μ-loop : tie.MeasureT-loop
 μ-loop x base count at out₀ rest₀ left₀ out rest left = left
@@ -42,7 +44,11 @@ loop-less : tie.Need-loop-less Inv-loop μ-loop
 loop-less c = search needs
 
 loop-again : tie.Need-loop-again Inv-loop μ-loop
-loop-again c = (put-turn _ _ _ _ _ _ (c .before .loop-test .taken) (c .digit-byte .ensures) ∙ c .before .before .loop .inv .0, omega arith, simp length-set (c .before .before .loop .inv .2))
+loop-again c = (
+  put-turn _ _ _ _ _ _ (c .before .loop-test .taken) (c .digit-byte .ensures) ∙ c .before .before .loop .inv .0,
+  omega arith,
+  simp length-set (c .before .before .loop .inv .2),
+)
 
 same-length : tie.Need-same-length Inv-loop μ-loop
 same-length c = c .before .loop .inv .2

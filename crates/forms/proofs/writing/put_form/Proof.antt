@@ -12,7 +12,10 @@ use Rattle.forms.proofs.writing.put_form.Statement.{statement}
 use Rattle.forms.proofs.writing.put_form.Tie as tie
 
 abbrev Inv-loop : tie.InvT-loop
-Inv-loop form numbers at out₀ place₀ count₀ i₀ out place count i = (sets out place (spellFrom form numbers i count) ≡ sets out₀ at (spell (map pieceOf form) numbers)) × (place + length (spellFrom form numbers i count) ≡ at + length (spell (map pieceOf form) numbers)) × (length out ≡ length out₀) × (count ≤ i) × (i ≤ length form)
+Inv-loop form numbers at out₀ place₀ count₀ i₀ out place count i =
+    (sets out place (spellFrom form numbers i count) ≡ sets out₀ at (spell (map pieceOf form) numbers))
+    × (place + length (spellFrom form numbers i count) ≡ at + length (spell (map pieceOf form) numbers))
+    × (length out ≡ length out₀) × (count ≤ i) × (i ≤ length form)
 
 abbrev μ-loop : tie.MeasureT-loop
 μ-loop form numbers at out₀ place₀ count₀ i₀ out place count i = length form - i
@@ -35,7 +38,8 @@ put-piece-requires c κs =
       s .inv .1,
       s .inv .2,
       c .before .before .before .before .before .before .before .before .pre,
-      piece-within (a .form .now) (a .numbers .now) (s .i) (s .count) (c .before .number-at .result) (c .before .before .before .loop-test .taken) (c .before .number-at .ensures),
+      piece-within (a .form .now) (a .numbers .now) (s .i) (s .count) (c .before .number-at .result)
+          (c .before .before .before .loop-test .taken) (c .before .number-at .ensures),
     )
 
 next-field-requires : tie.Need-next-field-requires Inv-loop μ-loop
@@ -56,7 +60,13 @@ loop-again c =
     let number = c .before .before .before .before .before .number-at .ensures in
     let goes = c .next-field .ensures in (
       stores-turn _ _ _ _ _ taken number _ goes _ _ _ _ (put .ensures .1) (put .ensures .0) ∙ s .inv .0,
-      omega (arith, s .inv .1, put .ensures .0, length-turn (a .form .now) (a .numbers .now) (s .i) (s .count) (c .before .before .before .before .before .number-at .result) taken number (c .next-field .result) goes),
+      omega (
+        arith,
+        s .inv .1,
+        put .ensures .0,
+        length-turn (a .form .now) (a .numbers .now) (s .i) (s .count)
+            (c .before .before .before .before .before .number-at .result) taken number (c .next-field .result) goes,
+      ),
       put .kept .1 .1 .1 .0 ∙ s .inv .2,
       count-goes _ _ _ _ goes (s .inv .3),
       omega arith,

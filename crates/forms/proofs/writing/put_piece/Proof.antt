@@ -28,10 +28,22 @@ decimal-count-requires : tie.Need-decimal-count-requires
 decimal-count-requires c κs = search needs
 
 put-digits-requires : tie.Need-put-digits-requires
-put-digits-requires c κs = let a = c .before .before .before .before .before .args in (omega arith, omega arith, omega (arith, c .before .decimal-count .ensures, decimal-length (a .piece) (a .x) (c .before .before .if2 .taken)))
+put-digits-requires c κs =
+    let a = c .before .before .before .before .before .args in (
+      omega arith,
+      omega arith,
+      omega
+          (arith, c .before .decimal-count .ensures, decimal-length (a .piece) (a .x) (c .before .before .if2 .taken)),
+    )
 
 add-result-2 : tie.Need-add-result-2
-add-result-2 c = let a = c .before .before .before .before .before .before .before .before .args in omega (arith, c .before .before .before .before .decimal-count .ensures, decimal-length (a .piece) (a .x) (c .before .before .before .before .before .if2 .taken))
+add-result-2 c =
+    let a = c .before .before .before .before .before .before .before .before .args in
+    omega (
+      arith,
+      c .before .before .before .before .decimal-count .ensures,
+      decimal-length (a .piece) (a .x) (c .before .before .before .before .before .if2 .taken),
+    )
 
 same-length-2 : tie.Need-same-length-2
 same-length-2 c = search needs

@@ -4,7 +4,7 @@ use Prim.Native.Nat.{max}
 use lib.Dec.{T}
 use lib.Ieee.{ofBits, toUnsigned}
 use Rattle.grid.specs.Nodes.{nodesAlong}
-use Rattle.grid.proofs.Whole.{max-above, max-below, past-all, above-minus}
+use Rattle.float.proofs.Unsigned.{max-above, max-below, past-all, above-minus}
 use borrow.Author.Needs.{needs}
 use Rattle.grid.proofs.nodes.nodes_along.Statement.{statement}
 use Rattle.grid.proofs.nodes.nodes_along.Tie as tie

@@ -10,7 +10,7 @@ use Rattle.geometry.proofs.Inverse.{column-below, line-below}
 use Rattle.geometry.proofs.Next.{next-of}
 use Rattle.grid.specs.Leaves.{leafPoint}
 use Rattle.grid.specs.Inner.Steps.{steppedPoint}
-use Rattle.grid.proofs.Division.{slab-le}
+use Rattle.geometry.proofs.Division.{slab-le}
 use Rattle.grid.proofs.Stepped.{leaf-stepped}
 use borrow.Author.Needs.{needs}
 use Rattle.grid.proofs.points.leaf_points.Statement.{statement}

@@ -1,6 +1,6 @@
 -- `half_diagonal` meets its contract.
 use Rattle.grid.specs.Pruning.{halfDiagonal}
-use Rattle.grid.proofs.Literals.{two-point}
+use Rattle.geometry.proofs.Literals.{two-point}
 use borrow.Author.Needs.{needs}
 use Rattle.grid.proofs.pruning.half_diagonal.Statement.{statement}
 use Rattle.grid.proofs.pruning.half_diagonal.Tie as tie

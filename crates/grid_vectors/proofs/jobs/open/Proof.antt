@@ -37,7 +37,7 @@ enum-told c = search needs
 
 node-total-requires : tie.Need-node-total-requires
 node-total-requires c κs =
-    nodes-fit _ _ _ _ (sym (c .enum-told .given .1) ∙ c .before .before .open-refusal .ensures)
+    nodes-fit _ _ (sym (c .enum-told .given .1) ∙ c .before .before .open-refusal .ensures)
 
 element-write-answers-2 : tie.Need-element-write-answers-2
 element-write-answers-2 c = search needs
@@ -45,7 +45,7 @@ element-write-answers-2 c = search needs
 active-children-requires : tie.Need-active-children-requires
 active-children-requires c κs =
     let none = sym (c .before .enum-told .given .1) ∙ c .before .before .before .open-refusal .ensures in
-    (blocks-right _ _ _ _ none, nodes-right _ _ _ _ none)
+    (blocks-right _ _ none, nodes-right _ _ none)
 
 element-write-answers-3 : tie.Need-element-write-answers-3
 element-write-answers-3 c = search needs

@@ -30,7 +30,10 @@ returns-3 : tie.Need-returns-3
 unfolding constantLength
 returns-3 c =
     let a = c .before .before .before .before .before .args in
-    c .form-length .ensures ∙ sym (constant-length (a .points) (a .v) (a .c) (a .kind) (c .before .before .before .before .if1 .left) (c .before .before .before .if2 .left))
+    c .form-length .ensures
+    ∙ sym
+    (constant-length (a .points) (a .v) (a .c) (a .kind) (c .before .before .before .before .if1 .left)
+    (c .before .before .before .if2 .left))
 
 pub child-length-spec : {M : Type 1} → statement M
 child-length-spec =

@@ -14,7 +14,10 @@ use Rattle.job_text.proofs.lines.put_child.Statement.{statement}
 use Rattle.job_text.proofs.lines.put_child.Tie as tie
 
 -- the leaf's stretch lies within the store
-leaf-within : (c : tie.Then2) → (c .before .before .before .before .args .place + 1) * c .before .before .before .before .args .points ≤ length (c .before .before .before .before .args .store .now)
+leaf-within :
+    (c : tie.Then2)
+    → (c .before .before .before .before .args .place + 1) * c .before .before .before .before .args .points
+    ≤ length (c .before .before .before .before .args .store .now)
 leaf-within c =
     let a = c .before .before .before .before .args in
     placed-leaf (a .points) (length (a .store .now)) (a .kind) (a .place) (c .if2 .taken) (c .before .before .before .before .pre .0 .1)
@@ -29,7 +32,13 @@ mul-from : tie.Need-mul-from
 mul-from c = let a = c .before .before .before .before .args in omega (arith, mul-le-mul-left (a .place) (c .before .before .before .before .pre .0 .0))
 
 add-to : tie.Need-add-to
-add-to c = let a = c .before .before .before .before .args in omega (arith, c .before .before .before .before .pre .0 .0, mul-le-mul-left (a .place) (c .before .before .before .before .pre .0 .0))
+add-to c =
+    let a = c .before .before .before .before .args in
+    omega (
+      arith,
+      c .before .before .before .before .pre .0 .0,
+      mul-le-mul-left (a .place) (c .before .before .before .before .pre .0 .0),
+    )
 
 mul-put-leaf : tie.Need-mul-put-leaf
 mul-put-leaf c = let a = c .before .before .before .before .args in omega (arith, mul-le-mul-left (a .place) (c .before .before .before .before .pre .0 .0))
@@ -50,9 +59,16 @@ part-put-leaf-end c =
 put-leaf-requires : tie.Need-put-leaf-requires
 put-leaf-requires c κs =
     let a = c .before .before .before .before .before .before .args in
-    let line = leaf-line (a .points) (a .v) (a .c) (a .kind) (a .nan) (a .x) (a .place) (a .store .now) (c .before .before .before .if1 .left) (c .before .before .if2 .taken) in
+    let line =
+    leaf-line (a .points) (a .v) (a .c) (a .kind) (a .nan) (a .x) (a .place) (a .store .now)
+    (c .before .before .before .if1 .left) (c .before .before .if2 .taken) in
     let values = lent-values (a .points) (a .place) (a .store .now) (leaf-within (c .before .before)) in
-    omega (arith, c .before .before .before .before .before .before .pre .1, ap length line, ap (λ (xs : List Float). length (leafLine (a .nan) (a .v) (a .c) xs)) values)
+    omega (
+      arith,
+      c .before .before .before .before .before .before .pre .1,
+      ap length line,
+      ap (λ (xs : List Float). length (leafLine (a .nan) (a .v) (a .c) xs)) values,
+    )
 
 same-length : tie.Need-same-length
 same-length c = search needs
@@ -60,7 +76,10 @@ same-length c = search needs
 returns-2 : tie.Need-returns-2
 returns-2 c =
     let a = c .before .before .before .before .before .before .before .before .before .args in
-    let line = leaf-line (a .points) (a .v) (a .c) (a .kind) (a .nan) (a .x) (a .place) (a .store .now) (c .before .before .before .before .before .before .if1 .left) (c .before .before .before .before .before .if2 .taken) in
+    let line =
+    leaf-line (a .points) (a .v) (a .c) (a .kind) (a .nan) (a .x) (a .place) (a .store .now)
+    (c .before .before .before .before .before .before .if1 .left)
+    (c .before .before .before .before .before .if2 .taken) in
     let values = lent-values (a .points) (a .place) (a .store .now) (leaf-within (c .before .before .before .before .before)) in
     let same = ap (leafLine (a .nan) (a .v) (a .c)) values ∙ sym line in
     let put = c .before .before .put-leaf .ensures in
@@ -69,7 +88,9 @@ returns-2 c =
 put-constant-requires : tie.Need-put-constant-requires
 put-constant-requires c κs =
     let a = c .before .before .before .before .before .args in
-    let line = constant-line (a .points) (a .v) (a .c) (a .kind) (a .nan) (a .x) (a .place) (a .store .now) (c .before .before .if1 .left) (c .before .if2 .left) in
+    let line =
+    constant-line (a .points) (a .v) (a .c) (a .kind) (a .nan) (a .x) (a .place) (a .store .now)
+    (c .before .before .if1 .left) (c .before .if2 .left) in
     omega (arith, c .before .before .before .before .before .pre .1, ap length line)
 
 same-length-2 : tie.Need-same-length-2
@@ -78,7 +99,9 @@ same-length-2 c = search needs
 returns-3 : tie.Need-returns-3
 returns-3 c =
     let a = c .before .before .before .before .before .before .before .before .args in
-    let line = constant-line (a .points) (a .v) (a .c) (a .kind) (a .nan) (a .x) (a .place) (a .store .now) (c .before .before .before .before .before .if1 .left) (c .before .before .before .before .if2 .left) in
+    let line =
+    constant-line (a .points) (a .v) (a .c) (a .kind) (a .nan) (a .x) (a .place) (a .store .now)
+    (c .before .before .before .before .before .if1 .left) (c .before .before .before .before .if2 .left) in
     let put = c .before .before .put-constant .ensures in
     (put .0 ∙ ap (λ (t : List ℕ). a .at + length t) (sym line), put .1 ∙ ap (sets (a .out .now) (a .at)) (sym line))
 

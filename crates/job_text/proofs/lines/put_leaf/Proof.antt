@@ -11,6 +11,12 @@ use borrow.Author.Needs.{needs}
 use Rattle.job_text.proofs.lines.put_leaf.Statement.{statement}
 use Rattle.job_text.proofs.lines.put_leaf.Tie as tie
 
+abbrev start : tie.After-put-form → tie.Start
+start p = p .before .before .before .before .before .before
+
+abbrev begun : tie.After-put-values → tie.After-put-form
+begun p = p .before .before .before .before
+
 slice-aggregate-put-form : tie.Need-slice-aggregate-put-form
 slice-aggregate-put-form c = search needs
 
@@ -24,10 +30,11 @@ put-form-requires c κs =
 
 put-values-requires : tie.Need-put-values-requires
 put-values-requires c κs =
-    let a = c .before .before .before .before .before .before .before .before .before .args in
+    let s = start (c .before .before .before) in
+    let a = s .args in
     let first = c .before .before .before .put-form .ensures in
     let long = put-long (a .out .now) (a .at) (spell leafForm (a .v ∷ a .c ∷ [])) (first .1) in
-    omega (arith, leaf-split (a .nan) (a .v) (a .c) (a .at) (a .values .now) (a .out .now), c .before .before .before .before .before .before .before .before .before .pre, first .0, long)
+    omega (arith, leaf-split (a .nan) (a .v) (a .c) (a .at) (a .values .now) (a .out .now), s .pre, first .0, long)
 
 slice-aggregate-put-form-3 : tie.Need-slice-aggregate-put-form-3
 slice-aggregate-put-form-3 c = search needs
@@ -38,13 +45,16 @@ slice-aggregate-put-form-4 c = search needs
 put-form-requires-2 : tie.Need-put-form-requires-2
 unfolding spell spellPiece pieceOf isField after
 put-form-requires-2 c κs =
-    let a = c .before .before .before .before .before .before .before .before .before .before .before .before .before .before .before .args in
-    let first = c .before .before .before .before .before .before .before .before .before .put-form .ensures in
+    let p = begun (c .before .before .before .before .before) in
+    let a = start p .args in
+    let first = p .put-form .ensures in
     let values = c .before .before .before .before .before .put-values .ensures in
     let long = put-long (a .out .now) (a .at) (spell leafForm (a .v ∷ a .c ∷ [])) (first .1) in
-    let more = put-long _ (c .before .before .before .before .before .before .before .before .before .put-form .result) (valuesText (a .nan) (a .values .now)) (values .1) in
-    let fits : c .before .before .before .before .before .put-values .result + 2 ≤ length (c .before .before .before .before .before .put-values .last .1 .1 .1 .0) =
-    omega (arith, leaf-split (a .nan) (a .v) (a .c) (a .at) (a .values .now) (a .out .now), c .before .before .before .before .before .before .before .before .before .before .before .before .before .before .before .pre, first .0, values .0, long, more) in
+    let more = put-long _ (p .put-form .result) (valuesText (a .nan) (a .values .now)) (values .1) in
+    let fits :
+    c .before .before .before .before .before .put-values .result + 2
+    ≤ length (c .before .before .before .before .before .put-values .last .1 .1 .1 .0) =
+    omega (arith, leaf-split (a .nan) (a .v) (a .c) (a .at) (a .values .now) (a .out .now), start p .pre, first .0, values .0, long, more) in
     fits
 
 same-length : tie.Need-same-length
@@ -53,8 +63,9 @@ same-length c = search needs
 returns : tie.Need-returns
 unfolding spell spellPiece pieceOf isField after
 returns c =
-    let a = c .before .before .before .before .before .before .before .before .before .before .before .before .before .before .before .before .before .before .args in
-    let first = c .before .before .before .before .before .before .before .before .before .before .before .before .put-form .ensures in
+    let p = begun (c .before .before .before .before .before .before .before .before) in
+    let a = start p .args in
+    let first = p .put-form .ensures in
     let values = c .before .before .before .before .before .before .before .before .put-values .ensures in
     let last = c .before .before .put-form2 .ensures in
     leaf-put (a .nan) (a .v) (a .c) (a .at) (a .values .now) (a .out .now) (first .0) (first .1) (values .0) (values .1) (last .0) (last .1)

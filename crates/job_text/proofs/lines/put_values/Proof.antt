@@ -50,14 +50,27 @@ put-hex-requires c κs =
     let l = c .before .before .before .before .loop in
     let a = c .before .before .before .before .before .before .before .args in
     let ok : l .place + 1 + 16 ≤ length (set (l .out) (l .place) 32) =
-    omega (arith, length-set (l .out) (l .place) 32, l .inv, c .before .before .before .loop-test .taken, c .before .before .before .before .before .before .before .pre, values-length (a .nan) (a .values .now)) in
+    omega (
+      arith,
+      length-set (l .out) (l .place) 32,
+      l .inv,
+      c .before .before .before .loop-test .taken,
+      c .before .before .before .before .before .before .before .pre,
+      values-length (a .nan) (a .values .now),
+    ) in
     ok
 
 add-place : tie.Need-add-place Inv-loop μ-loop
 add-place c =
     let l = c .before .before .before .before .before .before .before .loop in
     let a = c .before .before .before .before .before .before .before .before .before .before .args in
-    omega (arith, l .inv, c .before .before .before .before .before .before .loop-test .taken, c .before .before .before .before .before .before .before .before .before .before .pre, values-length (a .nan) (a .values .now))
+    omega (
+      arith,
+      l .inv,
+      c .before .before .before .before .before .before .loop-test .taken,
+      c .before .before .before .before .before .before .before .before .before .before .pre,
+      values-length (a .nan) (a .values .now),
+    )
 
 add-i : tie.Need-add-i Inv-loop μ-loop
 add-i c = search needs
@@ -70,7 +83,9 @@ loop-again c =
     let l = c .before .before .before .before .before .before .before .loop in
     let a = c .before .before .before .before .before .before .before .before .before .before .args in
     let below : l .i < length (a .values .now) = c .before .before .before .before .before .before .loop-test .taken in
-    let next = value-put (a .nan) (a .at) (l .i) (a .values .now) (a .out .now) _ below (l .inv .1) (l .inv .3) (c .before .before .before .before .bits-in .ensures) (c .before .before .put-hex .ensures) in
+    let next =
+    value-put (a .nan) (a .at) (l .i) (a .values .now) (a .out .now) _ below (l .inv .1) (l .inv .3)
+    (c .before .before .before .before .bits-in .ensures) (c .before .before .put-hex .ensures) in
     (omega arith, omega (arith, l .inv .1), put-long (a .out .now) (a .at) (valuesText (a .nan) (take (l .i + 1) (a .values .now))) next, next)
 
 same-length : tie.Need-same-length Inv-loop μ-loop
@@ -80,8 +95,10 @@ returns : tie.Need-returns Inv-loop μ-loop
 returns c =
     let l = c .before .loop in
     let a = c .before .before .before .before .args in
-    let all : take (l .i) (a .values .now) ≡ a .values .now = take-all (l .i) (a .values .now) (omega (arith, c .loop-test .left)) in
-    (omega (arith, l .inv, c .loop-test .left, values-length (a .nan) (a .values .now)), l .inv .3 ∙ ap (λ xs. sets (a .out .now) (a .at) (valuesText (a .nan) xs)) all)
+    let all : take (l .i) (a .values .now) ≡ a .values .now = take-all (l .i) (a .values .now) (omega (arith, c .loop-test .left)) in (
+      omega (arith, l .inv, c .loop-test .left, values-length (a .nan) (a .values .now)),
+      l .inv .3 ∙ ap (λ xs. sets (a .out .now) (a .at) (valuesText (a .nan) xs)) all,
+    )
 
 pub put-values-spec : {M : Type 1} → statement M
 put-values-spec =

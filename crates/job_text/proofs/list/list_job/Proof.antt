@@ -22,7 +22,9 @@ returns : tie.Need-returns
 returns c =
     let a = c .before .before .before .before .before .before .before .before .before .before .args in
     let off = c .before .before .write-off in
-    let is = off-here (a .text .now) _ _ (c .before .before .before .before .before .before .before .read-job .ensures) (c .before .before .before .before .before .judgement .given .1) in
+    let is =
+    off-here (a .text .now) _ _ (c .before .before .before .before .before .before .before .read-job .ensures)
+    (c .before .before .before .before .before .judgement .given .1) in
     (off .ensures .0 ∙ ap (λ bs. putAnswer bs (a .out .now)) is, off .ensures .1 ∙ ap (λ bs. putBytes bs (a .out .now)) is)
 
 enum-told : tie.Need-enum-told
@@ -38,7 +40,9 @@ returns-2 : tie.Need-returns-2
 returns-2 c =
     let a = c .before .before .before .before .before .before .before .before .before .args in
     let listed = c .before .before .list-read in
-    let is = on-here (a .text .now) _ (c .before .before .before .before .before .before .read-job .ensures) (c .before .before .before .before .enum-told .given .1) in
+    let is =
+    on-here (a .text .now) _ (c .before .before .before .before .before .before .read-job .ensures)
+    (c .before .before .before .before .enum-told .given .1) in
     (listed .ensures .0 ∙ ap (λ bs. putAnswer bs (a .out .now)) is, listed .ensures .1 ∙ ap (λ bs. putBytes bs (a .out .now)) is)
 
 pub list-job-spec : {M : Type 1} → statement M

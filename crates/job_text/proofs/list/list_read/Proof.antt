@@ -6,6 +6,18 @@ use borrow.Author.Needs.{needs}
 use Rattle.job_text.proofs.list.list_read.Statement.{statement}
 use Rattle.job_text.proofs.list.list_read.Tie as tie
 
+abbrev start : tie.After-open → tie.Start
+start p = p .before .before .before .before .before .before .before .before
+
+abbrev opened : tie.After-step → tie.After-open
+opened p = p .before .before .before .before .before .before .before .before .before .before .before .before .before
+
+abbrev stepped : tie.After-nan-pattern → tie.After-step
+stepped p = p .before .before .before .before .before .before
+
+abbrev judged : tie.After-answer → tie.After-open
+judged p = p .before .before .before .before .before .before .before
+
 no-record-requires : tie.Need-no-record-requires
 no-record-requires c κs = search needs
 
@@ -38,9 +50,10 @@ same-length c = search needs
 
 returns : tie.Need-returns
 returns c =
-    let a = c .before .before .before .before .before .before .before .before .before .before .before .before .before .before .before .before .before .before .before .before .args in
+    let p = c .before .before .before .before .before in
+    let a = start (judged p) .args in
     let refusal = c .before .before .write-refusal in
-    let is = refused-listed (a .job) _ _ refl (c .before .before .before .before .before .before .before .before .before .before .before .before .open .ensures .0) _ (c .before .before .before .before .before .answer .given .1) in
+    let is = refused-listed (a .job) _ _ refl (judged p .open .ensures .0) _ (p .answer .given .1) in
     (refusal .ensures .0 ∙ ap (λ bs. putAnswer bs (a .out .now)) is, refusal .ensures .1 ∙ ap (λ bs. putBytes bs (a .out .now)) is)
 
 enum-told : tie.Need-enum-told
@@ -90,11 +103,15 @@ same-length-2 c = search needs
 
 returns-2 : tie.Need-returns-2
 returns-2 c =
-    let a = c .before .before .before .before .before .before .before .before .before .before .before .before .before .before .before .before .before .before .before .before .before .before .before .before .before .before .before .before .before .before .before .before .before .before .before .before .args in
+    let p = c .before .before .before .before .before .before .before .before .before in
+    let a = start (opened (stepped p)) .args in
     let listing = c .before .before .write-listing in
-    let opened = c .before .before .before .before .before .before .before .before .before .before .before .before .before .before .before .before .before .before .before .before .before .before .before .before .before .before .before .before .open in
-    let done = c .before .before .before .before .before .before .before .before .before .before .before .before .before .before .before .step in
-    let is = finished-listed (a .job) _ _ refl (opened .ensures .0) _ _ (opened .ensures .1) (c .before .before .before .before .before .before .before .before .before .before .before .before .before .before .before .before .before .before .before .before .before .enum-told .given .1) refl (done .ensures .0) (done .ensures .1) (c .before .before .before .before .before .before .before .before .before .nan-pattern .ensures) (a .out .now) in
+    let began = opened (stepped p) .open in
+    let done = stepped p .step in
+    let is =
+    finished-listed (a .job) _ _ refl (began .ensures .0) _ _ (began .ensures .1)
+    (stepped p .before .before .before .before .before .before .enum-told .given .1) refl (done .ensures .0)
+    (done .ensures .1) (p .nan-pattern .ensures) (a .out .now) in
     (listing .ensures .0 ∙ ap (λ p. p .answer) is, listing .ensures .1 ∙ ap (λ p. p .bytes) is)
 
 pub list-read-spec : {M : Type 1} → statement M

@@ -30,14 +30,18 @@ same-length-2 c = search needs
 
 returns-2 : tie.Need-returns-2
 returns-2 c =
-    let s = c .before .before .before .before .before .before .before .before in whole-unrefused (s .args .text .now) (s .args .out .now) (s .pre) (c .before .before .before .before .list-job .ensures .0) _ (c .enum-told .given .1)
+    let s = c .before .before .before .before .before .before .before .before in
+    whole-unrefused (s .args .text .now) (s .args .out .now) (s .pre)
+    (c .before .before .before .before .list-job .ensures .0) _ (c .enum-told .given .1)
 
 same-length-3 : tie.Need-same-length-3
 same-length-3 c = search needs
 
 returns-3 : tie.Need-returns-3
 returns-3 c =
-    let s = c .before .before .before .before .before .before .before .before in whole-printed (s .args .text .now) (s .args .out .now) (s .pre) (c .before .before .before .before .list-job .ensures .0) (c .enum-told2 .given .1)
+    let s = c .before .before .before .before .before .before .before .before in
+    whole-printed (s .args .text .now) (s .args .out .now) (s .pre)
+    (c .before .before .before .before .list-job .ensures .0) (c .enum-told2 .given .1)
 
 pub list-whole-spec : {M : Type 1} → statement M
 list-whole-spec =

@@ -84,7 +84,15 @@ unfolding fields isField pieceOf
 read-form-requires-8 c κs = omega arith
 
 returns-8 : tie.Need-returns-8
-returns-8 c = rw (kind-last _ (past-six _ (past-two _ (c .before .before .before .before .before .before .before .before .if1 .left) (c .before .before .before .before .before .before .before .if2 .left) (c .before .before .before .before .before .before .if3 .left)) (c .before .before .before .before .before .if4 .left) (c .before .before .before .before .if5 .left) (c .before .before .before .if6 .left) (c .before .before .if7 .left))) (c .read-form8 .ensures)
+returns-8 c =
+    rw
+    (kind-last _
+    (past-six _
+    (past-two _ (c .before .before .before .before .before .before .before .before .if1 .left)
+    (c .before .before .before .before .before .before .before .if2 .left)
+    (c .before .before .before .before .before .before .if3 .left))
+    (c .before .before .before .before .before .if4 .left) (c .before .before .before .before .if5 .left)
+    (c .before .before .before .if6 .left) (c .before .before .if7 .left))) (c .read-form8 .ensures)
 
 pub read-kind-spec : {M : Type 1} → statement M
 read-kind-spec =

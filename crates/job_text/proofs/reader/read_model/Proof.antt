@@ -72,7 +72,9 @@ loop-less c = search needs
 loop-again : tie.Need-loop-again Inv-loop μ-loop
 loop-again c =
     let line = part-at _ _ _ _ _ (c .before .before .before .part-line .ensures) _ (c .before .end .given .1) in
-    gathered-turn _ _ _ _ _ _ (c .before .before .before .before .before .before .loop .inv) (c .before .before .before .before .before .loop-test .taken) (c .before .before .before .before .if1 .left) _ _ _ line
+    gathered-turn _ _ _ _ _ _ (c .before .before .before .before .before .before .loop .inv)
+    (c .before .before .before .before .before .loop-test .taken) (c .before .before .before .before .if1 .left) _ _ _
+    line
 
 returns-3 : tie.Need-returns-3 Inv-loop μ-loop
 returns-3 c = sym (gathered-done _ _ _ _ _ _ (c .before .loop .inv) _ _ (c .loop-test .left))

@@ -39,7 +39,10 @@ returns c =
     let a = c .before .before .before .before .before .before .before .before .args in
     let l = c .before .before .before .before .before .loop in
     let is = sym (c .before .is-placed .ensures) ∙ not-true _ (c .if1 .taken) in
-    sym (l .inv .1 ∙ placed-fails (a .points) (a .size) (a .kinds .now) (a .places .now) (a .total) (l .j) (c .before .before .before .before .loop-test .taken) is)
+    sym
+    (l .inv .1
+    ∙ placed-fails (a .points) (a .size) (a .kinds .now) (a .places .now) (a .total) (l .j)
+    (c .before .before .before .before .loop-test .taken) is)
 
 add-j : tie.Need-add-j Inv-loop μ-loop
 add-j c = search needs
@@ -51,8 +54,12 @@ loop-again : tie.Need-loop-again Inv-loop μ-loop
 loop-again c =
     let a = c .before .before .before .before .before .before .before .before .args in
     let l = c .before .before .before .before .before .loop in
-    let is = sym (c .before .is-placed .ensures) ∙ not-false _ (c .if1 .left) in
-    (omega (arith, c .before .before .before .before .loop-test .taken), l .inv .1 ∙ placed-next (a .points) (a .size) (a .kinds .now) (a .places .now) (a .total) (l .j) (c .before .before .before .before .loop-test .taken) is)
+    let is = sym (c .before .is-placed .ensures) ∙ not-false _ (c .if1 .left) in (
+      omega (arith, c .before .before .before .before .loop-test .taken),
+      l .inv .1
+          ∙ placed-next (a .points) (a .size) (a .kinds .now) (a .places .now) (a .total) (l .j)
+          (c .before .before .before .before .loop-test .taken) is,
+    )
 
 returns-2 : tie.Need-returns-2 Inv-loop μ-loop
 returns-2 c =

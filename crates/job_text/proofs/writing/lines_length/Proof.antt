@@ -4,8 +4,8 @@ use mathlib.Core.Path.{_≡_, refl, ap, _∙_}
 use native.Mathlib.Numerals.{add-one}
 use native.Mathlib.Omega.{arith}
 use borrow.Author.Needs.{needs}
-use Rattle.schedule.specs.Totals.{sumFrom, sumBelow}
-use Rattle.schedule.proofs.Sums.{sumBelow-snoc}
+use Rattle.lists.specs.Sums.{sumFrom, sumBelow}
+use Rattle.lists.proofs.Sums.{sumBelow-snoc}
 use Rattle.job_text.specs.Inner.Lengths.{lengthAt}
 use Rattle.job_text.proofs.ListingLaws.{length-most}
 use Rattle.job_text.proofs.writing.lines_length.Statement.{statement}
@@ -55,8 +55,11 @@ loop-again c =
     let l = c .before .before .before .loop in
     let f = lengthAt (a .children) (a .points) (a .kinds .now) in
     let most = length-most (a .children) (a .points) (a .kinds .now) (l .j) (c .before .before .before .before .before .pre .0 .size) in
-    let next : sumBelow f (l .j + 1) ≡ sumBelow f (l .j) + f (l .j) = ap (sumBelow f) (add-one (l .j)) ∙ sumBelow-snoc f (l .j) in
-    (omega (arith, c .before .before .loop-test .taken), omega (arith, next, l .inv .1, c .child-length .ensures), omega (arith, c .child-length .ensures, most, l .inv .2))
+    let next : sumBelow f (l .j + 1) ≡ sumBelow f (l .j) + f (l .j) = ap (sumBelow f) (add-one (l .j)) ∙ sumBelow-snoc f (l .j) in (
+      omega (arith, c .before .before .loop-test .taken),
+      omega (arith, next, l .inv .1, c .child-length .ensures),
+      omega (arith, c .child-length .ensures, most, l .inv .2),
+    )
 
 returns : tie.Need-returns Inv-loop μ-loop
 returns c =

@@ -1,6 +1,5 @@
 -- `writing::listing_length` meets its contract.
 use native.Mathlib.Omega.{arith}
-use Rattle.sparse_field.specs.Records.{countsIn}
 use Rattle.job_text.proofs.ListingLaws.{done-length, done-most, lengths-most}
 use borrow.Author.Needs.{needs}
 use Rattle.job_text.proofs.writing.listing_length.Statement.{statement}
@@ -25,13 +24,20 @@ add-result : tie.Need-add-result
 add-result c =
     let s = c .before .before .before .before .before .before in
     let a = s .args in
-    let done = done-length (countsIn (a .counts)) (c .before .before .before .before .done-numbers .ensures) in
-    omega (arith, c .before .form-length .ensures, done, done-most (countsIn (a .counts)), c .lines-length .ensures, lengths-most (a .total) (a .children) (a .points) (a .kinds .now) (s .pre .0))
+    let done = done-length (a .counts) (c .before .before .before .before .done-numbers .ensures) in
+    omega (
+      arith,
+      c .before .form-length .ensures,
+      done,
+      done-most (a .counts),
+      c .lines-length .ensures,
+      lengths-most (a .total) (a .children) (a .points) (a .kinds .now) (s .pre .0),
+    )
 
 returns : tie.Need-returns
 returns c =
     let a = c .before .before .before .before .before .before .args in
-    let done = done-length (countsIn (a .counts)) (c .before .before .before .before .done-numbers .ensures) in
+    let done = done-length (a .counts) (c .before .before .before .before .done-numbers .ensures) in
     omega (arith, c .before .form-length .ensures, done, c .lines-length .ensures)
 
 pub listing-length-spec : {M : Type 1} → statement M

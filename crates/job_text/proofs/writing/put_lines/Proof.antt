@@ -22,6 +22,12 @@ Inv-loop total children points nan kinds numbers places store at out₀ end₀ j
 abbrev μ-loop : tie.MeasureT-loop
 μ-loop total children points nan kinds numbers places store at out₀ end₀ j₀ out end j = total - j
 
+abbrev start : tie.At-loop Inv-loop μ-loop → tie.Start Inv-loop μ-loop
+start p = p .before .before .before .before .before .before
+
+abbrev turn : tie.After-put-child Inv-loop μ-loop → tie.At-loop Inv-loop μ-loop
+turn p = p .before .before .before .before .before .before
+
 loop-holds : tie.Need-loop-holds Inv-loop μ-loop
 unfolding linesFrom
 loop-holds c = (omega arith, omega arith, refl, refl)
@@ -49,14 +55,20 @@ shared-slice-read-put-child-3 c = search needs
 
 put-child-requires : tie.Need-put-child-requires Inv-loop μ-loop
 put-child-requires c κs =
-    let s = c .before .before .before .before .before .before .before .before .before .before .before in
+    let s = start (c .before .before .before .before .before) in
     let a = s .args in
     let l = c .before .before .before .before .before .loop in
     let m = memoryOf (a .kinds .now) (a .numbers .now) (a .places .now) (a .store .now) [] in
     let f = lineAt (a .children) (a .points) (a .nan) m in
-    let line = line-read (a .children) (a .points) (a .nan) m (l .j) ieee.nan (omega (arith, s .pre .0 .2, c .before .before .before .before .loop-test .taken)) in
+    let line =
+    line-read (a .children) (a .points) (a .nan) m (l .j) ieee.nan
+    (omega (arith, s .pre .0 .2, c .before .before .before .before .loop-test .taken)) in
     let within = line-within f (a .total) (l .j) (c .before .before .before .before .loop-test .taken) in (
-      (s .pre .0 .0 .size, placed-at (a .points) (length (a .store .now)) (a .kinds .now) (a .places .now) (a .total) (l .j) (s .pre .1 .0) (c .before .before .before .before .loop-test .taken)),
+      (
+        s .pre .0 .0 .size,
+        placed-at (a .points) (length (a .store .now)) (a .kinds .now) (a .places .now) (a .total) (l .j)
+            (s .pre .1 .0) (c .before .before .before .before .loop-test .taken),
+      ),
       omega (arith, within, ap length line, l .inv, s .pre .1 .1),
     )
 
@@ -68,11 +80,17 @@ loop-less c = search needs
 
 loop-again : tie.Need-loop-again Inv-loop μ-loop
 loop-again c =
-    let a = c .before .before .before .before .before .before .before .before .before .before .before .before .before .before .args in
-    let l = c .before .before .before .before .before .before .before .before .loop in
+    let a = start (turn (c .before .before)) .args in
+    let l = turn (c .before .before) .loop in
     let m = memoryOf (a .kinds .now) (a .numbers .now) (a .places .now) (a .store .now) [] in
     let f = lineAt (a .children) (a .points) (a .nan) m in
-    let line = line-read (a .children) (a .points) (a .nan) m (l .j) ieee.nan (omega (arith, c .before .before .before .before .before .before .before .before .before .before .before .before .before .before .pre .0 .2, c .before .before .before .before .before .before .before .loop-test .taken)) in
+    let line =
+    line-read (a .children) (a .points) (a .nan) m (l .j) ieee.nan
+    (omega (
+      arith,
+      start (turn (c .before .before)) .pre .0 .2,
+      c .before .before .before .before .before .before .before .loop-test .taken,
+    )) in
     let put = c .before .before .put-child .ensures in
     let last = put .0 ∙ ap (λ (t : List ℕ). l .end + length t) line in
     let lent = put .1 ∙ ap (sets (l .out) (l .end)) line in
@@ -91,7 +109,7 @@ same-length c = search needs
 
 returns : tie.Need-returns Inv-loop μ-loop
 returns c =
-    let a = c .before .before .before .before .before .before .before .args in
+    let a = start (c .before) .args in
     let l = c .before .loop in
     let m = memoryOf (a .kinds .now) (a .numbers .now) (a .places .now) (a .store .now) [] in
     let f = lineAt (a .children) (a .points) (a .nan) m in

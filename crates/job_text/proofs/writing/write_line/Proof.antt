@@ -35,7 +35,12 @@ returns-2 c =
     let a = c .before .before .before .before .before .before .before .before .before .before .before .before .before .args in
     let bs = spell (map pieceOf (a .form .now)) (a .numbers .now) in
     let put = c .before .before .before .before .before .before .put-form .ensures in
-    let fits : length bs ≤ length (a .out .now) = omega (arith, c .before .before .before .before .before .before .before .before .if1 .left, c .before .before .before .before .before .before .before .before .before .form-length .ensures) in (
+    let fits : length bs ≤ length (a .out .now) =
+    omega (
+      arith,
+      c .before .before .before .before .before .before .before .before .if1 .left,
+      c .before .before .before .before .before .before .before .before .before .form-length .ensures,
+    ) in (
       accepted-answer bs (a .out .now) (c .before .before .before .before .before .before .before .before .before .form-length .ensures) fits,
       accepted-bytes bs (a .out .now) fits (put .0 ∙ zero-add (length bs)) (put .1) (c .before .before .zero-rest .ensures),
     )

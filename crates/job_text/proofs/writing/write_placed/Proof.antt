@@ -5,9 +5,8 @@ use mathlib.Core.List.{List, []}
 use native.Mathlib.Omega.{arith}
 use lib.ListN.{length}
 use Rattle.schedule.specs.Memory.{Memory}
-use Rattle.schedule.specs.Totals.{sumBelow}
+use Rattle.lists.specs.Sums.{sumBelow}
 use Rattle.schedule.specs.Lent.{memoryOf}
-use Rattle.sparse_field.specs.Records.{countsIn}
 use Rattle.job_text.specs.Inner.Lengths.{lengthAt}
 use Rattle.job_text.specs.Listing.{doneLine, listingTo}
 use Rattle.job_text.proofs.ListingLaws.{listing-measured, refused-answer, refused-bytes, accepted-answer}
@@ -23,11 +22,11 @@ memory s = let a = s .args in memoryOf (a .kinds .now) (a .numbers .now) (a .pla
 abbrev bytesOf : tie.Start → List ℕ
 bytesOf s =
     let a = s .args in
-    listingTo (a .total) (a .children) (a .points) (a .nan) (countsIn (a .counts)) (memory s)
+    listingTo (a .total) (a .children) (a .points) (a .nan) (a .counts) (memory s)
 
 measured : (s : tie.Start) → length (bytesOf s)
-    ≡ length (doneLine (countsIn (s .args .counts))) + sumBelow (lengthAt (s .args .children) (s .args .points) (s .args .kinds .now)) (s .args .total)
-measured s = let a = s .args in listing-measured (a .total) (a .children) (a .points) (a .nan) (countsIn (a .counts)) (memory s)
+    ≡ length (doneLine (s .args .counts)) + sumBelow (lengthAt (s .args .children) (s .args .points) (s .args .kinds .now)) (s .args .total)
+measured s = let a = s .args in listing-measured (a .total) (a .children) (a .points) (a .nan) (a .counts) (memory s)
 
 listing-length-requires : tie.Need-listing-length-requires
 listing-length-requires c κs = search needs

@@ -13,6 +13,12 @@ use borrow.Author.Needs.{needs}
 use Rattle.job_text.proofs.writing.write_possible.Statement.{statement}
 use Rattle.job_text.proofs.writing.write_possible.Tie as tie
 
+abbrev start : tie.After-at-end → tie.Start
+start p = p .before .before .before .before .before .before .before
+
+abbrev ended : tie.After-node-total → tie.After-at-end
+ended p = p .before .before .before .before .before .before .before
+
 -- the memory at entry
 abbrev memory : tie.Start → Memory
 memory s = let a = s .args in memoryOf (a .kinds .now) (a .numbers .now) (a .places .now) (a .store .now) (a .corners .now)
@@ -31,7 +37,7 @@ at-end-requires c κs = search needs
 
 returns : tie.Need-returns
 returns c =
-    let s = c .before .before .before .before .before .before .before .before in
+    let s = start (c .before) in
     let a = s .args in
     let is = unfinished (a .«record») (a .nan) (memory s) (a .out .now) (sym (c .before .at-end .ensures) ∙ not-true _ (c .if1 .taken)) in
     (sym (ap (λ p. p .answer) is), sym (ap (λ p. p .bytes) is))
@@ -49,32 +55,42 @@ cube-of-requires-2 : tie.Need-cube-of-requires-2
 cube-of-requires-2 c κs = sized (c .before .before .before .before .before .before .before .before .before .before .before .before) .leaf
 
 node-total-requires : tie.Need-node-total-requires
-node-total-requires c κs = omega (arith, sized (c .before .before .before .before .before .before .before .before .before .before .before .before .before) .nodes)
+node-total-requires c κs =
+    omega (
+      arith,
+      sized
+          (c .before .before .before .before .before .before .before .before .before .before .before .before .before) .nodes,
+    )
 
 mul-total : tie.Need-mul-total
 mul-total c =
-    let s = c .before .before .before .before .before .before .before .before .before .before .before .before .before .before in
+    let s = start (ended c) in
     let total = total-is s (c .node-total .ensures) (c .before .before .before .cube-of .ensures) in
     omega (arith, total, sized s .sizes .few)
 
 all-placed-requires : tie.Need-all-placed-requires
 all-placed-requires c κs =
-    let s = c .before .before .before .before .before .before .before .before .before .before .before .before .before .before in
+    let s = start (ended c) in
     let total = total-is s (c .node-total .ensures) (c .before .before .before .cube-of .ensures) in
     (omega (arith, c .before .cube-of2 .ensures, sized s .sizes .size), omega (arith, total, sized s .enoughKinds), omega (arith, total, sized s .enoughPlaces))
 
 returns-2 : tie.Need-returns-2
 returns-2 c =
-    let s = c .before .before .before .before .before .before .before .before .before .before .before .before .before .before .before .before in
+    let s = start (ended (c .before .before)) in
     let a = s .args in
-    let end = sym (c .before .before .before .before .before .before .before .before .before .at-end .ensures) ∙ not-false _ (c .before .before .before .before .before .before .before .before .if1 .left) in
-    let is = unplaced (a .«record») (a .nan) (memory s) (a .out .now) (c .before .before .node-total .ensures) (c .before .before .before .before .before .cube-of .ensures) (c .before .before .before .cube-of2 .ensures) end (sym (c .before .all-placed .ensures) ∙ not-true _ (c .if2 .taken)) in
+    let end = sym (ended (c .before .before) .at-end .ensures) ∙ not-false _ (c .before .before .before .before .before .before .before .before .if1 .left) in
+    let is =
+    unplaced (a .«record») (a .nan) (memory s) (a .out .now) (c .before .before .node-total .ensures)
+    (c .before .before .before .before .before .cube-of .ensures) (c .before .before .before .cube-of2 .ensures) end
+    (sym (c .before .all-placed .ensures) ∙ not-true _ (c .if2 .taken)) in
     (sym (ap (λ p. p .answer) is), sym (ap (λ p. p .bytes) is))
 
 write-placed-requires : tie.Need-write-placed-requires
 write-placed-requires c κs =
-    let s = c .before .before .before .before .before .before .before .before .before .before .before .before .before .before .before .before .before .before in
-    let total = total-is s (c .before .before .before .before .node-total .ensures) (c .before .before .before .before .before .before .before .cube-of .ensures) in
+    let s = start (ended (c .before .before .before .before)) in
+    let total =
+    total-is s (c .before .before .before .before .node-total .ensures)
+    (c .before .before .before .before .before .before .before .cube-of .ensures) in
     let sizes = sized s .sizes in (
       (
         record {
@@ -94,10 +110,19 @@ same-length c = search needs
 
 returns-3 : tie.Need-returns-3
 returns-3 c =
-    let s = c .before .before .before .before .before .before .before .before .before .before .before .before .before .before .before .before .before .before .before .before .before in
+    let s = start (ended (c .before .before .before .before .before .before .before)) in
     let a = s .args in
-    let end = sym (c .before .before .before .before .before .before .before .before .before .before .before .before .before .before .at-end .ensures) ∙ not-false _ (c .before .before .before .before .before .before .before .before .before .before .before .before .before .if1 .left) in
-    let is = printed (a .«record») (a .nan) (memory s) (a .out .now) (c .before .before .before .before .before .before .before .node-total .ensures) (c .before .before .before .before .before .before .before .before .before .before .cube-of .ensures) (c .before .before .before .before .before .before .before .before .cube-of2 .ensures) end (sym (c .before .before .before .before .before .before .all-placed .ensures) ∙ not-false _ (c .before .before .before .before .before .if2 .left)) in
+    let end =
+    sym (ended (c .before .before .before .before .before .before .before) .at-end .ensures)
+    ∙ not-false _
+    (c .before .before .before .before .before .before .before .before .before .before .before .before .before .if1 .left) in
+    let is =
+    printed (a .«record») (a .nan) (memory s) (a .out .now)
+    (c .before .before .before .before .before .before .before .node-total .ensures)
+    (c .before .before .before .before .before .before .before .before .before .before .cube-of .ensures)
+    (c .before .before .before .before .before .before .before .before .cube-of2 .ensures) end
+    (sym (c .before .before .before .before .before .before .all-placed .ensures)
+    ∙ not-false _ (c .before .before .before .before .before .if2 .left)) in
     (c .before .before .write-placed .ensures .0 ∙ sym (ap (λ p. p .answer) is), c .before .before .write-placed .ensures .1 ∙ sym (ap (λ p. p .bytes) is))
 
 pub write-possible-spec : {M : Type 1} → statement M

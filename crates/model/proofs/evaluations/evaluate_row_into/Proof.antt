@@ -18,8 +18,8 @@ at-most-64-requires-2 c κs = search needs
 fill-parts-requires : tie.Need-fill-parts-requires
 fill-parts-requires c κs = search needs
 
-clear-row-requires : tie.Need-clear-row-requires
-clear-row-requires c κs = search needs
+fill-floats-requires : tie.Need-fill-floats-requires
+fill-floats-requires c κs = search needs
 
 returns : tie.Need-returns
 returns c =
@@ -30,7 +30,7 @@ returns c =
     let filled = c .before .before .before .fill-parts .ensures in (
       filled ∙ (λ i. evaluatedRows l (parts .ensures i) (points .ensures i) (now (a .px)) (now (a .py)) (now (a .pz)) (now (a .values))),
       row-of-none l (parts .result) (points .result) (now (a .px)) (now (a .py)) (now (a .pz)) (now (a .values)) (now (a .results))
-          (c .before .before .if1 .taken) (c .clear-row .ensures)
+          (c .before .before .if1 .taken) (c .fill-floats .ensures)
           ∙ (λ i. modelRow l (parts .ensures i) (points .ensures i) (now (a .px)) (now (a .py)) (now (a .pz)) (now (a .results))),
     )
 
@@ -49,7 +49,7 @@ returns-2 c =
     let filled = c .before .before .before .before .before .fill-parts .ensures in (
       filled ∙ (λ i. evaluatedRows l (parts .ensures i) (points .ensures i) (now (a .px)) (now (a .py)) (now (a .pz)) (now (a .values))),
       row-of-last l (parts .result) (points .result) (now (a .px)) (now (a .py)) (now (a .pz)) (now (a .values)) (now (a .results))
-          (omega arith) (omega arith) filled (c .copy-row .ensures .1) (c .copy-row .ensures .0)
+          (omega arith) (omega arith) filled (search needs) (c .copy-row .ensures)
           ∙ (λ i. modelRow l (parts .ensures i) (points .ensures i) (now (a .px)) (now (a .py)) (now (a .pz)) (now (a .results))),
     )
 
@@ -60,7 +60,7 @@ evaluate-row-into-spec =
     at-most-64-requires
     at-most-64-requires-2
     fill-parts-requires
-    clear-row-requires
+    fill-floats-requires
     returns
     sub-copy-row
     copy-row-requires

@@ -14,59 +14,17 @@ Inv-loop values₀ p n a b row first second i₀ values i = (i ≤ n) × (values
 abbrev μ-loop : tie.MeasureT-loop
 μ-loop values₀ p n a b row first second i₀ values i = n - i
 
-mul-row : tie.Need-mul-row Inv-loop μ-loop
-mul-row c = search needs
-
-mul-first : tie.Need-mul-first Inv-loop μ-loop
-mul-first c = search needs
-
-mul-second : tie.Need-mul-second Inv-loop μ-loop
-mul-second c = search needs
-
 loop-holds : tie.Need-loop-holds Inv-loop μ-loop
 loop-holds c = (omega arith, no-lanes _ _ _)
-
-add-computed : tie.Need-add-computed Inv-loop μ-loop
-add-computed c = search needs
-
-mul-computed : tie.Need-mul-computed Inv-loop μ-loop
-mul-computed c = search needs
-
-element-copy-out-computed : tie.Need-element-copy-out-computed Inv-loop μ-loop
-element-copy-out-computed c = search needs
-
-add-computed-2 : tie.Need-add-computed-2 Inv-loop μ-loop
-add-computed-2 c = search needs
-
-mul-computed-2 : tie.Need-mul-computed-2 Inv-loop μ-loop
-mul-computed-2 c = search needs
-
-element-copy-out-computed-2 : tie.Need-element-copy-out-computed-2 Inv-loop μ-loop
-element-copy-out-computed-2 c = search needs
-
-computed-requires : tie.Need-computed-requires Inv-loop μ-loop
-computed-requires c κs = search needs
-
-add-values : tie.Need-add-values Inv-loop μ-loop
-add-values c = search needs
-
-mul-values : tie.Need-mul-values Inv-loop μ-loop
-mul-values c = search needs
-
-element-write-values : tie.Need-element-write-values Inv-loop μ-loop
-element-write-values c = search needs
-
-add-i : tie.Need-add-i Inv-loop μ-loop
-add-i c = search needs
-
-loop-less : tie.Need-loop-less Inv-loop μ-loop
-loop-less c = search needs
 
 loop-again : tie.Need-loop-again Inv-loop μ-loop
 loop-again c =
     let s = c .before .before .before .before in
-    let a = s .before .args in
-    (omega arith, pair-more (sub binary64) (a .values .now) (a .p) (a .a) (a .b) (s .loop .i) (omega arith) (omega arith) (omega arith) (s .loop .inv .1) (c .computed .ensures))
+    let a = s .before .args in (
+      omega arith,
+      pair-more (sub binary64) (a .values .now) (a .p) (a .a) (a .b) (s .loop .i) (omega arith) (omega arith) (omega arith)
+          (s .loop .inv .1) (c .computed .ensures),
+    )
 
 returns : tie.Need-returns Inv-loop μ-loop
 returns c =
@@ -81,21 +39,21 @@ fill-sub-spec =
     (tie.spec
     Inv-loop
     μ-loop
-    mul-row
-    mul-first
-    mul-second
+    (λ c. search needs)
+    (λ c. search needs)
+    (λ c. search needs)
     loop-holds
-    add-computed
-    mul-computed
-    element-copy-out-computed
-    add-computed-2
-    mul-computed-2
-    element-copy-out-computed-2
-    computed-requires
-    add-values
-    mul-values
-    element-write-values
-    add-i
-    loop-less
+    (λ c. search needs)
+    (λ c. search needs)
+    (λ c. search needs)
+    (λ c. search needs)
+    (λ c. search needs)
+    (λ c. search needs)
+    (λ c κs. search needs)
+    (λ c. search needs)
+    (λ c. search needs)
+    (λ c. search needs)
+    (λ c. search needs)
+    (λ c. search needs)
     loop-again
     returns)

@@ -17,45 +17,18 @@ Inv-loop values₀ p n r row i₀ values i = (i ≤ n) × (values ≡ filledRow 
 abbrev μ-loop : tie.MeasureT-loop
 μ-loop values₀ p n r row i₀ values i = n - i
 
-mul-row : tie.Need-mul-row Inv-loop μ-loop
-mul-row c = search needs
-
 loop-holds : tie.Need-loop-holds Inv-loop μ-loop
 loop-holds c = (omega arith, no-lanes _ _ _)
-
-add-computed : tie.Need-add-computed Inv-loop μ-loop
-add-computed c = search needs
-
-mul-computed : tie.Need-mul-computed Inv-loop μ-loop
-mul-computed c = search needs
-
-element-copy-out-computed : tie.Need-element-copy-out-computed Inv-loop μ-loop
-element-copy-out-computed c = search needs
-
-computed-requires : tie.Need-computed-requires Inv-loop μ-loop
-computed-requires c κs = search needs
-
-add-values : tie.Need-add-values Inv-loop μ-loop
-add-values c = search needs
-
-mul-values : tie.Need-mul-values Inv-loop μ-loop
-mul-values c = search needs
-
-element-write-values : tie.Need-element-write-values Inv-loop μ-loop
-element-write-values c = search needs
-
-add-i : tie.Need-add-i Inv-loop μ-loop
-add-i c = search needs
-
-loop-less : tie.Need-loop-less Inv-loop μ-loop
-loop-less c = search needs
 
 loop-again : tie.Need-loop-again Inv-loop μ-loop
 loop-again c =
     let s = c .before .before .before in
     let a = s .before .args in
-    let start = a .values .now in
-    (omega arith, lane-more start (a .p) (s .loop .i) (λ k. sub binary64 (getD start (laneAt (a .p) k) past) (a .r)) (s .loop .inv .1) (c .computed .ensures ∙ ap (λ (v : Float). sub binary64 v (a .r)) (read-own start (a .p) (s .loop .i) _ (s .loop .inv .1))))
+    let start = a .values .now in (
+      omega arith,
+      lane-more start (a .p) (s .loop .i) (λ k. sub binary64 (getD start (laneAt (a .p) k) past) (a .r)) (s .loop .inv .1)
+          (c .computed .ensures ∙ ap (λ (v : Float). sub binary64 v (a .r)) (read-own start (a .p) (s .loop .i) _ (s .loop .inv .1))),
+    )
 
 returns : tie.Need-returns Inv-loop μ-loop
 returns c =
@@ -71,16 +44,16 @@ take-radius-spec =
     (tie.spec
     Inv-loop
     μ-loop
-    mul-row
+    (λ c. search needs)
     loop-holds
-    add-computed
-    mul-computed
-    element-copy-out-computed
-    computed-requires
-    add-values
-    mul-values
-    element-write-values
-    add-i
-    loop-less
+    (λ c. search needs)
+    (λ c. search needs)
+    (λ c. search needs)
+    (λ c κs. search needs)
+    (λ c. search needs)
+    (λ c. search needs)
+    (λ c. search needs)
+    (λ c. search needs)
+    (λ c. search needs)
     loop-again
     returns)

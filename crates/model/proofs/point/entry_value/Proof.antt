@@ -6,6 +6,12 @@ use native.Mathlib.Omega.{arith}
 use Rattle.model.proofs.point.entry_value.Statement.{statement}
 use Rattle.model.proofs.point.entry_value.Tie as tie
 
+cast-a : tie.Need-cast-a
+cast-a c = search needs
+
+cast-b : tie.Need-cast-b
+cast-b c = search needs
+
 returns : tie.Need-returns
 returns c = sym (of-constant _ _ _ _ _ _ _ _ _ (c .if1 .taken))
 
@@ -39,41 +45,65 @@ returns-5 c = c .computed .ensures ∙ sym (of-neg _ _ _ _ _ _ _ _ _ (c .before 
 returns-6 : tie.Need-returns-6
 returns-6 c = sym (second-late _ _ _ _ _ _ _ _ _ _ (omega arith) (c .before .if5 .left) (c .if6 .taken))
 
-mul-u : tie.Need-mul-u
-mul-u c = search needs
+mul-first : tie.Need-mul-first
+mul-first c = search needs
 
-shared-slice-read-u : tie.Need-shared-slice-read-u
-shared-slice-read-u c = search needs
+shared-slice-read-first : tie.Need-shared-slice-read-first
+shared-slice-read-first c = search needs
 
-mul-v : tie.Need-mul-v
-mul-v c = search needs
+mul-second : tie.Need-mul-second
+mul-second c = search needs
 
-shared-slice-read-v : tie.Need-shared-slice-read-v
-shared-slice-read-v c = search needs
+shared-slice-read-second : tie.Need-shared-slice-read-second
+shared-slice-read-second c = search needs
 
 min-requires : tie.Need-min-requires
 min-requires c κs = search needs
 
 returns-7 : tie.Need-returns-7
-returns-7 c = c .min .ensures ∙ sym (of-min _ _ _ _ _ _ _ _ _ (c .before .if7 .taken) (c .before .before .before .before .before .before .if4 .left) (c .before .before .before .before .if6 .left))
+returns-7 c =
+    c .min .ensures
+    ∙ sym
+    (of-min _ _ _ _ _ _ _ _ _
+    (c .before .if7 .taken)
+    (c .before .before .before .before .before .before .if4 .left)
+    (c .before .before .before .before .if6 .left))
 
 max-requires : tie.Need-max-requires
 max-requires c κs = search needs
 
 returns-8 : tie.Need-returns-8
-returns-8 c = c .max .ensures ∙ sym (of-max _ _ _ _ _ _ _ _ _ (c .before .if8 .taken) (c .before .before .before .before .before .before .before .if4 .left) (c .before .before .before .before .before .if6 .left))
+returns-8 c =
+    c .max .ensures
+    ∙ sym
+    (of-max _ _ _ _ _ _ _ _ _
+    (c .before .if8 .taken)
+    (c .before .before .before .before .before .before .before .if4 .left)
+    (c .before .before .before .before .before .if6 .left))
 
 computed-requires-2 : tie.Need-computed-requires-2
 computed-requires-2 c κs = search needs
 
 returns-9 : tie.Need-returns-9
-returns-9 c = c .computed2 .ensures ∙ sym (of-add _ _ _ _ _ _ _ _ _ (c .before .if9 .taken) (c .before .before .before .before .before .before .before .before .if4 .left) (c .before .before .before .before .before .before .if6 .left))
+returns-9 c =
+    c .computed2 .ensures
+    ∙ sym
+    (of-add _ _ _ _ _ _ _ _ _
+    (c .before .if9 .taken)
+    (c .before .before .before .before .before .before .before .before .if4 .left)
+    (c .before .before .before .before .before .before .if6 .left))
 
 computed-requires-3 : tie.Need-computed-requires-3
 computed-requires-3 c κs = search needs
 
 returns-10 : tie.Need-returns-10
-returns-10 c = c .computed3 .ensures ∙ sym (of-sub _ _ _ _ _ _ _ _ _ (c .before .if10 .taken) (c .before .before .before .before .before .before .before .before .before .if4 .left) (c .before .before .before .before .before .before .before .if6 .left))
+returns-10 c =
+    c .computed3 .ensures
+    ∙ sym
+    (of-sub _ _ _ _ _ _ _ _ _
+    (c .before .if10 .taken)
+    (c .before .before .before .before .before .before .before .before .before .if4 .left)
+    (c .before .before .before .before .before .before .before .if6 .left))
 
 returns-11 : tie.Need-returns-11
 returns-11 c =
@@ -93,6 +123,8 @@ pub entry-value-spec : {M : Type 1} → statement M
 entry-value-spec =
     tie.close
     (tie.spec
+    cast-a
+    cast-b
     returns
     sphere-value-requires
     returns-2
@@ -104,10 +136,10 @@ entry-value-spec =
     computed-requires
     returns-5
     returns-6
-    mul-u
-    shared-slice-read-u
-    mul-v
-    shared-slice-read-v
+    mul-first
+    shared-slice-read-first
+    mul-second
+    shared-slice-read-second
     min-requires
     returns-7
     max-requires

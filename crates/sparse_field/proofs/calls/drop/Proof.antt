@@ -1,6 +1,6 @@
 -- `calls::drop` meets its contract.
 use mathlib.Core.Path.{sym, ap, _∙_}
-use Rattle.sparse_field.specs.declared.Answer.the-variants.{Accepted}
+use Rattle.schedule.specs.declared.Answer.the-variants.{Accepted}
 use Rattle.sparse_field.proofs.CallLaws.{drop-accepted}
 use Rattle.schedule.specs.Memory.{Memory}
 use Rattle.schedule.specs.Lent.{memoryOf}
@@ -36,8 +36,11 @@ same-length-5 c = search needs
 returns : tie.Need-returns
 returns c =
     let s = c .before .before .before .before .before .before .before .before .before .before .before .before .before .before .before .before .before .before .before .before .before .before in
-    let done = drop-accepted (s .args .found) (memory s) in
-    (ap (λ r. record { answer = Accepted; next = r }) (c .no-record .ensures) ∙ sym (ap (λ h. h .outcome) done), c .before .before .before .before .before .before .before .before .before .before .before .zero-all .ensures ∙ sym (ap (λ h. h .memory) done))
+    let done = drop-accepted (s .args .found) (memory s) in (
+      ap (λ r. record { answer = Accepted; next = r }) (c .no-record .ensures)
+          ∙ sym (ap (λ h. h .outcome) done),
+      c .before .before .before .before .before .before .before .before .before .before .before .zero-all .ensures ∙ sym (ap (λ h. h .memory) done),
+    )
 
 pub drop-spec : {M : Type 1} → statement M
 drop-spec =

@@ -1,18 +1,31 @@
 -- `calls::open` meets its contract: refused by the first cause, or opened.
 use mathlib.Core.Path.{_≡_, sym, ap, _∙_}
-use Rattle.grid.specs.Causes.{refusalOf}
-use Rattle.sparse_field.specs.declared.Answer.the-variants.{Accepted}
-use Rattle.sparse_field.specs.Records.{numberOf}
+use Rattle.input.specs.Causes.{refusalOf, numberOf}
+use Rattle.schedule.specs.declared.Answer.the-variants.{Accepted}
 use Rattle.sparse_field.proofs.CallLaws.{open-refused, open-accepted}
 use Rattle.schedule.specs.Memory.{Memory}
+use Rattle.schedule.specs.Opened.{lengthsOf}
 use Rattle.schedule.specs.Lent.{memoryOf}
 use borrow.Author.Needs.{needs}
 use Rattle.sparse_field.proofs.calls.open.Statement.{statement}
 use Rattle.sparse_field.proofs.calls.open.Tie as tie
 
+-- ---- where the lengths and the refusal are known
+
+abbrev start : tie.After-lengths-of → tie.Start
+start l = l .before .before .before .before .before .before .before .before .before .before .before
+
 -- the memory at entry
-abbrev memory : tie.Start → Memory
-memory s = memoryOf (s .args .kinds .now) (s .args .numbers .now) (s .args .places .now) (s .args .store .now) (s .args .corners .now)
+abbrev memory : tie.After-lengths-of → Memory
+memory l =
+    let a = start l .args in
+    memoryOf (a .kinds .now) (a .numbers .now) (a .places .now) (a .store .now) (a .corners .now)
+
+-- the refusal is that of the memory's own lengths
+refused : (r : tie.After-open-refusal) → refusalOf (start (r .before) .args .input) (lengthsOf (memory (r .before))) ≡ r .open-refusal .result
+refused r = sym (ap (refusalOf (start (r .before) .args .input)) (r .before .lengths-of .ensures)) ∙ sym (r .open-refusal .ensures)
+
+-- ---- what is left
 
 lengths-of-requires : tie.Need-lengths-of-requires
 lengths-of-requires c κs = search needs
@@ -40,10 +53,9 @@ same-length-5 c = search needs
 
 returns : tie.Need-returns
 returns c =
-    let s = c .before .before .before .before .before .before .before .before .before .before .before .before .before .before .before in
-    let a = s .args in
-    let refusal = sym (ap (refusalOf (a .input .grid) (a .input .band) (a .input .model)) (c .before .before .before .before .lengths-of .ensures)) ∙ sym (c .before .before .before .open-refusal .ensures) ∙ c .before .refusal .given .1 in
-    let done = open-refused (a .input) (a .found) (memory s) _ refusal in
+    let r = c .before .before .before in
+    let a = start (r .before) .args in
+    let done = open-refused (a .input) (a .found) (memory (r .before)) _ (refused r ∙ c .before .refusal .given .1) in
     (sym (ap (λ h. h .outcome) done), sym (ap (λ h. h .memory) done))
 
 enum-told : tie.Need-enum-told
@@ -51,10 +63,9 @@ enum-told c = search needs
 
 opened-requires : tie.Need-opened-requires
 opened-requires c κs =
-    let s = c .before .before .before .before .before .before .before .before .before .before .before .before .before .before .before .before .before .before .before in
-    let a = s .args in
-    let refusal = sym (ap (refusalOf (a .input .grid) (a .input .band) (a .input .model)) (c .before .before .before .before .before .before .before .before .lengths-of .ensures)) ∙ sym (c .before .before .before .before .before .before .before .open-refusal .ensures) ∙ c .before .before .before .before .before .enum-told .given .1 in
-    (c .before .before .before .before .before .before .before .before .lengths-of .ensures, ap numberOf refusal)
+    let told = c .before .before .before .before .before in
+    let r = told .before .before in
+    (r .before .lengths-of .ensures, ap numberOf (refused r ∙ told .enum-told .given .1))
 
 same-length-6 : tie.Need-same-length-6
 same-length-6 c = search needs
@@ -73,12 +84,13 @@ same-length-10 c = search needs
 
 returns-2 : tie.Need-returns-2
 returns-2 c =
-    let s = c .before .before .before .before .before .before .before .before .before .before .before .before .before .before .before .before .before .before .before .before .before .before .before .before .before .before .before .before .before .before in
-    let a = s .args in
-    let refusal = sym (ap (refusalOf (a .input .grid) (a .input .band) (a .input .model)) (c .before .before .before .before .before .before .before .before .before .before .before .before .before .before .before .before .before .before .before .lengths-of .ensures)) ∙ sym (c .before .before .before .before .before .before .before .before .before .before .before .before .before .before .before .before .before .before .open-refusal .ensures) ∙ c .before .before .before .before .before .before .before .before .before .before .before .before .before .before .before .before .enum-told .given .1 in
-    let done = open-accepted (a .input) (a .found) (memory s) (ap numberOf refusal) in (
-      ap (λ r. record { answer = Accepted; next = r }) (c .before .before .before .before .before .before .before .before .before .before .opened .ensures .0) ∙ sym (ap (λ h. h .outcome) done),
-      c .before .before .before .before .before .before .before .before .before .before .opened .ensures .1 ∙ sym (ap (λ h. h .memory) done),
+    let told = c .before .before .before .before .before .before .before .before .before .before .before .before .before .before .before .before in
+    let r = told .before .before in
+    let a = start (r .before) .args in
+    let opened = c .before .before .before .before .before .before .before .before .before .before .opened .ensures in
+    let done = open-accepted (a .input) (a .found) (memory (r .before)) (ap numberOf (refused r ∙ told .enum-told .given .1)) in (
+      ap (λ r. record { answer = Accepted; next = r }) (opened .0) ∙ sym (ap (λ h. h .outcome) done),
+      opened .1 ∙ sym (ap (λ h. h .memory) done),
     )
 
 pub open-spec : {M : Type 1} → statement M

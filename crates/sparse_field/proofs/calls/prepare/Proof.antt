@@ -3,28 +3,44 @@ use Prim.Native.Nat.{ℕ, _≤_}
 use mathlib.Core.Path.{_≡_, ap, _∙_}
 use native.Mathlib.Omega.{arith}
 use lib.ListN.{length, length-replicate}
-use Rattle.schedule.specs.Opened.{lengthsOf, kindsFrom, opened}
-use Rattle.sparse_field.specs.Plan.{planOf}
-use Rattle.sparse_field.proofs.Opening.{nothing}
+use Rattle.lists.specs.Flags.{flagsFrom}
+use Rattle.grid.specs.Limits.{childrenOf}
+use Rattle.kinds.specs.Inner.Tables.{activeChild}
 use Rattle.schedule.specs.Memory.{Memory}
+use Rattle.schedule.specs.Opened.{lengthsOf, opened}
 use Rattle.schedule.specs.Lent.{memoryOf}
+use Rattle.plans.specs.Plan.{planWith}
+use Rattle.sparse_field.proofs.Opening.{nothing}
 use borrow.Author.Needs.{needs}
 use Rattle.sparse_field.proofs.calls.prepare.Statement.{statement}
 use Rattle.sparse_field.proofs.calls.prepare.Tie as tie
 
+-- ---- where the slices are zeroed
+
+abbrev start : tie.After-zero-all → tie.Start
+start z = z .before .before .before .before .before .before .before .before .before .before .before
+
 -- the memory at entry
-abbrev memory : tie.Start → Memory
-memory s = memoryOf (s .args .kinds .now) (s .args .numbers .now) (s .args .places .now) (s .args .store .now) (s .args .corners .now)
+abbrev memory : tie.After-zero-all → Memory
+memory z =
+    let a = start z .args in
+    memoryOf (a .kinds .now) (a .numbers .now) (a .places .now) (a .store .now) (a .corners .now)
+
+-- the kinds are as long as they were
+long : (z : tie.After-zero-all) → length (z .zero-all .last .0) ≡ length (start z .args .kinds .now)
+long z = ap (λ m. length (m .kinds)) (z .zero-all .ensures) ∙ length-replicate (length (start z .args .kinds .now)) 0
+
+-- ---- what is left
 
 zero-all-requires : tie.Need-zero-all-requires
 zero-all-requires c κs = search needs
 
 set-kinds-requires : tie.Need-set-kinds-requires
+unfolding childrenOf
 set-kinds-requires c κs =
-    let s = c .before .before .before .before .before .before .before .before .before .before .before .before .before .before .before .before .before .before .before .before .before .before in
-    let none = nothing (s .args .input) (lengthsOf (memory s)) (s .pre) in
-    let long = ap (λ m. length (m .kinds)) (c .before .before .before .before .before .before .before .before .before .before .before .zero-all .ensures) ∙ length-replicate (length (s .args .kinds .now)) 0 in
-    (none .two, none .five, omega (arith, none .lent .kinds, long))
+    let z = c .before .before .before .before .before .before .before .before .before .before .before in
+    let none = nothing (start z .args .input) (lengthsOf (memory z)) (start z .pre) in
+    (none .two, none .five, omega (arith, none .lent .kinds, long z))
 
 same-length : tie.Need-same-length
 same-length c = search needs
@@ -42,12 +58,11 @@ same-length-5 : tie.Need-same-length-5
 same-length-5 c = search needs
 
 returns : tie.Need-returns
-unfolding opened
+unfolding opened planWith
 returns c =
-    let s = c .before .before .before .before .before .before .before .before .before .before .before .before .before .before .before .before .before .before .before .before .before .before .before .before .before in
-    let zero = c .before .before .before .before .before .before .before .before .before .before .before .before .before .before .zero-all .ensures in
-    let long = ap (λ m. length (m .kinds)) zero ∙ length-replicate (length (s .args .kinds .now)) 0 in
-    let kinds = c .before .before .set-kinds .ensures ∙ ap (λ n. kindsFrom (planOf (s .args .input)) n 0) long in
+    let z = c .before .before .before .before .before .before .before .before .before .before .before .before .before .before in
+    let zero = z .zero-all .ensures in
+    let kinds = c .before .before .set-kinds .ensures ∙ ap (λ n. flagsFrom (activeChild (start z .args .input .grid)) n 0) (long z) in
     λ t. memoryOf (kinds t) (zero t .numbers) (zero t .places) (zero t .store) (zero t .corners)
 
 pub prepare-spec : {M : Type 1} → statement M

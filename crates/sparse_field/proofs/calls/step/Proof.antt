@@ -1,8 +1,8 @@
 -- `calls::step` meets its contract: by the flag, and by the judgement of the record.
-use mathlib.Core.Path.{_≡_, refl, sym, ap, _∙_}
-use mathlib.Core.Bool.{Bool, true, false, not}
-use borrow.Author.Tests.{not-false}
-use Rattle.sparse_field.specs.declared.Answer.the-variants.{Accepted}
+use mathlib.Core.Path.{_≡_, sym, ap, _∙_}
+use mathlib.Core.Bool.{true}
+use borrow.Author.Tests.{not-true, not-false}
+use Rattle.schedule.specs.declared.Answer.the-variants.{Accepted}
 use Rattle.sparse_field.proofs.CallLaws.{step-none, step-impossible, step-accepted}
 use Rattle.schedule.specs.Memory.{Memory}
 use Rattle.schedule.specs.Lent.{memoryOf}
@@ -14,15 +14,22 @@ use Rattle.sparse_field.proofs.calls.step.Tie as tie
 abbrev memory : tie.Start → Memory
 memory s = memoryOf (s .args .kinds .now) (s .args .numbers .now) (s .args .places .now) (s .args .store .now) (s .args .corners .now)
 
-not-true : (b : Bool) → not b ≡ true → b ≡ false
-not-true true e = sym e
-not-true false e = refl
+-- ---- where the record is judged
+
+abbrev start : tie.After-is-impossible → tie.Start
+start p = p .before .before .before .before .before .before .before .before .before .before .before .before .before
+
+-- it has a job
+flagged : (p : tie.After-is-impossible) → start p .args .found .job ≡ true
+flagged p = not-false _ (p .before .before .before .before .before .before .if1 .left)
+
+-- ---- what is left
 
 returns : tie.Need-returns
 returns c =
     let s = c .before .before .before .before .before .before .before in
     let a = s .args in
-    let done = step-none (a .budget) (a .found) (memory s) (not-true (a .found .job) (c .if1 .taken)) in
+    let done = step-none (a .budget) (a .found) (memory s) (not-true _ (c .if1 .taken)) in
     (sym (ap (λ h. h .outcome) done), sym (ap (λ h. h .memory) done))
 
 is-impossible-requires : tie.Need-is-impossible-requires
@@ -45,9 +52,9 @@ same-length-5 c = search needs
 
 returns-2 : tie.Need-returns-2
 returns-2 c =
-    let s = c .before .before .before .before .before .before .before .before .before .before .before .before .before .before in
-    let a = s .args in
-    let done = step-impossible (a .budget) (a .found) (memory s) (not-false (a .found .job) (c .before .before .before .before .before .before .before .if1 .left)) (sym (c .before .is-impossible .ensures) ∙ c .if2 .taken) in
+    let p = c .before in
+    let a = start p .args in
+    let done = step-impossible (a .budget) (a .found) (memory (start p)) (flagged p) (sym (p .is-impossible .ensures) ∙ c .if2 .taken) in
     (sym (ap (λ h. h .outcome) done), sym (ap (λ h. h .memory) done))
 
 stepped-requires : tie.Need-stepped-requires
@@ -70,11 +77,13 @@ same-length-10 c = search needs
 
 returns-3 : tie.Need-returns-3
 returns-3 c =
-    let s = c .before .before .before .before .before .before .before .before .before .before .before .before .before .before .before .before .before .before .before .before .before .before .before .before .before .before .before .before .before .before in
-    let a = s .args in
-    let done = step-accepted (a .budget) (a .found) (memory s) (not-false (a .found .job) (c .before .before .before .before .before .before .before .before .before .before .before .before .before .before .before .before .before .before .before .before .before .before .before .if1 .left)) (sym (c .before .before .before .before .before .before .before .before .before .before .before .before .before .before .before .before .before .is-impossible .ensures) ∙ c .before .before .before .before .before .before .before .before .before .before .before .before .before .before .before .before .if2 .left) in (
-      ap (λ r. record { answer = Accepted; next = r }) (c .before .before .before .before .before .before .before .before .before .before .stepped .ensures .0) ∙ sym (ap (λ h. h .outcome) done),
-      c .before .before .before .before .before .before .before .before .before .before .stepped .ensures .1 ∙ sym (ap (λ h. h .memory) done),
+    let passed = c .before .before .before .before .before .before .before .before .before .before .before .before .before .before .before .before in
+    let p = passed .before in
+    let a = start p .args in
+    let stepped = c .before .before .before .before .before .before .before .before .before .before .stepped .ensures in
+    let done = step-accepted (a .budget) (a .found) (memory (start p)) (flagged p) (sym (p .is-impossible .ensures) ∙ passed .if2 .left) in (
+      ap (λ r. record { answer = Accepted; next = r }) (stepped .0) ∙ sym (ap (λ h. h .outcome) done),
+      stepped .1 ∙ sym (ap (λ h. h .memory) done),
     )
 
 pub step-spec : {M : Type 1} → statement M

@@ -9,12 +9,14 @@ use Rattle.schedule.specs.Engine.{engineStepJob}
 use Rattle.schedule.specs.Possible.{Possible}
 use Rattle.schedule.proofs.Possible.{possible}
 use Rattle.schedule.proofs.Sums.{up-to-most}
-use Rattle.sparse_field.specs.Plan.{planOf, planWith}
-use Rattle.sparse_field.specs.Inner.Progress.{Sized, Lent}
-use Rattle.sparse_field.specs.Records.{sparse, lent, lengthsIn, cursorIn, jobIn, recordOut}
-use Rattle.grid.proofs.Clear.{Clear}
-use Rattle.sparse_field.proofs.Judgement.{no-cause, bound-fits}
-use Rattle.sparse_field.proofs.Opening.{sized, lent-memory, valid-startable, active-within, sparse-laws}
+use Rattle.plans.specs.Plan.{planOf, planWith}
+use Rattle.engine.specs.Inner.Progress.{Sized, Lent}
+use Rattle.plans.specs.Sparse.{sparse}
+use Rattle.sparse_field.specs.Records.{jobIn, recordOut}
+use Rattle.input.proofs.Clear.{Clear, no-cause}
+use Rattle.grid.proofs.LimitLaws.{bound-fits}
+use Rattle.sparse_field.proofs.Opening.{sized, lent-memory, valid-startable, active-within}
+use Rattle.plans.proofs.Lawful.{sparse-laws}
 use Rattle.sparse_field.proofs.Results.{left-most, leaves-after, made-most, record-same, engine-after}
 use Rattle.schedule.specs.Memory.{Memory}
 use Rattle.schedule.specs.Lent.{memoryOf}
@@ -31,11 +33,11 @@ judged : (s : tie.Start) → Possible sparse (jobIn (s .args .found)) (memory s)
 judged s = possible sparse (jobIn (s .args .found)) (memory s) (s .pre)
 
 -- its input meets no cause
-cause : (s : tie.Start) → let i = s .args .found .input in Clear (i .grid) (i .band) (i .model) (lent (lengthsOf (memory s)))
-cause s = let i = s .args .found .input in no-cause (i .grid) (i .band) (i .model) (lent (lengthsOf (memory s))) (judged s .noCause)
+cause : (s : tie.Start) → let i = s .args .found .input in Clear i (lengthsOf (memory s))
+cause s = let i = s .args .found .input in no-cause i (lengthsOf (memory s)) (judged s .noCause)
 
 size : (s : tie.Start) → Sized (s .args .found .input .grid)
-size s = sized _ (cause s)
+size s = sized (s .args .found .input) (cause s)
 
 all : (s : tie.Start) → Lent (planOf (s .args .found .input)) (memory s)
 all s = lent-memory (s .args .found .input) (memory s) (cause s) (judged s .activeKinds)
@@ -48,6 +50,13 @@ few : (s : tie.Start) → evaluationsBound (planOf (s .args .found .input)) ≤ 
 unfolding evaluationsBound planWith
 few s = bound-fits (s .args .found .input .grid) (cause s .two) (cause s .five) .bound
 
+-- ---- where the job has run
+
+abbrev start : tie.After-run-job → tie.Start
+start r = r .before .before .before .before .before .before .before .before .before .before .before .before
+
+-- ---- what is left
+
 run-job-requires : tie.Need-run-job-requires
 run-job-requires c κs =
     let s = c .before .before .before .before .before .before .before .before .before .before .before in
@@ -57,35 +66,39 @@ run-job-requires c κs =
       (
         all s,
         valid-startable (planOf (r .input)) (r .cursor) (r .counts .leaves) (p .cursor) (p .atMost) (p .atLeast),
-        omega (arith, p .atMost, up-to-most (planOf (r .input)) (cursorIn (r .cursor)) (p .cursor)),
+        omega (arith, p .atMost, up-to-most (planOf (r .input)) (r .cursor) (p .cursor)),
       ),
     )
 
 sub-evaluations : tie.Need-sub-evaluations
 sub-evaluations c =
-    let s = c .before .before .before .before .before .before .before .before .before .before .before .before .before .before .before .before .before .before .before .before .before .before .before in
-    left-most (s .args .found .input) (lengthsOf (memory s)) 0 _ _ _ _ _ _ _ (c .before .before .before .before .before .before .before .before .before .before .before .run-job .ensures)
+    let r = c .before .before .before .before .before .before .before .before .before .before .before in
+    left-most (start r .args .found .input) (lengthsOf (memory (start r))) 0 _ _ _ _ _ _ _ (r .run-job .ensures)
 
 add-evaluations : tie.Need-add-evaluations
 add-evaluations c =
-    let s = c .before .before .before .before .before .before .before .before .before .before .before .before .before .before .before .before .before .before .before .before .before .before .before .before in
+    let r = c .before .before .before .before .before .before .before .before .before .before .before .before in
+    let s = start r in
+    let found = s .args .found in
     let p = judged s in
-    omega (arith, p .evaluations, few s, made-most (s .args .found .input) (laws s) _ _ _ _ _ (cursorIn (s .args .found .cursor)) _ (c .before .before .before .before .before .before .before .before .before .before .before .before .run-job .ensures) (p .cursor))
+    omega (arith, p .evaluations, few s, made-most (found .input) (laws s) _ _ _ _ _ (found .cursor) _ (r .run-job .ensures) (p .cursor))
 
 record-of-requires : tie.Need-record-of-requires
 record-of-requires c κs =
-    let s = c .before .before .before .before .before .before .before .before .before .before .before .before .before .before .before .before .before .before .before .before .before .before .before .before in
+    let r = c .before .before .before .before .before .before .before .before .before .before .before .before .before in
+    let s = start r in
+    let found = s .args .found in
     let p = judged s in (
       omega (
         arith,
-        active-within (s .args .found .input) (size s),
-        leaves-after (s .args .found .input) (laws s) _ _ _ _ _ (cursorIn (s .args .found .cursor)) _ (c .before .before .before .before .before .before .before .before .before .before .before .before .run-job .ensures) (p .cursor) (all s .corners) (p .atLeast) (p .atMost),
+        active-within (found .input) (size s),
+        leaves-after (found .input) (laws s) _ _ _ _ _ (found .cursor) _ (r .run-job .ensures) (p .cursor) (all s .corners) (p .atLeast) (p .atMost),
       ),
       size s .leafMost,
     )
 
 same-length : tie.Need-same-length
-same-length c = c .before .before .before .before .before .before .before .before .before .before .before .before .kinds .given
+same-length c = c .before .before .before .before .before .before .before .before .before .before .before .before .before .kinds .given
 
 same-length-2 : tie.Need-same-length-2
 same-length-2 c = search needs
@@ -102,13 +115,15 @@ same-length-5 c = search needs
 returns : tie.Need-returns
 unfolding engineStepJob
 returns c =
-    let s = c .before .before .before .before .before .before .before .before .before .before .before .before .before .before .before .before .before .before .before .before .before .before .before .before .before in
-    let r = s .args .found in
-    let p = judged s in
-    let work = c .before .before .before .before .before .before .before .before .before .before .before .before .before .run-job in
-    let engine = engine-after (r .input) (lengthsIn (r .lengths)) (r .counts .evaluations) (s .args .budget) (r .counts .leaves) _ (memory s) _ _ (work .result) (work .ensures) in (
+    let r = c .before .before .before .before .before .before .before .before .before .before .before .before .before .before in
+    let s = start r in
+    let found = s .args .found in
+    let work = r .run-job in
+    let engine =
+    engine-after (found .input) (found .lengths) (found .counts .evaluations) (s .args .budget) (found .counts .leaves) _ (memory s) _ _
+    (work .result) (work .ensures) in (
       c .record-of .ensures
-          ∙ record-same (r .input) (work .result) refl (ap (λ x. x .nodes) (p .counts)) (ap (λ x. x .active) (p .counts)) refl
+          ∙ record-same (found .input) (work .result) refl (ap (λ x. x .grid) (judged s .counts)) refl
           ∙ sym (ap (λ e. recordOut (e .jobRecord)) engine),
       sym (ap (λ e. e .memory) engine),
     )

@@ -7,8 +7,6 @@ use lib.ListN.{length, getD}
 use borrow.Author.Needs.{needs}
 use Rattle.vectors.proofs.lines.line_end.Statement.{statement}
 use Rattle.vectors.proofs.lines.line_end.Tie as tie
-use Rattle.vectors.proofs.lines.line_end.Reads as reads
-use Rattle.vectors.proofs.lines.line_end.Lts as lts
 
 abbrev Inv-loop : tie.InvT-loop
 Inv-loop s at k₀ k = (at ≤ k) × (k ≤ length s) × ((j : ℕ) → j < k → at ≤ j → getD s j 0 ≡ 10 → ⊥)

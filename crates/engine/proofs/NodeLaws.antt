@@ -1,0 +1,280 @@
+-- A node's turn: its corners, evaluated while the budget lasts, and what follows them.
+use Prim.Native.Nat.{ℕ, zero, suc, _+_, _*_, _-_, _≤_, _<_, min}
+use mathlib.Core.Path.{_≡_, refl, sym, ap, ap₂, subst, fun-ext, _∙_}
+use mathlib.Core.Bool.{Bool, true, false, cond}
+use mathlib.Core.Logic.{_⊎_, ⊎-elim}
+use mathlib.Core.List.{List, []}
+use native.Mathlib.Nat.{mul-le-mul-left, mul-le-mul-right}
+use native.Mathlib.Omega.{arith}
+use lib.ListN.{set, getD, length, take, drop, length-set, length-drop}
+use lib.Seq.{length-take-le}
+use lib.Ieee.{Float}
+use Rattle.float.specs.Zero.{plusZero}
+use Rattle.geometry.specs.declared.BoundingBox.{BoundingBox}
+use Rattle.grid.specs.declared.Grid.{Grid}
+use Rattle.grid.specs.declared.Verdict.{Verdict}
+use Rattle.grid.specs.Blocks.{cube}
+use Rattle.grid.specs.Nodes.{nodesOf}
+use Rattle.grid.specs.Boxes.{active, nodeBox, childBox}
+use Rattle.grid.specs.Leaves.{leafPoint}
+use Rattle.grid.specs.Corners as corners
+use Rattle.grid.specs.CornerList as kinds
+use Rattle.grid.proofs.BlockLaws.{cube-le}
+use Rattle.lists.specs.Filled.{filled}
+use Rattle.schedule.specs.Schedule.{Event, corner}
+use Rattle.schedule.specs.Plan.{Plan}
+use Rattle.schedule.specs.Resume.{eventsFrom, childrenLeft, nodesLeft}
+use Rattle.schedule.specs.Memory.{Memory}
+use Rattle.schedule.specs.Totals.{activeBefore, activeAll}
+use Rattle.schedule.specs.PlanLaws.{PlanLaws}
+use Rattle.schedule.specs.Opened.{ActiveKinds}
+use Rattle.schedule.proofs.Sums.{before-all, before-most}
+use Rattle.schedule.proofs.Next.{corner-evaluate, corner-last, node-first, node-last}
+use Rattle.engine.specs.declared.Progress.{Progress}
+use Rattle.schedule.specs.declared.Cursor.{Cursor}
+use Rattle.schedule.specs.declared.Cursor.the-variants.{End, Corner, Point}
+use Rattle.engine.specs.declared.Stop.the-variants.{Through, At}
+use Rattle.schedule.specs.Lent.{memoryOf}
+use Rattle.rows.specs.Inner.CornerRun.{CornerRun, neededFrom, evaluatedFrom}
+use Rattle.geometry.specs.Values as values
+use Rattle.plans.specs.Plan.{planWith, boxOf}
+use Rattle.engine.specs.Inner.Runs.{runOf}
+use Rattle.engine.specs.Inner.Progress.{Sized, Lent, afterStop, IfThrough, stateIn, Advanced, Ready, readingIn, leafProgress}
+use Rattle.engine.specs.Inner.Progress.{ZeroCorners, NodeAdvanced, Turned, Onward}
+use Rattle.plans.proofs.NodeKinds.{part-needed}
+use Rattle.engine.proofs.RunLaws.{run-corners}
+use Rattle.engine.proofs.Turns.{progress, stopped, advanced-start, advanced-then, filledStore, turn-points}
+
+-- ---- the kinds of one node
+
+module _ (g : Grid) (decide : BoundingBox → List Float → Verdict) (value : Float → Float → Float → Float) (l : List ℕ)
+    (right : ActiveKinds (planWith g decide value) l) (long : nodesOf g * cube (g .inner) ≤ length l) (v : ℕ) (below : v < nodesOf g) {first d : ℕ}
+    (from : first ≡ v * cube (g .inner)) (size : d ≡ cube (g .inner)) where
+  abbrev R : Plan
+  R = planWith g decide value
+
+  -- the run over the corners that one node's part needs is the plan's
+  pub plan-corners : {box : BoundingBox} {i b next left : ℕ} {before after : List Float} → box ≡ nodeBox g v
+      → CornerRun (corners.needed (g .inner) (kinds.nonzero (take d (drop first l)))) (λ i. values.at value (corners.cornerPoint box (g .inner) i))
+      (cube (g .inner + 1)) i b next left before after
+      → CornerRun (R .needed v) (R .cornerValue v) (R .corners) i b next left before after
+  unfolding planWith
+  plan-corners {box} {i} {b} {next} {left} {before} {after} boxed run =
+      subst (λ test. CornerRun test (R .cornerValue v) (cube (g .inner + 1)) i b next left before after)
+      (fun-ext (part-needed g decide value l right long v below from size))
+      (subst (λ x. CornerRun (corners.needed (g .inner) (kinds.nonzero (take d (drop first l)))) (λ i. values.at value (corners.cornerPoint x (g .inner) i))
+      (cube (g .inner + 1)) i b next left before after) boxed run)
+
+-- ---- a run over a node's corners
+
+evaluated-length : (test : ℕ → Bool) (value : ℕ → Float) (r i : ℕ) (l : List Float) → length (evaluatedFrom test value r i l) ≡ length l
+unfolding evaluatedFrom
+evaluated-length test value zero i l = refl
+evaluated-length test value (suc r) i l = evaluated-length test value r (suc i) _ ∙ one (test i)
+  where
+    one : (b : Bool) → length (cond b (set l i (value i)) l) ≡ length l
+    one true = length-set l i (value i)
+    one false = refl
+
+module _ (P : Plan) (v i b leaves next left : ℕ) (m : Memory) (after : List Float) (lent : Lent P m)
+    (run : CornerRun (P .needed v) (P .cornerValue v) (P .corners) i b next left (m .corners) after) where
+  -- the memory after the run
+  abbrev pub cornered : Memory
+  cornered = memoryOf (m .kinds) (m .numbers) (m .places) (m .store) after
+
+  pub cornered-lent : Lent P cornered
+  cornered-lent = record {
+    kinds = lent .kinds;
+    numbers = lent .numbers;
+    places = lent .places;
+    store = lent .store;
+    corners = omega (arith, lent .corners, ap length (run .written), evaluated-length (P .needed v) (P .cornerValue v) (next - i) i (m .corners));
+    activeKinds = lent .activeKinds;
+  }
+
+  -- what is left from the next corner on
+  corners-run : runOf P b (eventsFrom P (Corner v i) (readingIn m)) (stateIn m leaves)
+      ≡ runOf P left (eventsFrom P (Corner v next) (readingIn cornered)) (stateIn cornered leaves)
+  corners-run =
+      let r : ℕ = next - i in
+      let place : i + r ≡ next = omega (arith, run .from) in
+      let rest : b - neededFrom (P .needed v) r i ≡ left = omega (arith, run .spent) in
+      run-corners P v r i b (stateIn m leaves) (m .corners) (omega (arith, run .from, run .within)) (lent .corners) (omega (arith, run .spent))
+      ∙ ap₂ (λ k n. runOf P k (eventsFrom P (Corner v n) (λ j. getD (evaluatedFrom (P .needed v) (P .cornerValue v) r i (m .corners)) j plusZero))
+      (stateIn (memoryOf (m .kinds) (m .numbers) (m .places) (m .store) (evaluatedFrom (P .needed v) (P .cornerValue v) r i (m .corners))) leaves)) rest place
+      ∙ ap (λ l. runOf P left (eventsFrom P (Corner v next) (λ j. getD l j plusZero))
+      (stateIn (memoryOf (m .kinds) (m .numbers) (m .places) (m .store) l) leaves)) (sym (run .written))
+
+  -- it stops before a corner
+  pub corners-stopped : {to : List Event} {most : ℕ} → next < P .corners
+      → Advanced P b leaves m cornered (eventsFrom P (Corner v i) (readingIn m)) to (progress leaves left (At (Corner v next))) most
+  corners-stopped short =
+      let stop : (left ≡ 0) × (P .needed v next ≡ true) = ⊎-elim (λ (e : next ≡ P .corners). absurd (omega arith)) (λ p. p) (run .stops) in
+      record {
+        same = corners-run
+            ∙ ap (λ es. runOf P left es (stateIn cornered leaves))
+            (corner-evaluate P v next short (stop .1) (stateIn cornered leaves) (omega (arith, cornered-lent .corners)))
+            ∙ stopped P left (stop .0) (corner v next) (P .cornerValue v next) _ (stateIn cornered leaves);
+        lent = cornered-lent;
+        atMost = tt;
+      }
+
+  -- it comes to the children
+  pub corners-through : PlanLaws P → v < P .nodes → P .corners ≤ next → leaves ≤ activeBefore P v 0
+      → Advanced P b leaves m cornered (eventsFrom P (Corner v i) (readingIn m)) (childrenLeft P v 0 (readingIn cornered)) (progress leaves left Through)
+      (activeBefore P v 0)
+  corners-through laws node last most = record {
+    same = corners-run ∙ ap (λ es. runOf P left es (stateIn cornered leaves)) (corner-last P v laws node next last (readingIn cornered));
+    lent = cornered-lent;
+    atMost = most;
+  }
+
+-- ---- one node after another
+
+-- a node begins with corners that are all +0
+pub node-begins : (P : Plan) (v : ℕ) (m : Memory) → v < P .nodes → ZeroCorners m → nodesLeft P v ≡ eventsFrom P (Corner v 0) (readingIn m)
+node-begins P v m below cleared = node-first P v below ∙ ap (eventsFrom P (Corner v 0)) (sym (fun-ext cleared))
+
+-- after the last node nothing is left
+pub nodes-end : (P : Plan) (v b leaves : ℕ) (m m₁ : Memory) (from : List Event) (r : Progress) → v ≡ P .nodes
+    → Advanced P b leaves m m₁ from (nodesLeft P v) r (activeBefore P v 0) → Advanced P b leaves m m₁ from [] r (activeAll P)
+nodes-end P v b leaves m m₁ from r last done =
+    subst (λ n. Advanced P b leaves m m₁ from [] r n) (ap (λ u. activeBefore P u 0) last ∙ before-all P (P .active))
+    (subst (λ es. Advanced P b leaves m m₁ from es r (activeBefore P v 0)) (node-last P v (omega arith)) done)
+
+-- one node more
+pub node-after : (P : Plan) (v b leaves made left : ℕ) {m₀ m m₁ : Memory} {from : List Event} {r : Progress} {most : ℕ}
+    → Advanced P b leaves m₀ m from (nodesLeft P v) (progress made left Through) most → v < P .nodes → ZeroCorners m
+    → NodeAdvanced P v left made m m₁ (eventsFrom P (Corner v 0) (readingIn m)) r
+    → Advanced P b leaves m₀ m₁ from (nodesLeft P (suc v)) r (activeBefore P (suc v) 0)
+node-after P v b leaves made left {m₀} {m} {m₁} {from} {r} {most} done below cleared node =
+    advanced-then P
+    (subst (λ es. Advanced P b leaves m₀ m from es (progress made left Through) most) (node-begins P v m below cleared) done)
+    refl (node .advanced)
+
+-- the nodes up to a number that is the same
+pub nodes-upto : (P : Plan) (v₁ v₂ b leaves : ℕ) {m₀ m : Memory} {from : List Event} {r : Progress} → v₁ ≡ v₂
+    → Advanced P b leaves m₀ m from (nodesLeft P v₁) r (activeBefore P v₁ 0) → Advanced P b leaves m₀ m from (nodesLeft P v₂) r (activeBefore P v₂ 0)
+nodes-upto P v₁ v₂ b leaves {m₀} {m} {from} {r} same = subst (λ v. Advanced P b leaves m₀ m from (nodesLeft P v) r (activeBefore P v 0)) same
+
+-- a node's turn, and then all nodes after it
+pub turned : (P : Plan) (v : ℕ) {turn : Progress} {b leaves : ℕ} {m₀ m : Memory} {from : List Event}
+    → NodeAdvanced P v b leaves m₀ m from turn → Turned P v turn m
+turned P v node = record { lent = node .advanced .lent; atMost = node .advanced .atMost; cleared = node .cleared }
+
+module _ (P : Plan) (v : ℕ) {turn r : Progress} {m m₁ : Memory} where
+  pub node-onward : {b leaves : ℕ} {m₀ : Memory} {from : List Event} → NodeAdvanced P v b leaves m₀ m from turn → Onward P v turn m m₁ r
+      → Advanced P b leaves m₀ m₁ from [] r (activeAll P)
+  node-onward node on = record { same = node .advanced .same ∙ on .same; lent = on .lent; atMost = on .atMost }
+
+  pub onward-through : (n : ℕ) → turn .stop ≡ Through → n ≡ suc v → Advanced P (turn .left) (turn .leaves) m m₁ (nodesLeft P n) [] r (activeAll P)
+      → Onward P v turn m m₁ r
+  onward-through n through next rest = record {
+    same = ap (λ x. afterStop P (stateIn m (turn .leaves)) (turn .left) x (nodesLeft P (suc v))) through
+        ∙ ap (λ k. runOf P (turn .left) (nodesLeft P k) (stateIn m (turn .leaves))) (sym next) ∙ rest .same;
+    lent = rest .lent;
+    atMost = rest .atMost;
+  }
+
+-- a turn that has stopped
+pub onward-stopped : (P : Plan) (v : ℕ) {turn : Progress} {m : Memory} (a : Cursor) → Turned P v turn m → turn .stop ≡ At a → Onward P v turn m m turn
+onward-stopped P v {turn} {m} a here stopped =
+    let to : (es : List Event) → afterStop P (stateIn m (turn .leaves)) (turn .left) (turn .stop) es
+    ≡ afterStop P (stateIn m (turn .leaves)) (turn .left) (At a) [] =
+    λ es. ap (λ x. afterStop P (stateIn m (turn .leaves)) (turn .left) x es) stopped in
+    record {
+      same = to (nodesLeft P (suc v)) ∙ sym (to []);
+      lent = here .lent;
+      atMost = subst (λ x. IfThrough x (turn .leaves ≤ activeAll P)) (sym stopped) tt;
+    }
+
+-- ---- the same, from what the code reads
+
+-- there are few nodes
+pub nodes-few : (g : Grid) → Sized g → nodesOf g ≤ 16777216
+nodes-few g sized =
+    let one : 1 ≤ cube (g .inner) = cube-le (g .inner) 1 (sized .innerLeast) in
+    omega (arith, sized .children, mul-le-mul-left (nodesOf g) one)
+
+-- a node's kinds are inside the slice
+pub node-few : (g : Grid) (v : ℕ) → Sized g → v < nodesOf g → v * cube (g .inner) + cube (g .inner) ≤ nodesOf g * cube (g .inner)
+node-few g v sized below = omega (arith, mul-le-mul-right (cube (g .inner)) below)
+
+-- a part of a list
+pub part-long : (l : List ℕ) (first n : ℕ) → first + n ≤ length l → length (take (first + n - first) (drop first l)) ≡ n
+part-long l first n fits =
+    let size : first + n - first ≡ n = omega arith in
+    length-take-le (first + n - first) (drop first l) (omega (arith, length-drop first l)) ∙ size
+
+module _ (g : Grid) (decide : BoundingBox → List Float → Verdict) (value : Float → Float → Float → Float) (v i b leaves : ℕ) (m : Memory)
+    (ready : Ready (planWith g decide value) v 0 leaves m) (n : ℕ) (cubed : n ≡ cube (g .inner))
+    {box : BoundingBox} {next left : ℕ} {after : List Float} (boxed : box ≡ nodeBox g v)
+    (run : CornerRun (corners.needed (g .inner) (kinds.nonzero (take (v * n + n - v * n) (drop (v * n) (m .kinds)))))
+    (λ i. values.at value (corners.cornerPoint box (g .inner) i)) (cube (g .inner + 1)) i b next left (m .corners) after) where
+  abbrev P : Plan
+  P = planWith g decide value
+
+  planned : CornerRun (P .needed v) (P .cornerValue v) (P .corners) i b next left (m .corners) after
+  unfolding planWith
+  planned =
+      let size : v * n + n - v * n ≡ cube (g .inner) = omega (arith, cubed) in
+      plan-corners g decide value (m .kinds) (ready .lent .activeKinds) (ready .lent .kinds) v (ready .node) (ap (λ k. v * k) cubed) size boxed run
+
+  -- the code's corners stop before one that is needed
+  pub node-at-corner : next < cube (g .inner + 1)
+      → NodeAdvanced P v b leaves m (memoryOf (m .kinds) (m .numbers) (m .places) (m .store) after) (eventsFrom P (Corner v i) (readingIn m))
+      (progress leaves left (At (Corner v next)))
+  unfolding planWith
+  node-at-corner short = record { advanced = corners-stopped P v i b leaves next left m after (ready .lent) planned short; cleared = tt }
+
+  -- or come to the children
+  pub node-past-corners : PlanLaws P → cube (g .inner + 1) ≤ next
+      → Advanced P b leaves m (memoryOf (m .kinds) (m .numbers) (m .places) (m .store) after) (eventsFrom P (Corner v i) (readingIn m))
+      (childrenLeft P v 0 (readingIn (memoryOf (m .kinds) (m .numbers) (m .places) (m .store) after))) (progress leaves left Through) (activeBefore P v 0)
+  unfolding planWith
+  node-past-corners laws last = corners-through P v i b leaves next left m after (ready .lent) planned laws (ready .node) last (ready .atMost)
+
+module _ (g : Grid) (decide : BoundingBox → List Float → Verdict) (value : Float → Float → Float → Float) (v c p b leaves : ℕ) (m : Memory)
+    (ready : Ready (planWith g decide value) v (suc c) leaves m) (below : c < cube (g .inner)) where
+  abbrev Q : Plan
+  Q = planWith g decide value
+
+  -- the leaves so far are inside the store
+  pub leaves-inside : leaves * cube (g .leaf) ≤ length (m .store)
+  unfolding planWith
+  leaves-inside =
+      let few : leaves ≤ activeAll Q = omega (arith, ready .atMost, before-most Q (Q .active) v (suc c) (ready .node) (omega arith)) in
+      omega (arith, ready .lent .store, mul-le-mul-right (cube (g .leaf)) few)
+
+  -- points of the last leaf, that of child c
+  pub node-points : {box child : BoundingBox} {store : List Float} {turn : Progress} → p ≤ cube (g .leaf)
+      → box ≡ nodeBox g v → child ≡ childBox box (g .inner) c
+      → turn ≡ leafProgress leaves b v c p (cube (g .leaf))
+      → store ≡ filled ((leaves - 1) * cube (g .leaf) + p) (min b (cube (g .leaf) - p))
+      (λ q. values.at value (leafPoint child (g .leaf) (q - (leaves - 1) * cube (g .leaf)))) (m .store)
+      → Advanced Q b leaves m (memoryOf (m .kinds) (m .numbers) (m .places) store (m .corners)) (eventsFrom Q (Point v c p) (readingIn m))
+      (childrenLeft Q v (suc c) (readingIn m)) turn (activeBefore Q v (suc c))
+  unfolding planWith boxOf
+  node-points {box} {child} {store} {turn} within boxed lies goes stored =
+      let lies′ : child ≡ childBox (nodeBox g v) (g .inner) c = lies ∙ ap (λ x. childBox x (g .inner) c) boxed in
+      let stored′ : store ≡ filledStore Q v c p b leaves (m .store) =
+      stored ∙ ap (λ x. filled ((leaves - 1) * cube (g .leaf) + p) (min b (cube (g .leaf) - p))
+      (λ q. values.at value (leafPoint x (g .leaf) (q - (leaves - 1) * cube (g .leaf)))) (m .store)) lies′ in
+      subst (λ l. Advanced Q b leaves m (memoryOf (m .kinds) (m .numbers) (m .places) l (m .corners)) (eventsFrom Q (Point v c p) (readingIn m))
+      (childrenLeft Q v (suc c) (readingIn m)) turn (activeBefore Q v (suc c))) (sym stored′)
+      (subst (λ t. Advanced Q b leaves m (memoryOf (m .kinds) (m .numbers) (m .places) (filledStore Q v c p b leaves (m .store)) (m .corners))
+      (eventsFrom Q (Point v c p) (readingIn m)) (childrenLeft Q v (suc c) (readingIn m)) t (activeBefore Q v (suc c))) (sym goes)
+      (turn-points Q v c p b leaves m (ready .lent) (ready .atMost) within))
+
+-- ---- from a cursor on
+
+-- what is left at a cursor that is known
+pub at-cursor : (P : Plan) (a x : Cursor) (b leaves : ℕ) (m : Memory) {m₁ : Memory} {r : Progress} {most : ℕ} → a ≡ x
+    → Advanced P b leaves m m₁ (eventsFrom P x (readingIn m)) [] r most → Advanced P b leaves m m₁ (eventsFrom P a (readingIn m)) [] r most
+at-cursor P a x b leaves m {m₁} {r} {most} known = subst (λ y. Advanced P b leaves m m₁ (eventsFrom P y (readingIn m)) [] r most) (sym known)
+
+-- at the end nothing is left
+pub at-end : (P : Plan) (b leaves : ℕ) (m : Memory) → Lent P m → leaves ≤ activeAll P
+    → Advanced P b leaves m m (eventsFrom P End (readingIn m)) [] (progress leaves b Through) (activeAll P)
+unfolding eventsFrom
+at-end P b leaves m lent most = advanced-start P b leaves m [] (activeAll P) lent most

@@ -1,0 +1,4 @@
+-- What the functions and the laws of this crate state. No promise of a public call names these.
+pub mod Runs
+pub mod Progress
+pub mod Startable

@@ -1,0 +1,2 @@
+-- A job's work.
+pub mod Inner

@@ -1,0 +1,2 @@
+-- The judgement of a record.
+pub mod Inner

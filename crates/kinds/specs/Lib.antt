@@ -1,0 +1,2 @@
+-- The kinds of a grid's children.
+pub mod Inner

@@ -1,0 +1,3 @@
+pub mod Plans
+pub mod NodeKinds
+pub mod Lawful

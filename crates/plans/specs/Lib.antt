@@ -1,0 +1,4 @@
+-- What an input gives to the schedule.
+pub mod Plan
+pub mod Sparse
+pub mod Inner
