@@ -3,8 +3,8 @@
  * each has come, and looks at what is left in the memory. Then the bits of NaNs, a
  * dense field, walks, and a job as text.
  *
- *   rt staticlib field_host
- *   cc -std=c99 -Iinclude examples/station.c target/staticlib/libfield_host.a -o station
+ *   make
+ *   cc -std=c99 -Iinclude examples/station.c target/staticlib/libjisampode.a -o station
  *   ./station
  *
  * It checks its own results, and ends with 1 where one is not as expected.
@@ -54,15 +54,9 @@ static int zero_from(const double *values, size_t start, size_t length)
 
 /* ---- a model ---------------------------------------------------------- */
 
-typedef struct model {
-    uint32_t parts[JISAMPODE_PARTS];
-    double reals[JISAMPODE_REALS];
-    uint32_t count;
-} model;
-
 /* Adds a shape, and hands back its place. */
-static uint32_t add_shape(model *m, uint32_t code, double x, double y, double z,
-                          double number)
+static uint32_t add_shape(jisampode_model *m, uint32_t code, double x, double y,
+                          double z, double number)
 {
     uint32_t place = m->count++;
     m->parts[place] = code;
@@ -74,7 +68,8 @@ static uint32_t add_shape(model *m, uint32_t code, double x, double y, double z,
 }
 
 /* Adds an operation on earlier parts. */
-static uint32_t add_operation(model *m, uint32_t code, uint32_t a, uint32_t b)
+static uint32_t add_operation(jisampode_model *m, uint32_t code, uint32_t a,
+                              uint32_t b)
 {
     uint32_t place = m->count++;
     m->parts[place] = code;
@@ -96,49 +91,43 @@ typedef struct station {
     double corners[CORNERS];
 } station;
 
-typedef struct job {
-    double settings[JISAMPODE_SETTINGS];
-    uint32_t inner;
-    uint32_t leaf;
-    model shape;
-} job;
-
-static uint32_t open_job(station *s, const job *j)
+/* The five slices that the station lends. */
+static jisampode_memory lent(station *s)
 {
-    jisampode_record *r = &s->record;
-    return jisampode_open(j->settings, j->inner, j->leaf, j->shape.parts,
-                          j->shape.reals, j->shape.count, r->words, r->parts,
-                          r->settings, r->reals, s->kinds, CHILDREN, s->numbers,
-                          CHILDREN, s->places, CHILDREN, s->store, STORE,
-                          s->corners, CORNERS);
+    const jisampode_memory memory = {s->kinds, CHILDREN, s->numbers, CHILDREN,
+                                     s->places, CHILDREN, s->store, STORE,
+                                     s->corners, CORNERS};
+    return memory;
 }
 
-static uint32_t step_job(station *s, uint64_t budget)
+static uint32_t open_job(station *s, const jisampode_input *input)
 {
-    jisampode_record *r = &s->record;
-    return jisampode_step(budget, r->words, r->parts, r->settings, r->reals,
-                          s->kinds, CHILDREN, s->numbers, CHILDREN, s->places,
-                          CHILDREN, s->store, STORE, s->corners, CORNERS);
+    const jisampode_memory memory = lent(s);
+    return jisampode_job_open(input, &s->record, &memory);
+}
+
+static uint32_t step_job(station *s, uint64_t budget, jisampode_progress *progress)
+{
+    const jisampode_memory memory = lent(s);
+    return jisampode_job_step(budget, &s->record, &memory, progress);
 }
 
 static uint32_t drop_job(station *s)
 {
-    jisampode_record *r = &s->record;
-    return jisampode_drop(r->words, r->parts, r->settings, r->reals, s->kinds,
-                          CHILDREN, s->numbers, CHILDREN, s->places, CHILDREN,
-                          s->store, STORE, s->corners, CORNERS);
+    const jisampode_memory memory = lent(s);
+    return jisampode_job_drop(&s->record, &memory);
 }
 
 /* The most evaluations that the open job can make: every needed corner, and every
    point of every active child. */
-static uint64_t most_evaluations(const station *s, const job *j)
+static uint64_t most_evaluations(const station *s, const jisampode_input *j)
 {
-    uint64_t counts[5] = {0};
+    uint64_t counts[JISAMPODE_COUNTS] = {0};
     check(jisampode_counts(s->record.words, counts) == 0, "the counts of an open job");
     size_t children = (size_t)j->inner * j->inner * j->inner;
     uint64_t points = (uint64_t)j->leaf * j->leaf * j->leaf;
-    uint64_t most = counts[1] * points;
-    for (uint64_t node = 0; node < counts[0]; node++) {
+    uint64_t most = counts[JISAMPODE_COUNT_ACTIVE] * points;
+    for (uint64_t node = 0; node < counts[JISAMPODE_COUNT_NODES]; node++) {
         uint32_t list[CORNERS];
         size_t needed[1] = {0};
         uint32_t answer = jisampode_corner_list(j->inner, s->kinds + node * children,
@@ -160,24 +149,23 @@ static void draw(const char *name, uint64_t done, uint64_t most, int finished)
 }
 
 /* Opens a job and steps it to its end. */
-static void run_job(station *s, const job *j, const char *name, uint64_t budget,
-                    uint64_t counts[5])
+static void run_job(station *s, const jisampode_input *j, const char *name,
+                    uint64_t budget, uint64_t counts[JISAMPODE_COUNTS])
 {
-    uint64_t cursor[4] = {0};
+    jisampode_progress progress = {0, 0};
     check(open_job(s, j) == 0, "an open");
     uint64_t most = most_evaluations(s, j);
-    uint64_t before = 0;
+    uint64_t done = 0;
     do {
-        check(step_job(s, budget) == 0, "a step");
-        check(jisampode_counts(s->record.words, counts) == 0, "the counts");
-        check(jisampode_cursor(s->record.words, cursor) == 0, "the cursor");
-        int finished = cursor[0] == JISAMPODE_AT_END;
-        check(finished ? counts[4] - before <= budget : counts[4] - before == budget,
+        check(step_job(s, budget, &progress) == 0, "a step");
+        check(progress.finished ? progress.made <= budget : progress.made == budget,
               "a step makes as many evaluations as its budget");
-        before = counts[4];
-        draw(name, counts[4], most, finished);
-    } while (cursor[0] != JISAMPODE_AT_END && failures == 0);
-    check(counts[4] <= most, "no more evaluations than the most");
+        done += progress.made;
+        draw(name, done, most, progress.finished);
+    } while (!progress.finished && failures == 0);
+    check(jisampode_counts(s->record.words, counts) == 0, "the counts");
+    check(counts[JISAMPODE_COUNT_EVALUATIONS] == done, "the evaluations of all steps");
+    check(done <= most, "no more evaluations than the most");
     printf("%s done: nodes %" PRIu64 ", active children %" PRIu64 ", leaves %" PRIu64
            ", points %" PRIu64 ", evaluations %" PRIu64 "\n",
            name, counts[0], counts[1], counts[2], counts[3], counts[4]);
@@ -186,35 +174,35 @@ static void run_job(station *s, const job *j, const char *name, uint64_t budget,
 /* ---- what the station does -------------------------------------------- */
 
 /* A plane in a box of 2×2×2: one node. */
-static job small_job(void)
+static jisampode_input small_job(void)
 {
-    job j = {{0, 0, 0, 2, 2, 2, 1, -0.25, 0}, 2, 2, {{0}, {0}, 0}};
-    add_shape(&j.shape, JISAMPODE_PLANE, 1, 0, 0, 0);
+    jisampode_input j = {{0, 0, 0, 2, 2, 2, 1, -0.25, 0}, 2, 2, {{0}, {0}, 0}};
+    add_shape(&j.model, JISAMPODE_PLANE, 1, 0, 0, 0);
     return j;
 }
 
 /* A ball less a smaller one in a box of 4×4×4: eight nodes. */
-static job large_job(void)
+static jisampode_input large_job(void)
 {
-    job j = {{0, 0, 0, 4, 4, 4, 1, -0.05, 0.05}, 2, 2, {{0}, {0}, 0}};
-    uint32_t ball = add_shape(&j.shape, JISAMPODE_SPHERE, 2, 2, 2, 0.75);
-    uint32_t hole = add_shape(&j.shape, JISAMPODE_SPHERE, 2.5, 2, 2, 0.25);
-    uint32_t outside = add_operation(&j.shape, JISAMPODE_NEG, hole, 0);
-    add_operation(&j.shape, JISAMPODE_MAX, ball, outside);
+    jisampode_input j = {{0, 0, 0, 4, 4, 4, 1, -0.05, 0.05}, 2, 2, {{0}, {0}, 0}};
+    uint32_t ball = add_shape(&j.model, JISAMPODE_SPHERE, 2, 2, 2, 0.75);
+    uint32_t hole = add_shape(&j.model, JISAMPODE_SPHERE, 2.5, 2, 2, 0.25);
+    uint32_t outside = add_operation(&j.model, JISAMPODE_NEG, hole, 0);
+    add_operation(&j.model, JISAMPODE_MAX, ball, outside);
     return j;
 }
 
 /* A large job and then a small one in the same memory. */
 static void one_job_after_another(station *s)
 {
-    uint64_t counts[5] = {0};
-    job large = large_job();
+    uint64_t counts[JISAMPODE_COUNTS] = {0};
+    jisampode_input large = large_job();
     run_job(s, &large, "large", 150, counts);
     check(!zero_from(s->store, 64, STORE), "the large job's values reach far");
 
-    job small = small_job();
+    jisampode_input small = small_job();
     run_job(s, &small, "small", 20, counts);
-    const uint64_t expected[5] = {1, 8, 4, 32, 59};
+    const uint64_t expected[JISAMPODE_COUNTS] = {1, 8, 4, 32, 59};
     check(memcmp(counts, expected, sizeof expected) == 0, "the small job's counts");
     for (size_t child = 0; child < 8; child++) {
         int leaf = child % 2 == 0;
@@ -237,31 +225,35 @@ static void one_job_after_another(station *s)
 /* What open and step refuse. */
 static void refusals(station *s)
 {
-    job wrong = small_job();
+    jisampode_progress progress = {7, 7};
+    jisampode_input wrong = small_job();
     wrong.settings[6] = 0;
     uint32_t by_cell = open_job(s, &wrong);
     check(by_cell == JISAMPODE_REFUSED_BOUNDS, "a cell size of 0");
     check(s->store[1] == 1.0, "a refused open changes nothing");
 
     s->record.words[9]++;
-    uint32_t by_record = step_job(s, 1);
+    uint32_t by_record = step_job(s, 1, &progress);
     check(by_record == JISAMPODE_REFUSED_RECORD, "a record that was changed");
 
     check(drop_job(s) == 0, "a drop");
     check(zero_from(s->store, 0, STORE), "a drop zeroes the store");
-    uint32_t by_drop = step_job(s, 1);
+    uint32_t by_drop = step_job(s, 1, &progress);
     check(by_drop == JISAMPODE_REFUSED_NO_JOB, "a step after a drop");
+    check(progress.made == 7 && progress.finished == 7, "a refused step has no progress");
     printf("refused: %" PRIu32 " %" PRIu32 " %" PRIu32 "\n", by_cell, by_record, by_drop);
+    printf("the last: %s\n", jisampode_refusal_text(by_drop));
 }
 
 /* Runs a model that is NaN everywhere, and hands back the bits of its values. */
-static uint64_t bits_of_leaves(station *s, const model *shape)
+static uint64_t bits_of_leaves(station *s, const jisampode_model *shape)
 {
-    job j = small_job();
-    j.shape = *shape;
+    jisampode_progress progress;
+    jisampode_input j = small_job();
+    j.model = *shape;
     check(open_job(s, &j) == 0, "an open with a NaN");
-    check(step_job(s, 1) == 0, "a first step with a NaN");
-    check(step_job(s, UINT64_MAX) == 0, "the other steps with a NaN");
+    check(step_job(s, 1, &progress) == 0, "a first step with a NaN");
+    check(step_job(s, UINT64_MAX, &progress) == 0, "the other steps with a NaN");
     for (size_t at = 0; at < 64; at++) {
         check(bits_of(s->store[at]) == bits_of(s->store[0]), "the bits of a NaN");
     }
@@ -271,7 +263,7 @@ static uint64_t bits_of_leaves(station *s, const model *shape)
 /* A constant is copied with its bits; a computed NaN has one pattern. */
 static void nan_bits(station *s)
 {
-    model shape = {{0}, {0}, 0};
+    jisampode_model shape = {{0}, {0}, 0};
     uint32_t constant = add_shape(&shape, JISAMPODE_CONSTANT, 0, 0, 0,
                                   from_bits(UINT64_C(0x7ff8000000000001)));
     uint64_t copied = bits_of_leaves(s, &shape);
@@ -294,7 +286,7 @@ static void dense_field(void)
 
     double values[27] = {0};
     double scratch[27] = {0};
-    model shape = {{0}, {0}, 0};
+    jisampode_model shape = {{0}, {0}, 0};
     add_shape(&shape, JISAMPODE_PLANE, 1, 10, 100, 0);
     check(jisampode_sample(shape.parts, shape.reals, shape.count, 0, 0, 0, 1, n[0],
                            n[1], n[2], values, 27) == 0,

@@ -1,9 +1,10 @@
 /*
  * Jisampode: the field engine of a print-preparation station.
  *
- * Link libfield_host.a, which `rt staticlib field_host` writes to
- * target/staticlib/. It needs memcpy and memset, and nothing else: no heap, no
- * threads, no files.
+ * Link libjisampode.a, which `make` writes to target/staticlib/; `make install
+ * PREFIX=..` installs it with this header, a shared object and a file for
+ * pkg-config. It is compiled for x86-64 Linux. It needs memcpy and memset, and
+ * nothing else: no heap, no threads, no files.
  *
  * WHAT EVERY CALL KEEPS TO
  *
@@ -36,6 +37,19 @@
 #ifdef __cplusplus
 extern "C" {
 #endif
+
+/* ---- the version ------------------------------------------------------ */
+
+/* Of this header. */
+#define JISAMPODE_VERSION_MAJOR 0
+#define JISAMPODE_VERSION_MINOR 1
+#define JISAMPODE_VERSION_PATCH 0
+#define JISAMPODE_VERSION                                              \
+    (JISAMPODE_VERSION_MAJOR * 10000 + JISAMPODE_VERSION_MINOR * 100 + \
+     JISAMPODE_VERSION_PATCH)
+
+/* Of the archive, in the same form. A host can hold the two together. */
+uint32_t jisampode_version(void);
 
 /* ---- answers ---------------------------------------------------------- */
 
@@ -74,6 +88,31 @@ enum {
     /* Of a walk alone: past the last one. The cursor stays. */
     JISAMPODE_DONE = 100
 };
+
+/*
+ * What a number that a call returned says, for a log: a sentence without a full
+ * stop, in memory that lives on. A number that no call returns has one too.
+ */
+static inline const char *jisampode_refusal_text(uint32_t number)
+{
+    switch (number) {
+    case JISAMPODE_ACCEPTED: return "accepted";
+    case JISAMPODE_REFUSED_BOUNDS: return "the bounds, the origin or the cell size";
+    case JISAMPODE_REFUSED_BLOCKS: return "a block size is not 2, 4, 8, 16, 32 or 64";
+    case JISAMPODE_REFUSED_BAND: return "a limit of the band is NaN";
+    case JISAMPODE_REFUSED_MODEL: return "the number of parts, a part's input or its code";
+    case JISAMPODE_REFUSED_GRID: return "the node size, or too many nodes or children";
+    case JISAMPODE_REFUSED_SHORT: return "a lent slice is too short";
+    case JISAMPODE_REFUSED_NO_JOB: return "the record has no job";
+    case JISAMPODE_REFUSED_RECORD: return "the record is not one of a job of this memory";
+    case JISAMPODE_REFUSED_DIMENSIONS: return "the dimensions, or the length of the values or the scratch";
+    case JISAMPODE_REFUSED_OUTSIDE: return "a cell outside the field";
+    case JISAMPODE_REFUSED_WALK: return "a walk's counts, or its cursor";
+    case JISAMPODE_REFUSED_TEXT: return "a job's text is off its form";
+    case JISAMPODE_DONE: return "a walk is past the last one";
+    default: return "a number that this header does not know";
+    }
+}
 
 /* ---- a model ---------------------------------------------------------- */
 
@@ -127,6 +166,11 @@ enum {
  * something does, the next call judges what it finds: a record whose words no
  * record has, or that no job of this memory can have, is refused by
  * JISAMPODE_REFUSED_RECORD. Where words[0] is 0 the rest is not looked at.
+ *
+ * No record has a words[0] above 1, words[1], words[2] or words[3] of more than 32
+ * bits, or a words[14] above 2: jisampode_counts and jisampode_cursor return 8 for
+ * these, and jisampode_step does. An accepted step writes the record anew: parts
+ * past the model's count, and what a part does not use, are 0 afterwards.
  */
 typedef struct jisampode_record {
     uint64_t words[JISAMPODE_WORDS];
@@ -134,6 +178,48 @@ typedef struct jisampode_record {
     double settings[JISAMPODE_SETTINGS];
     double reals[JISAMPODE_REALS];
 } jisampode_record;
+
+/* Where things stand in a record's words. The lengths, counts and cursor begin at
+   these, and go on as named below. */
+enum {
+    JISAMPODE_WORD_JOB = 0,
+    JISAMPODE_WORD_INNER = 1,
+    JISAMPODE_WORD_LEAF = 2,
+    JISAMPODE_WORD_PARTS = 3,
+    JISAMPODE_WORD_LENGTHS = 4,
+    JISAMPODE_WORD_COUNTS = 9,
+    JISAMPODE_WORD_CURSOR = 14
+};
+
+/* The five lengths, as jisampode_lengths gives them. */
+enum {
+    JISAMPODE_LENGTH_KINDS = 0,
+    JISAMPODE_LENGTH_NUMBERS = 1,
+    JISAMPODE_LENGTH_PLACES = 2,
+    JISAMPODE_LENGTH_STORE = 3,
+    JISAMPODE_LENGTH_CORNERS = 4,
+    JISAMPODE_LENGTHS = 5
+};
+
+/* The five counts, as jisampode_counts gives them. */
+enum {
+    JISAMPODE_COUNT_NODES = 0,
+    JISAMPODE_COUNT_ACTIVE = 1,
+    JISAMPODE_COUNT_LEAVES = 2,
+    JISAMPODE_COUNT_SAMPLED = 3,
+    JISAMPODE_COUNT_EVALUATIONS = 4,
+    JISAMPODE_COUNTS = 5
+};
+
+/* The cursor, as jisampode_cursor gives it: one of JISAMPODE_AT_.., then a node, a
+   corner or a child of it, and a child's point. */
+enum {
+    JISAMPODE_CURSOR_AT = 0,
+    JISAMPODE_CURSOR_NODE = 1,
+    JISAMPODE_CURSOR_PLACE = 2,
+    JISAMPODE_CURSOR_POINT = 3,
+    JISAMPODE_CURSOR = 4
+};
 
 /* The kinds of children. */
 enum {
@@ -151,9 +237,11 @@ enum {
  * numbers and places need nodes × n³ elements, corners (n + 1)³, store active
  * children × L³. Longer is allowed. All five are zeroed whole.
  *
- * Afterwards: kinds has the children's kinds, node after node; numbers the
- * constants; places the leaves' ordinals; store the leaves' values, those of
- * ordinal o from o × L³ on, x fastest. What a job does not use is 0.
+ * Afterwards kinds has 1 for each active child, node after node, and everything
+ * else is 0; but where no child is active the job is finished. Steps then fill
+ * numbers with the constants, places with the leaves' ordinals, and store with the
+ * leaves' values, those of ordinal o from o × L³ on, x fastest. What a job does not
+ * use is 0.
  *
  * Refused by 1 to 6; then the record and the slices are as they were.
  */
@@ -179,7 +267,7 @@ uint32_t jisampode_open(
 uint32_t jisampode_lengths(
     const double settings[JISAMPODE_SETTINGS], uint32_t inner, uint32_t leaf,
     const uint32_t parts[JISAMPODE_PARTS], const double reals[JISAMPODE_REALS],
-    uint32_t count, size_t lengths[5]);
+    uint32_t count, size_t lengths[JISAMPODE_LENGTHS]);
 
 /*
  * Makes as many evaluations as the budget allows and the job has left. A finished
@@ -220,7 +308,7 @@ uint32_t jisampode_drop(
  * and by 8 where the words are those of no record.
  */
 uint32_t jisampode_counts(const uint64_t record_words[JISAMPODE_WORDS],
-                          uint64_t counts[5]);
+                          uint64_t counts[JISAMPODE_COUNTS]);
 
 /* Where a job has come to. */
 enum {
@@ -232,7 +320,7 @@ enum {
 /* The job's next evaluation: one of the three above, the node, the corner or
    child, the point; 0 where there is none. Refused as jisampode_counts. */
 uint32_t jisampode_cursor(const uint64_t record_words[JISAMPODE_WORDS],
-                          uint64_t cursor[4]);
+                          uint64_t cursor[JISAMPODE_CURSOR]);
 
 /*
  * The corners that a node's active children need: each once, in no promised
@@ -244,6 +332,101 @@ uint32_t jisampode_corner_list(uint32_t inner,
                                const uint8_t *kinds, size_t kinds_length,
                                uint32_t *list, size_t list_length,
                                size_t count[1]);
+
+/* ---- the same with structs -------------------------------------------- */
+
+/* A model, with the parts that count. All zeros is a model without a part. */
+typedef struct jisampode_model {
+    uint32_t parts[JISAMPODE_PARTS];
+    double reals[JISAMPODE_REALS];
+    uint32_t count;
+} jisampode_model;
+
+/* What a job is opened with, as jisampode_open takes it. */
+typedef struct jisampode_input {
+    double settings[JISAMPODE_SETTINGS];
+    uint32_t inner;
+    uint32_t leaf;
+    jisampode_model model;
+} jisampode_input;
+
+/* Five lent slices. */
+typedef struct jisampode_memory {
+    uint8_t *kinds;
+    size_t kinds_length;
+    double *numbers;
+    size_t numbers_length;
+    uint32_t *places;
+    size_t places_length;
+    double *store;
+    size_t store_length;
+    double *corners;
+    size_t corners_length;
+} jisampode_memory;
+
+/* What a step has done. */
+typedef struct jisampode_progress {
+    uint64_t made; /* evaluations of this step */
+    int finished;  /* 1 where the job is at its end, else 0 */
+} jisampode_progress;
+
+/* As jisampode_lengths. */
+static inline uint32_t jisampode_input_lengths(const jisampode_input *input,
+                                               size_t lengths[JISAMPODE_LENGTHS])
+{
+    return jisampode_lengths(input->settings, input->inner, input->leaf,
+                             input->model.parts, input->model.reals,
+                             input->model.count, lengths);
+}
+
+/* As jisampode_open. */
+static inline uint32_t jisampode_job_open(const jisampode_input *input,
+                                          jisampode_record *record,
+                                          const jisampode_memory *memory)
+{
+    return jisampode_open(
+        input->settings, input->inner, input->leaf, input->model.parts,
+        input->model.reals, input->model.count, record->words, record->parts,
+        record->settings, record->reals, memory->kinds, memory->kinds_length,
+        memory->numbers, memory->numbers_length, memory->places,
+        memory->places_length, memory->store, memory->store_length,
+        memory->corners, memory->corners_length);
+}
+
+/* As jisampode_step. An accepted one says what it has done; a refused one leaves
+   the progress as it was. */
+static inline uint32_t jisampode_job_step(uint64_t budget,
+                                          jisampode_record *record,
+                                          const jisampode_memory *memory,
+                                          jisampode_progress *progress)
+{
+    const size_t evaluations = JISAMPODE_WORD_COUNTS + JISAMPODE_COUNT_EVALUATIONS;
+    const uint64_t before = record->words[evaluations];
+    const uint32_t answer = jisampode_step(
+        budget, record->words, record->parts, record->settings, record->reals,
+        memory->kinds, memory->kinds_length, memory->numbers,
+        memory->numbers_length, memory->places, memory->places_length,
+        memory->store, memory->store_length, memory->corners,
+        memory->corners_length);
+    if (answer == JISAMPODE_ACCEPTED) {
+        progress->made = record->words[evaluations] - before;
+        progress->finished =
+            record->words[JISAMPODE_WORD_CURSOR] == (uint64_t)JISAMPODE_AT_END;
+    }
+    return answer;
+}
+
+/* As jisampode_drop. */
+static inline uint32_t jisampode_job_drop(jisampode_record *record,
+                                          const jisampode_memory *memory)
+{
+    return jisampode_drop(
+        record->words, record->parts, record->settings, record->reals,
+        memory->kinds, memory->kinds_length, memory->numbers,
+        memory->numbers_length, memory->places, memory->places_length,
+        memory->store, memory->store_length, memory->corners,
+        memory->corners_length);
+}
 
 /* ---- a dense field ---------------------------------------------------- */
 
@@ -319,6 +502,13 @@ enum { JISAMPODE_LISTING_BYTES = 88176 };
 uint32_t jisampode_list_job(const uint8_t *text, size_t text_length,
                             uint8_t *listing, size_t listing_length,
                             size_t written[1]);
+
+/* ---- sizes ------------------------------------------------------------ */
+
+/* What the archive was compiled for. A compiler that has other sizes stops here. */
+typedef char jisampode_a_size_has_8_bytes[sizeof(size_t) == 8 ? 1 : -1];
+typedef char jisampode_a_double_has_8_bytes[sizeof(double) == 8 ? 1 : -1];
+typedef char jisampode_a_record_has_3032_bytes[sizeof(jisampode_record) == 3032 ? 1 : -1];
 
 #ifdef __cplusplus
 }

@@ -1,5 +1,5 @@
 //! Where the engine's archive is: in the folder that JISAMPODE_LIB_DIR names, or
-//! where `rt staticlib field_host` writes it.
+//! where `tools/archive` writes it.
 
 use std::env;
 use std::path::PathBuf;
@@ -13,14 +13,14 @@ fn main() {
         )
         .join("../../target/staticlib"),
     };
-    let archive = folder.join("libfield_host.a");
+    let archive = folder.join("libjisampode.a");
     if !archive.exists() {
         println!(
-            "cargo:warning=no {}: run `rt staticlib field_host`, or name its folder by JISAMPODE_LIB_DIR",
+            "cargo:warning=no {}: run `make`, or name its folder by JISAMPODE_LIB_DIR",
             archive.display()
         );
     }
     println!("cargo:rustc-link-search=native={}", folder.display());
-    println!("cargo:rustc-link-lib=static=field_host");
+    println!("cargo:rustc-link-lib=static=jisampode");
     println!("cargo:rerun-if-changed={}", archive.display());
 }

@@ -12,6 +12,7 @@ pub struct Bounds {
 
 impl Bounds {
     /// The box of two ends.
+    #[must_use]
     pub fn new(min: [f64; 3], max: [f64; 3]) -> Bounds {
         Bounds { min, max }
     }

@@ -1,12 +1,13 @@
 //! What a job is opened with.
 
-use std::error::Error;
-use std::fmt;
+use core::fmt;
 
 use crate::bounds::Bounds;
 use crate::engine;
 use crate::job::Job;
-use crate::memory::{Lengths, Memory};
+#[cfg(feature = "std")]
+use crate::memory::OwnedMemory;
+use crate::memory::{Lengths, Memory, Slices};
 use crate::model::Model;
 use crate::record::Record;
 use crate::refusal::Refusal;
@@ -52,6 +53,7 @@ pub struct JobBuilder {
 
 impl JobBuilder {
     /// A builder with nothing set.
+    #[must_use]
     pub fn new() -> JobBuilder {
         JobBuilder {
             bounds: Bounds::new([f64::NAN; 3], [f64::NAN; 3]),
@@ -64,12 +66,14 @@ impl JobBuilder {
     }
 
     /// Where the field is.
+    #[must_use]
     pub fn bounds(mut self, bounds: Bounds) -> JobBuilder {
         self.bounds = bounds;
         self
     }
 
     /// The distance between points of a leaf.
+    #[must_use]
     pub fn cell(mut self, cell: f64) -> JobBuilder {
         self.cell = cell;
         self
@@ -77,6 +81,7 @@ impl JobBuilder {
 
     /// Children of a node along an axis, and points of a leaf along an axis: each
     /// 2, 4, 8, 16, 32 or 64.
+    #[must_use]
     pub fn blocks(mut self, inner: u32, leaf: u32) -> JobBuilder {
         self.inner = inner;
         self.leaf = leaf;
@@ -85,12 +90,14 @@ impl JobBuilder {
 
     /// The values that leaves are kept for. A child that no value of the band can
     /// be in becomes a constant.
+    #[must_use]
     pub fn band(mut self, lower: f64, upper: f64) -> JobBuilder {
         self.band = [lower, upper];
         self
     }
 
     /// The model that is evaluated.
+    #[must_use]
     pub fn model(mut self, model: Model) -> JobBuilder {
         self.model = model;
         self
@@ -104,10 +111,31 @@ impl JobBuilder {
         engine::lengths(&self.settings(), blocks, &self.model.laid_out())
     }
 
-    /// Opens a job in lent memory, which is zeroed whole first.
+    /// Opens a job in lent memory, which is zeroed whole first. Refused by causes 1 to
+    /// 6; then every element is as it was.
     ///
-    /// Refused by causes 1 to 6. Then the memory comes back with the refusal, with
-    /// every element as it was.
+    /// ```
+    /// # use jisampode::{Bounds, JobBuilder, Model, OwnedMemory};
+    /// # fn main() -> Result<(), Box<dyn std::error::Error>> {
+    /// # let mut model = Model::new();
+    /// # model.plane([1.0, 0.0, 0.0], 0.0)?;
+    /// # let builder = JobBuilder::new()
+    /// #     .bounds(Bounds::new([0.0; 3], [2.0; 3]))
+    /// #     .cell(1.0)
+    /// #     .blocks(2, 2)
+    /// #     .band(-0.25, 0.0)
+    /// #     .model(model);
+    /// let mut memory = OwnedMemory::for_job_within(&builder, 1 << 20)?;
+    /// let job = builder.open(memory.lend())?;
+    /// assert_eq!(job.counts().active, 8);
+    /// # Ok(())
+    /// # }
+    /// ```
+    pub fn open<'m>(&self, memory: Memory<'m>) -> Result<Job<Memory<'m>>, Refusal> {
+        self.open_in(memory).map_err(|refused| refused.refusal)
+    }
+
+    /// As [`open`](JobBuilder::open), and a refusal hands the memory back.
     ///
     /// ```
     /// # use jisampode::{Bounds, JobBuilder, Memory, Model, OwnedMemory, Refusal};
@@ -120,15 +148,78 @@ impl JobBuilder {
     /// #     .band(-0.25, 0.0)
     /// #     .model(model);
     /// let mut owned = OwnedMemory::for_job(&builder).unwrap();
-    /// let refused = builder.clone().cell(0.5).open(owned.lend()).unwrap_err();
+    /// let finer = builder.clone().cell(0.5);
+    /// let refused = finer.open_or_return(owned.lend()).unwrap_err();
     /// assert_eq!(refused.refusal, Refusal::Short);
     ///
     /// let job = builder.open(refused.memory).unwrap();
     /// assert_eq!(job.counts().active, 8);
     /// ```
-    pub fn open<'m>(&self, mut memory: Memory<'m>) -> Result<Job<'m>, Refused<'m>> {
+    pub fn open_or_return<'m>(
+        &self,
+        memory: Memory<'m>,
+    ) -> Result<Job<Memory<'m>>, Refused<Memory<'m>>> {
+        self.open_in(memory)
+    }
+
+    /// Opens a job that owns its memory: record and memory are one value, which can
+    /// be laid aside and taken up at any time. A refusal hands the memory back, with
+    /// every element as it was.
+    ///
+    /// ```
+    /// use jisampode::{JobBuilder, OwnedJob, OwnedMemory};
+    ///
+    /// /// The jobs that take turns at a station.
+    /// struct Station {
+    ///     jobs: Vec<OwnedJob>,
+    /// }
+    ///
+    /// impl Station {
+    ///     fn take(&mut self, builder: &JobBuilder) -> Result<(), Box<dyn std::error::Error>> {
+    ///         let memory = OwnedMemory::for_job_within(builder, 64 << 20)?;
+    ///         self.jobs.push(builder.open_owned(memory)?);
+    ///         Ok(())
+    ///     }
+    ///
+    ///     fn work(&mut self, budget: u64) -> Result<(), Box<dyn std::error::Error>> {
+    ///         for job in &mut self.jobs {
+    ///             job.step(budget)?;
+    ///         }
+    ///         Ok(())
+    ///     }
+    /// }
+    /// # use jisampode::{Bounds, Model};
+    /// # fn main() -> Result<(), Box<dyn std::error::Error>> {
+    /// # let mut model = Model::new();
+    /// # model.plane([1.0, 0.0, 0.0], 0.0)?;
+    /// # let builder = JobBuilder::new()
+    /// #     .bounds(Bounds::new([0.0; 3], [2.0; 3]))
+    /// #     .cell(1.0)
+    /// #     .blocks(2, 2)
+    /// #     .band(-0.25, 0.0)
+    /// #     .model(model);
+    /// # let mut station = Station { jobs: Vec::new() };
+    /// # station.take(&builder)?;
+    /// # station.take(&builder)?;
+    /// # station.work(58)?;
+    /// # assert!(!station.jobs[1].is_finished());
+    /// # station.work(58)?;
+    /// # assert_eq!(station.jobs[1].counts().evaluations, 59);
+    /// # Ok(())
+    /// # }
+    /// ```
+    #[cfg(feature = "std")]
+    #[allow(clippy::result_large_err)] // the job that it hands back is larger
+    pub fn open_owned(
+        &self,
+        memory: OwnedMemory,
+    ) -> Result<Job<OwnedMemory>, Refused<OwnedMemory>> {
+        self.open_in(memory)
+    }
+
+    fn open_in<M: Slices>(&self, mut memory: M) -> Result<Job<M>, Refused<M>> {
         let mut record = Record::default();
-        match self.call(&mut record, &mut memory) {
+        match self.call(&mut record, &mut memory.slices()) {
             Ok(()) => Ok(Job::opened(record, memory)),
             Err(refusal) => Err(Refused { refusal, memory }),
         }
@@ -160,25 +251,27 @@ impl Default for JobBuilder {
     }
 }
 
-/// A refusal, with the memory that was lent. Every element of it is as it was.
+/// A refusal, with the memory that was lent or given. Every element of it is as it
+/// was.
 #[derive(Debug)]
-pub struct Refused<'m> {
+pub struct Refused<M> {
     /// The cause.
     pub refusal: Refusal,
-    /// The memory that was lent.
-    pub memory: Memory<'m>,
+    /// The memory.
+    pub memory: M,
 }
 
-impl From<Refused<'_>> for Refusal {
-    fn from(refused: Refused<'_>) -> Refusal {
+impl<M> From<Refused<M>> for Refusal {
+    fn from(refused: Refused<M>) -> Refusal {
         refused.refusal
     }
 }
 
-impl fmt::Display for Refused<'_> {
+impl<M> fmt::Display for Refused<M> {
     fn fmt(&self, f: &mut fmt::Formatter<'_>) -> fmt::Result {
         self.refusal.fmt(f)
     }
 }
 
-impl Error for Refused<'_> {}
+#[cfg(feature = "std")]
+impl<M: fmt::Debug> std::error::Error for Refused<M> {}

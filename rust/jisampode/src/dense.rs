@@ -1,6 +1,6 @@
 //! A dense field: a value at every point of a grid.
 
-use std::fmt;
+use core::fmt;
 
 use crate::bounds::Bounds;
 use crate::engine::{self, certain};
@@ -21,13 +21,33 @@ pub struct Dimensions {
 
 impl Dimensions {
     /// So many along each axis.
+    #[must_use]
     pub fn new(x: usize, y: usize, z: usize) -> Dimensions {
         Dimensions { x, y, z }
     }
 
     /// How many in all; none where a `usize` cannot hold it.
+    #[must_use]
     pub fn product(&self) -> Option<usize> {
         self.x.checked_mul(self.y)?.checked_mul(self.z)
+    }
+
+    /// How many a walk has to come from a cursor on, for `size_hint`.
+    pub(crate) fn rest(self, [i, j, k]: [usize; 3]) -> (usize, Option<usize>) {
+        let place = |k: usize| {
+            let row = k.checked_mul(self.y)?.checked_add(j)?;
+            row.checked_mul(self.x)?.checked_add(i)
+        };
+        if k >= self.z {
+            return (0, Some(0));
+        }
+        match (self.product(), place(k)) {
+            (Some(all), Some(past)) => {
+                let rest = all.saturating_sub(past);
+                (rest, Some(rest))
+            }
+            _ => (0, None),
+        }
     }
 }
 
@@ -86,16 +106,19 @@ impl<'a> DenseField<'a> {
     }
 
     /// Points along each axis.
+    #[must_use]
     pub fn dimensions(&self) -> Dimensions {
         self.dimensions
     }
 
     /// All values, x fastest.
+    #[must_use]
     pub fn values(&self) -> &[f64] {
         self.values
     }
 
     /// All values, to be changed.
+    #[must_use]
     pub fn values_mut(&mut self) -> &mut [f64] {
         self.values
     }
@@ -130,6 +153,7 @@ impl<'a> DenseField<'a> {
     }
 
     /// The values at the corners of each cell.
+    #[must_use]
     pub fn octets(&self) -> Octets<'_> {
         certain(self.octets_from([0; 3]))
     }

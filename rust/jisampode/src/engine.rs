@@ -14,14 +14,12 @@ use crate::record::Record;
 use crate::refusal::Refusal;
 use crate::sys;
 
-/// What an answer says. Panics for a number that the engine does not have.
+/// What an answer says.
 fn accepted(answer: u32) -> Result<(), Refusal> {
-    if answer == sys::ACCEPTED {
-        return Ok(());
+    match Refusal::from_number(answer) {
+        None => Ok(()),
+        Some(refusal) => Err(refusal),
     }
-    Err(Refusal::from_number(answer).unwrap_or_else(|| {
-        panic!("the engine answered {answer}, which is the number of no cause");
-    }))
 }
 
 /// What a step of a walk says: what stands at the cursor, or that it is past the
@@ -166,25 +164,6 @@ pub fn cursor(record: &Record) -> Result<[u64; 4], Refusal> {
     // SAFETY: the words are 18, read alone; the cursor has four, borrowed mutably.
     accepted(unsafe { sys::jisampode_cursor(record.words.as_ptr(), cursor.as_mut_ptr()) })?;
     Ok(cursor)
-}
-
-/// How many corners a node's active children need. Takes the n³ kinds of a node of
-/// an open job, and a list of (n + 1)³.
-pub fn corner_count(inner: u32, kinds: &[u8], list: &mut [u32]) -> u64 {
-    let mut count = [0usize; 1];
-    // SAFETY: the kinds are a slice, read alone; the list is a slice and the count
-    // an array of one, each borrowed mutably.
-    certain(accepted(unsafe {
-        sys::jisampode_corner_list(
-            inner,
-            kinds.as_ptr(),
-            kinds.len(),
-            list.as_mut_ptr(),
-            list.len(),
-            count.as_mut_ptr(),
-        )
-    }));
-    count[0] as u64
 }
 
 pub fn point_count(bounds: &[f64; 6], cell: f64) -> Result<[usize; 3], Refusal> {

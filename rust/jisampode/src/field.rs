@@ -1,13 +1,16 @@
 //! The sparse field of a job, to be read.
 
-use std::fmt;
+use core::fmt;
+use core::iter::FusedIterator;
+use core::ops::Range;
 
-use crate::memory::Memory;
+use crate::memory::View;
 use crate::record::{Counts, Cursor, Record};
 use crate::sys;
 
 /// A child of a node.
 #[derive(Debug, Clone, Copy, PartialEq)]
+#[non_exhaustive]
 pub enum Child<'a> {
     /// Outside the bounds.
     Empty,
@@ -42,7 +45,7 @@ impl<'a> Field<'a> {
         record: &Record,
         counts: Counts,
         cursor: Cursor,
-        memory: &'a Memory<'_>,
+        memory: View<'a>,
     ) -> Field<'a> {
         let children = (record.inner() as usize).pow(3);
         let all = counts.nodes as usize * children;
@@ -52,9 +55,10 @@ impl<'a> Field<'a> {
             Cursor::Point { node, child, .. } => node as usize * children + child as usize + 1,
         };
         Field {
-            kinds: &memory.kinds[..all],
-            numbers: &memory.numbers[..all],
-            places: &memory.places[..all],
+            // An accepted open has seen to it that there are as many.
+            kinds: memory.kinds.get(..all).unwrap_or_default(),
+            numbers: memory.numbers,
+            places: memory.places,
             store: memory.store,
             children,
             points: (record.leaf() as usize).pow(3),
@@ -63,27 +67,32 @@ impl<'a> Field<'a> {
     }
 
     /// How many nodes the field has.
+    #[must_use]
     pub fn nodes(&self) -> usize {
         self.kinds.len() / self.children
     }
 
     /// How many children a node has: n³.
+    #[must_use]
     pub fn children_of_node(&self) -> usize {
         self.children
     }
 
     /// How many points a leaf has: L³.
+    #[must_use]
     pub fn points_of_leaf(&self) -> usize {
         self.points
     }
 
     /// The kinds of all children, node after node: 0 empty, 1 active (not decided,
     /// or a constant), 2 a leaf.
+    #[must_use]
     pub fn kinds(&self) -> &'a [u8] {
         self.kinds
     }
 
     /// A child of a node; none where the field has no such node or child.
+    #[must_use]
     pub fn child(&self, node: usize, child: usize) -> Option<Child<'a>> {
         if node < self.nodes() && child < self.children {
             Some(self.child_at(node * self.children + child))
@@ -112,41 +121,114 @@ impl<'a> Field<'a> {
     ///     match found {
     ///         Child::Leaf(values) => println!("{node} {child}: {values:?}"),
     ///         Child::Constant(number) => println!("{node} {child}: {number}"),
-    ///         Child::Undecided | Child::Empty => {}
+    ///         _ => {}
     ///     }
     /// }
     /// # assert_eq!(job.field().active().count(), 8);
     /// # Ok(())
     /// # }
     /// ```
-    pub fn active(self) -> impl Iterator<Item = (usize, usize, Child<'a>)> {
-        (0..self.kinds.len())
-            .filter(move |&place| self.kinds[place] != sys::EMPTY)
-            .map(move |place| {
-                let (node, child) = (place / self.children, place % self.children);
-                (node, child, self.child_at(place))
-            })
+    #[must_use]
+    pub fn active(self) -> Active<'a> {
+        Active {
+            rest: 0..self.kinds.len(),
+            field: self,
+        }
     }
 
     /// Each leaf so far: its node, its number in it, and its values.
-    pub fn leaves(self) -> impl Iterator<Item = (usize, usize, &'a [f64])> {
-        self.active()
-            .filter_map(|(node, child, found)| match found {
-                Child::Leaf(values) => Some((node, child, values)),
-                _ => None,
-            })
+    #[must_use]
+    pub fn leaves(self) -> Leaves<'a> {
+        Leaves {
+            active: self.active(),
+        }
     }
 
+    /// What stands at a place among all children. Where the slices do not hold what
+    /// the kind asks for, a leaf has no values and a constant is NaN; a job's own
+    /// memory always does.
     fn child_at(&self, place: usize) -> Child<'a> {
-        match self.kinds[place] {
-            sys::EMPTY => Child::Empty,
-            sys::LEAF => {
-                let start = self.places[place] as usize * self.points;
-                Child::Leaf(&self.store[start..start + self.points])
+        match self.kinds.get(place) {
+            None | Some(&sys::EMPTY) => Child::Empty,
+            Some(&sys::LEAF) => Child::Leaf(self.stretch(place).unwrap_or_default()),
+            Some(_) if place < self.decided => {
+                Child::Constant(self.numbers.get(place).copied().unwrap_or(f64::NAN))
             }
-            _ if place < self.decided => Child::Constant(self.numbers[place]),
-            _ => Child::Undecided,
+            Some(_) => Child::Undecided,
         }
+    }
+
+    /// The values of the leaf at a place.
+    fn stretch(&self, place: usize) -> Option<&'a [f64]> {
+        let ordinal = *self.places.get(place)? as usize;
+        let start = ordinal.checked_mul(self.points)?;
+        self.store.get(start..start.checked_add(self.points)?)
+    }
+}
+
+/// The active children of a field: [`Field::active`] makes it.
+#[derive(Clone)]
+pub struct Active<'a> {
+    field: Field<'a>,
+    rest: Range<usize>,
+}
+
+impl<'a> Iterator for Active<'a> {
+    type Item = (usize, usize, Child<'a>);
+
+    fn next(&mut self) -> Option<Self::Item> {
+        let kinds = self.field.kinds;
+        let place = self.rest.find(|&place| kinds[place] != sys::EMPTY)?;
+        let children = self.field.children;
+        let found = self.field.child_at(place);
+        Some((place / children, place % children, found))
+    }
+
+    fn size_hint(&self) -> (usize, Option<usize>) {
+        (0, self.rest.size_hint().1)
+    }
+}
+
+impl FusedIterator for Active<'_> {}
+
+/// The leaves of a field: [`Field::leaves`] makes it.
+#[derive(Clone)]
+pub struct Leaves<'a> {
+    active: Active<'a>,
+}
+
+impl<'a> Iterator for Leaves<'a> {
+    type Item = (usize, usize, &'a [f64]);
+
+    fn next(&mut self) -> Option<Self::Item> {
+        self.active.find_map(|(node, child, found)| match found {
+            Child::Leaf(values) => Some((node, child, values)),
+            _ => None,
+        })
+    }
+
+    fn size_hint(&self) -> (usize, Option<usize>) {
+        self.active.size_hint()
+    }
+}
+
+impl FusedIterator for Leaves<'_> {}
+
+/// Shows the places to come alone, so that no value of a client comes into a log.
+impl fmt::Debug for Active<'_> {
+    fn fmt(&self, f: &mut fmt::Formatter<'_>) -> fmt::Result {
+        f.debug_struct("Active")
+            .field("rest", &self.rest)
+            .finish_non_exhaustive()
+    }
+}
+
+/// Shows the places to come alone, so that no value of a client comes into a log.
+impl fmt::Debug for Leaves<'_> {
+    fn fmt(&self, f: &mut fmt::Formatter<'_>) -> fmt::Result {
+        f.debug_struct("Leaves")
+            .field("active", &self.active)
+            .finish()
     }
 }
 

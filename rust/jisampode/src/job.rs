@@ -1,21 +1,23 @@
-//! A job on lent memory.
+//! A job in its memory.
 
-use std::fmt;
-use std::mem;
+use core::fmt;
+use core::mem;
 
-use crate::builder::{JobBuilder, Refused};
+use crate::builder::JobBuilder;
 use crate::engine::{self, certain};
 use crate::field::Field;
-use crate::memory::Memory;
+use crate::memory::{Slices, View};
 use crate::progress::{self, Progress};
 use crate::record::{Counts, Cursor, Record};
 use crate::refusal::Refusal;
 
-/// A job of a sparse field. [`JobBuilder::open`] makes one.
+/// A job of a sparse field, in lent memory or in memory that it owns.
+/// [`JobBuilder::open`] and [`JobBuilder::open_owned`] make one. Its record and its
+/// memory are one value, so no record comes to another client's memory.
 ///
 /// A job has its memory for itself while it lives, and zeroes it when it goes out
-/// of scope, wherever it has come to. (A job that [`std::mem::forget`] takes zeroes
-/// nothing; the next open in that memory does.) The memory cannot be used
+/// of scope, wherever it has come to. (A job that [`core::mem::forget`] takes zeroes
+/// nothing; the next open in that memory does.) Lent memory cannot be used
 /// meanwhile:
 ///
 /// ```compile_fail,E0502
@@ -90,15 +92,19 @@ use crate::refusal::Refusal;
 /// }
 /// assert!(memory.store.iter().all(|value| value.to_bits() == 0));
 /// ```
-pub struct Job<'m> {
+pub struct Job<M: Slices> {
     record: Record,
-    memory: Memory<'m>,
+    memory: M,
     most: u64,
 }
 
-impl<'m> Job<'m> {
+/// A job that owns its memory.
+#[cfg(feature = "std")]
+pub type OwnedJob = Job<crate::memory::OwnedMemory>;
+
+impl<M: Slices> Job<M> {
     /// The job of a record that the engine has accepted with this memory.
-    pub(crate) fn opened(record: Record, memory: Memory<'m>) -> Job<'m> {
+    pub(crate) fn opened(record: Record, memory: M) -> Job<M> {
         let mut job = Job {
             record,
             memory,
@@ -109,7 +115,7 @@ impl<'m> Job<'m> {
     }
 
     fn find_most(&mut self) {
-        self.most = progress::most(&self.record, self.counts(), &self.memory);
+        self.most = progress::most(&self.record, self.counts(), self.memory.shown().kinds);
     }
 
     /// Makes as many evaluations as the budget allows and the job has left. A
@@ -119,7 +125,7 @@ impl<'m> Job<'m> {
     /// number of children: a budget of thousands is better than many small ones. A
     /// job's record and memory are its own, so it has no cause to refuse a step.
     pub fn step(&mut self, budget: u64) -> Result<Progress, Refusal> {
-        engine::step(budget, &mut self.record, &mut self.memory)?;
+        engine::step(budget, &mut self.record, &mut self.memory.slices())?;
         Ok(self.progress())
     }
 
@@ -130,6 +136,7 @@ impl<'m> Job<'m> {
     }
 
     /// How far the job has come.
+    #[must_use]
     pub fn progress(&self) -> Progress {
         Progress {
             done: self.counts().evaluations,
@@ -139,28 +146,33 @@ impl<'m> Job<'m> {
     }
 
     /// Nodes, active children, leaves, their points, and evaluations.
+    #[must_use]
     pub fn counts(&self) -> Counts {
         certain(self.record.counts())
     }
 
     /// Where the job stands.
+    #[must_use]
     pub fn cursor(&self) -> Cursor {
         certain(self.record.cursor())
     }
 
     /// Whether every evaluation is made.
+    #[must_use]
     pub fn is_finished(&self) -> bool {
         self.cursor() == Cursor::End
     }
 
     /// The field, as far as it has come.
+    #[must_use]
     pub fn field(&self) -> Field<'_> {
-        Field::new(&self.record, self.counts(), self.cursor(), &self.memory)
+        Field::new(&self.record, self.counts(), self.cursor(), self.memory())
     }
 
     /// The five slices whole, to be read. What the job does not use is 0.
-    pub fn memory(&self) -> &Memory<'m> {
-        &self.memory
+    #[must_use]
+    pub fn memory(&self) -> View<'_> {
+        self.memory.shown()
     }
 
     /// Opens another job in the same memory, which is zeroed whole first. Refused
@@ -190,91 +202,25 @@ impl<'m> Job<'m> {
     /// # }
     /// ```
     pub fn reopen(&mut self, builder: &JobBuilder) -> Result<(), Refusal> {
-        builder.call(&mut self.record, &mut self.memory)?;
+        builder.call(&mut self.record, &mut self.memory.slices())?;
         self.find_most();
         Ok(())
     }
 
     /// Ends the job, and hands back its memory, zeroed.
-    pub fn into_memory(mut self) -> Memory<'m> {
+    #[must_use]
+    pub fn into_memory(mut self) -> M {
         self.end();
         mem::take(&mut self.memory)
     }
 
-    /// Lays the job aside: its record, and its memory as it is, not zeroed. Until it
-    /// is resumed nothing should touch the memory.
-    ///
-    /// So can a structure own both the memory and the job:
-    ///
-    /// ```
-    /// use jisampode::{Job, JobBuilder, OwnedMemory, Record, Refusal};
-    ///
-    /// struct Station {
-    ///     memory: OwnedMemory,
-    ///     record: Record,
-    /// }
-    ///
-    /// impl Station {
-    ///     fn take(&mut self, builder: &JobBuilder) -> Result<(), Refusal> {
-    ///         let job = builder.open(self.memory.lend())?;
-    ///         (self.record, _) = job.suspend();
-    ///         Ok(())
-    ///     }
-    ///
-    ///     /// Whether the job is finished.
-    ///     fn work(&mut self, budget: u64) -> Result<bool, Refusal> {
-    ///         let mut job = Job::resume(&mut self.record, self.memory.lend())?;
-    ///         let progress = job.step(budget)?;
-    ///         (self.record, _) = job.suspend();
-    ///         Ok(progress.finished)
-    ///     }
-    /// }
-    /// # use jisampode::{Bounds, Model};
-    /// # fn main() -> Result<(), Refusal> {
-    /// # let mut model = Model::new();
-    /// # model.plane([1.0, 0.0, 0.0], 0.0)?;
-    /// # let builder = JobBuilder::new()
-    /// #     .bounds(Bounds::new([0.0; 3], [2.0; 3]))
-    /// #     .cell(1.0)
-    /// #     .blocks(2, 2)
-    /// #     .band(-0.25, 0.0)
-    /// #     .model(model);
-    /// # let memory = OwnedMemory::for_job(&builder)?;
-    /// # let mut station = Station { memory, record: Record::default() };
-    /// # station.take(&builder)?;
-    /// # assert!(!station.work(58)?);
-    /// # assert!(station.work(58)?);
-    /// # assert_eq!(station.record.counts()?.evaluations, 59);
-    /// # Ok(())
-    /// # }
-    /// ```
-    pub fn suspend(mut self) -> (Record, Memory<'m>) {
-        (mem::take(&mut self.record), mem::take(&mut self.memory))
-    }
-
-    /// Takes up a job that was laid aside, and leaves a record without a job.
-    ///
-    /// Refused by [`Refusal::NoJob`], and by [`Refusal::Record`] where no job of
-    /// this memory can have the record: its lengths are others, or its kinds are
-    /// not those of the job. Then record and memory are as they were. Values that
-    /// were changed meanwhile are not noticed.
-    ///
-    /// Takes time that grows with the number of children, as a step does.
-    pub fn resume(record: &mut Record, mut memory: Memory<'m>) -> Result<Job<'m>, Refused<'m>> {
-        // A step with a budget of 0 judges the record and changes nothing.
-        match engine::step(0, record, &mut memory) {
-            Ok(()) => Ok(Job::opened(mem::take(record), memory)),
-            Err(refusal) => Err(Refused { refusal, memory }),
-        }
-    }
-
     fn end(&mut self) {
-        engine::drop(&mut self.record, &mut self.memory);
+        engine::drop(&mut self.record, &mut self.memory.slices());
     }
 }
 
 /// Zeroes the memory.
-impl Drop for Job<'_> {
+impl<M: Slices> Drop for Job<M> {
     fn drop(&mut self) {
         self.end();
     }
@@ -282,11 +228,11 @@ impl Drop for Job<'_> {
 
 /// Shows counts, cursor and lengths alone, so that no value of a client comes into
 /// a log.
-impl fmt::Debug for Job<'_> {
+impl<M: Slices> fmt::Debug for Job<M> {
     fn fmt(&self, f: &mut fmt::Formatter<'_>) -> fmt::Result {
         f.debug_struct("Job")
             .field("record", &self.record)
-            .field("memory", &self.memory)
+            .field("memory", &self.memory())
             .finish()
     }
 }

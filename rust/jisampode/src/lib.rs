@@ -19,7 +19,8 @@
 //!         .band(-0.25, 0.0)
 //!         .model(model);
 //!
-//!     let mut memory = OwnedMemory::for_job(&builder)?;
+//!     // A stranger's job gets no more than the station has.
+//!     let mut memory = OwnedMemory::for_job_within(&builder, 64 << 20)?;
 //!     let mut job = builder.open(memory.lend())?;
 //!     while !job.is_finished() {
 //!         let progress = job.step(10)?;
@@ -42,7 +43,13 @@
 //!
 //! This crate adds Rust's rules. While a [`Job`] lives, nothing else can read or
 //! write its memory or its record. When it goes out of scope, finished or not, its
-//! memory is zeroed.
+//! memory is zeroed. [`OwnedMemory`] is zeroed when it is dropped.
+//!
+//! # Without the standard library
+//!
+//! With the feature `std` off the crate needs `core` alone: jobs in lent memory,
+//! dense fields and listings into lent bytes are there; [`OwnedMemory`], jobs that
+//! own their memory, [`list_job`] and `Error` are not.
 //!
 //! # Refusals
 //!
@@ -55,6 +62,7 @@
 //! A NaN that a call computes has the bits 7ff8000000000000. Constants, min and
 //! max copy their operand, and a copied NaN keeps its bits.
 
+#![cfg_attr(not(feature = "std"), no_std)]
 #![deny(unsafe_code)]
 #![warn(missing_docs, missing_debug_implementations)]
 
@@ -77,12 +85,18 @@ mod walks;
 pub use bounds::Bounds;
 pub use builder::{JobBuilder, Refused};
 pub use dense::{point_count, DenseField, Dimensions};
-pub use field::{Child, Field};
+pub use field::{Active, Child, Field, Leaves};
 pub use job::Job;
-pub use listing::{list_job, list_job_into, listed_refusal, LISTING_BYTES};
-pub use memory::{Lengths, Memory, OwnedMemory};
+#[cfg(feature = "std")]
+pub use job::OwnedJob;
+#[cfg(feature = "std")]
+pub use listing::list_job;
+pub use listing::{list_job_into, listed_refusal, LISTING_BYTES};
+#[cfg(feature = "std")]
+pub use memory::OwnedMemory;
+pub use memory::{Lengths, Memory, Slices, View};
 pub use model::{Model, Part, MOST_PARTS};
 pub use progress::Progress;
-pub use record::{Counts, Cursor, Record};
+pub use record::{Counts, Cursor};
 pub use refusal::Refusal;
 pub use walks::{Cells, Octets, Points};

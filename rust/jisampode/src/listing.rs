@@ -1,8 +1,8 @@
 //! A job as text, and its listing.
 
-use std::str;
+use core::str;
 
-use crate::engine::{self, certain};
+use crate::engine;
 use crate::refusal::Refusal;
 use crate::sys;
 
@@ -16,9 +16,11 @@ pub const LISTING_BYTES: usize = sys::LISTING_BYTES;
 /// ```
 /// assert_eq!(jisampode::list_job(b"(cell 0)\n"), b"(refused 12 1)\n");
 /// ```
+#[cfg(feature = "std")]
+#[must_use]
 pub fn list_job(text: &[u8]) -> Vec<u8> {
     let mut listing = vec![0; LISTING_BYTES];
-    let length = certain(list_job_into(text, &mut listing));
+    let length = engine::certain(list_job_into(text, &mut listing));
     listing.truncate(length);
     listing
 }
@@ -39,6 +41,7 @@ pub fn list_job_into(text: &[u8], listing: &mut [u8]) -> Result<usize, Refusal> 
 /// let listing = list_job(b"(cell 0)\n");
 /// assert_eq!(listed_refusal(&listing), Some((Refusal::Text, Some(1))));
 /// ```
+#[must_use]
 pub fn listed_refusal(listing: &[u8]) -> Option<(Refusal, Option<u64>)> {
     let words = listing.strip_prefix(b"(refused ")?.strip_suffix(b")\n")?;
     let mut words = str::from_utf8(words).ok()?.splitn(2, ' ');

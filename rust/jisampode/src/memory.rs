@@ -1,8 +1,15 @@
 //! The five slices that a station lends to a job.
 
-use std::fmt;
+use core::fmt;
+use core::mem::size_of;
 
+#[cfg(feature = "std")]
 use crate::builder::JobBuilder;
+#[cfg(feature = "std")]
+use crate::engine;
+#[cfg(feature = "std")]
+use crate::record::Record;
+#[cfg(feature = "std")]
 use crate::refusal::Refusal;
 
 /// How many elements each of the five slices has.
@@ -30,6 +37,7 @@ impl Lengths {
     /// let other = Lengths { store: 512, ..one };
     /// assert_eq!(one.greater(other).store, 512);
     /// ```
+    #[must_use]
     pub fn greater(self, other: Lengths) -> Lengths {
         Lengths {
             kinds: self.kinds.max(other.kinds),
@@ -38,6 +46,49 @@ impl Lengths {
             store: self.store.max(other.store),
             corners: self.corners.max(other.corners),
         }
+    }
+
+    /// The bytes of five slices of these lengths; the greatest `usize` where there
+    /// are more.
+    ///
+    /// ```
+    /// # use jisampode::Lengths;
+    /// let one = Lengths { kinds: 8, numbers: 8, places: 8, store: 64, corners: 27 };
+    /// assert_eq!(one.bytes(), 8 + 8 * 8 + 8 * 4 + 64 * 8 + 27 * 8);
+    /// ```
+    #[must_use]
+    pub fn bytes(self) -> usize {
+        [
+            (self.kinds, size_of::<u8>()),
+            (self.numbers, size_of::<f64>()),
+            (self.places, size_of::<u32>()),
+            (self.store, size_of::<f64>()),
+            (self.corners, size_of::<f64>()),
+        ]
+        .into_iter()
+        .fold(0, |sum: usize, (length, size)| {
+            sum.saturating_add(length.saturating_mul(size))
+        })
+    }
+}
+
+/// Memory that a job works in: five lent slices, or memory that the job owns.
+pub trait Slices: Default + sealed::Slices {}
+
+impl Slices for Memory<'_> {}
+
+#[cfg(feature = "std")]
+impl Slices for OwnedMemory {}
+
+/// What a job asks of its memory. Nothing outside this crate can be one.
+pub(crate) mod sealed {
+    use super::{Memory, View};
+
+    pub trait Slices {
+        /// The five slices, to be written.
+        fn slices(&mut self) -> Memory<'_>;
+        /// The five slices, to be read.
+        fn shown(&self) -> View<'_>;
     }
 }
 
@@ -86,7 +137,57 @@ pub struct Memory<'a> {
 }
 
 impl Memory<'_> {
+    /// The five slices, to be read.
+    #[must_use]
+    pub fn view(&self) -> View<'_> {
+        View {
+            kinds: self.kinds,
+            numbers: self.numbers,
+            places: self.places,
+            store: self.store,
+            corners: self.corners,
+        }
+    }
+}
+
+impl sealed::Slices for Memory<'_> {
+    fn slices(&mut self) -> Memory<'_> {
+        Memory {
+            kinds: self.kinds,
+            numbers: self.numbers,
+            places: self.places,
+            store: self.store,
+            corners: self.corners,
+        }
+    }
+
+    fn shown(&self) -> View<'_> {
+        self.view()
+    }
+}
+
+/// Shows the lengths alone, so that no value of a client comes into a log.
+impl fmt::Debug for Memory<'_> {
+    fn fmt(&self, f: &mut fmt::Formatter<'_>) -> fmt::Result {
+        self.view().fmt(f)
+    }
+}
+
+/// The five slices of a job's memory, to be read. Their elements are those of
+/// [`Memory`].
+#[derive(Clone, Copy)]
+#[allow(missing_docs)]
+pub struct View<'a> {
+    pub kinds: &'a [u8],
+    pub numbers: &'a [f64],
+    pub places: &'a [u32],
+    pub store: &'a [f64],
+    pub corners: &'a [f64],
+}
+
+impl View<'_> {
     /// How many elements each slice has.
+    #[must_use]
     pub fn lengths(&self) -> Lengths {
         Lengths {
             kinds: self.kinds.len(),
@@ -99,13 +200,14 @@ impl Memory<'_> {
 }
 
 /// Shows the lengths alone, so that no value of a client comes into a log.
-impl fmt::Debug for Memory<'_> {
+impl fmt::Debug for View<'_> {
     fn fmt(&self, f: &mut fmt::Formatter<'_>) -> fmt::Result {
         self.lengths().fmt(f)
     }
 }
 
-/// Memory that a station owns, to lend to one job after another.
+/// Memory that a station owns, to lend to one job after another, or to give to one.
+/// It is zeroed when it is dropped.
 ///
 /// ```
 /// use jisampode::{Lengths, OwnedMemory};
@@ -119,6 +221,8 @@ impl fmt::Debug for Memory<'_> {
 /// });
 /// assert_eq!(memory.lend().store.len(), 4096);
 /// ```
+#[cfg(feature = "std")]
+#[derive(Default)]
 pub struct OwnedMemory {
     /// As [`Memory::kinds`].
     pub kinds: Vec<u8>,
@@ -132,8 +236,11 @@ pub struct OwnedMemory {
     pub corners: Vec<f64>,
 }
 
+#[cfg(feature = "std")]
 impl OwnedMemory {
-    /// Memory of these lengths, every element 0.
+    /// Memory of these lengths, every element 0. Where the machine has not as much,
+    /// the process ends, as with a vector; [`OwnedMemory::try_new`] refuses.
+    #[must_use]
     pub fn new(lengths: Lengths) -> OwnedMemory {
         OwnedMemory {
             kinds: vec![0; lengths.kinds],
@@ -144,13 +251,59 @@ impl OwnedMemory {
         }
     }
 
+    /// Memory of these lengths, every element 0. Refused by [`Refusal::Short`] where
+    /// the machine does not give as much.
+    pub fn try_new(lengths: Lengths) -> Result<OwnedMemory, Refusal> {
+        Ok(OwnedMemory {
+            kinds: zeros(lengths.kinds)?,
+            numbers: zeros(lengths.numbers)?,
+            places: zeros(lengths.places)?,
+            store: zeros(lengths.store)?,
+            corners: zeros(lengths.corners)?,
+        })
+    }
+
     /// Memory of just the lengths that a job needs. Refused as
-    /// [`JobBuilder::lengths`].
+    /// [`JobBuilder::lengths`] and [`OwnedMemory::try_new`].
+    ///
+    /// A stranger's job may need terabytes. A machine that promises more than it has
+    /// does not refuse that here: [`OwnedMemory::for_job_within`] does.
     pub fn for_job(builder: &JobBuilder) -> Result<OwnedMemory, Refusal> {
-        builder.lengths().map(OwnedMemory::new)
+        OwnedMemory::for_job_within(builder, usize::MAX)
+    }
+
+    /// Memory of just the lengths that a job needs, if these are not more than so
+    /// many bytes. Refused by [`Refusal::Short`] where they are, and as
+    /// [`OwnedMemory::for_job`].
+    ///
+    /// ```
+    /// use jisampode::{Bounds, JobBuilder, Model, OwnedMemory, Refusal};
+    ///
+    /// # fn main() -> Result<(), Refusal> {
+    /// let mut model = Model::new();
+    /// model.constant(0.0)?;
+    /// let greedy = JobBuilder::new()
+    ///     .bounds(Bounds::new([0.0; 3], [1e4; 3]))
+    ///     .cell(1.0)
+    ///     .blocks(2, 64)
+    ///     .band(0.0, 0.0)
+    ///     .model(model);
+    /// assert!(greedy.lengths()?.bytes() > 1 << 42);
+    /// let most = 64 << 20;
+    /// assert_eq!(OwnedMemory::for_job_within(&greedy, most).err(), Some(Refusal::Short));
+    /// # Ok(())
+    /// # }
+    /// ```
+    pub fn for_job_within(builder: &JobBuilder, most: usize) -> Result<OwnedMemory, Refusal> {
+        let lengths = builder.lengths()?;
+        if lengths.bytes() > most {
+            return Err(Refusal::Short);
+        }
+        OwnedMemory::try_new(lengths)
     }
 
     /// Lends the five slices.
+    #[must_use]
     pub fn lend(&mut self) -> Memory<'_> {
         Memory {
             kinds: &mut self.kinds,
@@ -160,17 +313,54 @@ impl OwnedMemory {
             corners: &mut self.corners,
         }
     }
+
+    /// The five slices, to be read.
+    #[must_use]
+    pub fn view(&self) -> View<'_> {
+        View {
+            kinds: &self.kinds,
+            numbers: &self.numbers,
+            places: &self.places,
+            store: &self.store,
+            corners: &self.corners,
+        }
+    }
+}
+
+#[cfg(feature = "std")]
+impl sealed::Slices for OwnedMemory {
+    fn slices(&mut self) -> Memory<'_> {
+        self.lend()
+    }
+
+    fn shown(&self) -> View<'_> {
+        self.view()
+    }
+}
+
+/// So many zeros, if the machine gives memory for them.
+#[cfg(feature = "std")]
+fn zeros<T: Clone + Default>(length: usize) -> Result<Vec<T>, Refusal> {
+    let mut elements = Vec::new();
+    elements
+        .try_reserve_exact(length)
+        .map_err(|_| Refusal::Short)?;
+    elements.resize(length, T::default());
+    Ok(elements)
+}
+
+/// Zeroes the memory. The engine does it, so that no compiler leaves it out.
+#[cfg(feature = "std")]
+impl Drop for OwnedMemory {
+    fn drop(&mut self) {
+        engine::drop(&mut Record::default(), &mut self.lend());
+    }
 }
 
 /// Shows the lengths alone, so that no value of a client comes into a log.
+#[cfg(feature = "std")]
 impl fmt::Debug for OwnedMemory {
     fn fmt(&self, f: &mut fmt::Formatter<'_>) -> fmt::Result {
-        f.debug_struct("OwnedMemory")
-            .field("kinds", &self.kinds.len())
-            .field("numbers", &self.numbers.len())
-            .field("places", &self.places.len())
-            .field("store", &self.store.len())
-            .field("corners", &self.corners.len())
-            .finish()
+        self.view().fmt(f)
     }
 }

@@ -1,5 +1,7 @@
 //! A model: a list of parts.
 
+use core::fmt;
+
 use crate::refusal::Refusal;
 use crate::sys;
 
@@ -57,25 +59,30 @@ pub enum Part {
 /// # Ok(())
 /// # }
 /// ```
-#[derive(Debug, Clone, Default, PartialEq)]
+#[derive(Clone, PartialEq)]
 pub struct Model {
-    parts: Vec<Part>,
+    /// Those from the count on are constants 0.
+    parts: [Part; MOST_PARTS],
+    count: usize,
 }
 
 impl Model {
     /// A model without a part. The engine refuses it as it is.
+    #[must_use]
     pub fn new() -> Model {
-        Model::default()
+        Model {
+            parts: [Part::Constant(0.0); MOST_PARTS],
+            count: 0,
+        }
     }
 
     /// Adds a part, and hands back its place. A 65th part is refused by
     /// [`Refusal::Model`].
     pub fn push(&mut self, part: Part) -> Result<u32, Refusal> {
-        if self.parts.len() == MOST_PARTS {
-            return Err(Refusal::Model);
-        }
-        self.parts.push(part);
-        Ok(self.parts.len() as u32 - 1)
+        let place = self.parts.get_mut(self.count).ok_or(Refusal::Model)?;
+        *place = part;
+        self.count += 1;
+        Ok(self.count as u32 - 1)
     }
 
     /// Adds a constant.
@@ -119,8 +126,9 @@ impl Model {
     }
 
     /// The parts, in order.
+    #[must_use]
     pub fn parts(&self) -> &[Part] {
-        &self.parts
+        &self.parts[..self.count]
     }
 
     /// The parts in the arrays that the engine takes.
@@ -128,12 +136,25 @@ impl Model {
         let mut laid = LaidOut {
             parts: [0; sys::PARTS],
             reals: [0.0; sys::REALS],
-            count: self.parts.len() as u32,
+            count: self.count as u32,
         };
-        for (place, &part) in self.parts.iter().enumerate() {
+        for (place, &part) in self.parts().iter().enumerate() {
             laid.put(place, part);
         }
         laid
+    }
+}
+
+impl Default for Model {
+    fn default() -> Model {
+        Model::new()
+    }
+}
+
+/// Shows the parts that count.
+impl fmt::Debug for Model {
+    fn fmt(&self, f: &mut fmt::Formatter<'_>) -> fmt::Result {
+        f.debug_list().entries(self.parts()).finish()
     }
 }
 

@@ -1,7 +1,5 @@
 //! How far a job has come.
 
-use crate::engine;
-use crate::memory::Memory;
 use crate::record::{Counts, Record};
 
 /// How far a job has come: evaluations so far, and the most that it can make.
@@ -28,6 +26,7 @@ pub struct Progress {
 
 impl Progress {
     /// From 0 to 1, for a bar: 1 exactly when the job is finished.
+    #[must_use]
     pub fn fraction(&self) -> f64 {
         if self.finished {
             return 1.0;
@@ -39,14 +38,31 @@ impl Progress {
 /// The most evaluations that a job can make: the needed corners of all nodes, and
 /// L³ points for each active child. What has a kind above 0 stays the active
 /// children while a job lives, so it comes out the same at any time.
-pub(crate) fn most(record: &Record, counts: Counts, memory: &Memory<'_>) -> u64 {
-    let inner = record.inner();
-    let children = (inner as usize).pow(3);
-    let mut list = vec![0; (inner as usize + 1).pow(3)];
-    let nodes = memory.kinds.chunks_exact(children);
+pub(crate) fn most(record: &Record, counts: Counts, kinds: &[u8]) -> u64 {
+    let inner = record.inner() as usize;
+    let nodes = kinds.chunks_exact(inner.pow(3));
     let corners: u64 = nodes
         .take(counts.nodes as usize)
-        .map(|kinds| engine::corner_count(inner, kinds, &mut list))
+        .map(|kinds| needed(inner, kinds))
         .sum();
     corners + counts.active * u64::from(record.leaf()).pow(3)
+}
+
+/// How many corners a node's active children have. It counts for a bar alone: the
+/// engine finds the corners that it evaluates by itself.
+fn needed(inner: usize, kinds: &[u8]) -> u64 {
+    // The children beside a corner along an axis: the one before it and its own.
+    let beside = |corner: usize| corner.saturating_sub(1)..(corner + 1).min(inner);
+    let row = |j: usize, k: usize| &kinds[(k * inner + j) * inner..][..inner];
+    let mut count = 0;
+    for k in 0..=inner {
+        for j in 0..=inner {
+            for i in 0..=inner {
+                let near = beside(k)
+                    .any(|k| beside(j).any(|j| row(j, k)[beside(i)].iter().any(|&kind| kind != 0)));
+                count += u64::from(near);
+            }
+        }
+    }
+    count
 }

@@ -1,22 +1,13 @@
 //! A job's record: what calls hand on.
 
-use std::fmt;
+use core::fmt;
 
 use crate::engine;
 use crate::refusal::Refusal;
 use crate::sys;
 
-/// A job's record, without its memory. [`Job::suspend`](crate::Job::suspend) hands
-/// one out, [`Job::resume`](crate::Job::resume) takes it back.
-///
-/// It cannot be copied, so that a job has one record.
-///
-/// ```
-/// use jisampode::{Record, Refusal};
-///
-/// assert_eq!(Record::default().counts(), Err(Refusal::NoJob));
-/// ```
-pub struct Record {
+/// A job's record, in the arrays that the engine takes.
+pub(crate) struct Record {
     pub(crate) words: [u64; sys::WORDS],
     pub(crate) parts: [u32; sys::PARTS],
     pub(crate) settings: [f64; sys::SETTINGS],
@@ -29,7 +20,7 @@ const LEAF: usize = 2;
 
 impl Record {
     /// The counts of its job. Refused by [`Refusal::NoJob`].
-    pub fn counts(&self) -> Result<Counts, Refusal> {
+    pub(crate) fn counts(&self) -> Result<Counts, Refusal> {
         let [nodes, active, leaves, sampled, evaluations] = engine::counts(self)?;
         Ok(Counts {
             nodes,
@@ -41,7 +32,7 @@ impl Record {
     }
 
     /// Where its job has come to. Refused by [`Refusal::NoJob`].
-    pub fn cursor(&self) -> Result<Cursor, Refusal> {
+    pub(crate) fn cursor(&self) -> Result<Cursor, Refusal> {
         Ok(match engine::cursor(self)? {
             [sys::AT_END, ..] => Cursor::End,
             [sys::AT_CORNER, node, corner, _] => Cursor::Corner { node, corner },
@@ -84,6 +75,7 @@ impl fmt::Debug for Record {
 
 /// What a job has come to.
 #[derive(Debug, Clone, Copy, PartialEq, Eq)]
+#[non_exhaustive]
 pub struct Counts {
     /// Nodes of the grid.
     pub nodes: u64,

@@ -2,8 +2,8 @@
 //! a dense field. The first step is tried out when a walk is made, so that a walk
 //! that is refused is refused then.
 
-use std::fmt;
-use std::iter::FusedIterator;
+use core::fmt;
+use core::iter::FusedIterator;
 
 use crate::bounds::Bounds;
 use crate::dense::Dimensions;
@@ -55,6 +55,7 @@ impl Points {
     }
 
     /// The indices of the next point.
+    #[must_use]
     pub fn cursor(&self) -> [usize; 3] {
         self.cursor
     }
@@ -69,6 +70,10 @@ impl Iterator for Points {
             self.counts,
             &mut self.cursor,
         ))
+    }
+
+    fn size_hint(&self) -> (usize, Option<usize>) {
+        self.counts.rest(self.cursor)
     }
 }
 
@@ -118,6 +123,7 @@ impl Cells {
     }
 
     /// The indices of the next cell.
+    #[must_use]
     pub fn cursor(&self) -> [usize; 3] {
         self.cursor
     }
@@ -129,6 +135,10 @@ impl Iterator for Cells {
     fn next(&mut self) -> Option<Bounds> {
         let cell = engine::cell_step(&self.bounds, self.counts, &mut self.cursor);
         certain(cell).map(Bounds::from_flat)
+    }
+
+    fn size_hint(&self) -> (usize, Option<usize>) {
+        self.counts.rest(self.cursor)
     }
 }
 
@@ -171,6 +181,7 @@ impl<'a> Octets<'a> {
     }
 
     /// The indices of the next cell.
+    #[must_use]
     pub fn cursor(&self) -> [usize; 3] {
         self.cursor
     }
@@ -185,6 +196,11 @@ impl Iterator for Octets<'_> {
             self.values,
             &mut self.cursor,
         ))
+    }
+
+    fn size_hint(&self) -> (usize, Option<usize>) {
+        let Dimensions { x, y, z } = self.dimensions;
+        Dimensions::new(x - 1, y - 1, z - 1).rest(self.cursor)
     }
 }
 

@@ -4,20 +4,23 @@ use jisampode::{Child, Counts, Cursor, OwnedMemory};
 
 use crate::jobs::case;
 
-const DONE: Counts = Counts {
-    nodes: 1,
-    active: 8,
-    leaves: 4,
-    sampled: 32,
-    evaluations: 59,
-};
+/// The numbers of the done line.
+fn numbers(counts: Counts) -> [u64; 5] {
+    [
+        counts.nodes,
+        counts.active,
+        counts.leaves,
+        counts.sampled,
+        counts.evaluations,
+    ]
+}
 
 #[test]
 fn counts_and_values() {
     let mut memory = OwnedMemory::for_job(&case()).unwrap();
     let mut job = case().open(memory.lend()).unwrap();
-    assert_eq!(job.finish(), Ok(DONE));
-    assert_eq!(job.counts(), DONE);
+    assert_eq!(job.finish().map(numbers), Ok([1, 8, 4, 32, 59]));
+    assert_eq!(numbers(job.counts()), [1, 8, 4, 32, 59]);
     assert_eq!(job.cursor(), Cursor::End);
 
     let field = job.field();

@@ -1,6 +1,6 @@
 //! Jobs that several tests open, and what they compare.
 
-use jisampode::{Bounds, JobBuilder, Lengths, Memory, Model, OwnedMemory};
+use jisampode::{Bounds, JobBuilder, Lengths, Model, OwnedMemory, View};
 
 /// The plane case: a plane in a box of 2×2×2.
 pub fn case() -> JobBuilder {
@@ -33,7 +33,7 @@ pub fn large() -> JobBuilder {
 /// The elements of the five slices as bits.
 pub type Bits = [Vec<u64>; 5];
 
-pub fn bits(memory: &Memory<'_>) -> Bits {
+pub fn bits(memory: View<'_>) -> Bits {
     let floats = |values: &[f64]| values.iter().map(|value| value.to_bits()).collect();
     [
         memory.kinds.iter().copied().map(u64::from).collect(),
@@ -44,7 +44,7 @@ pub fn bits(memory: &Memory<'_>) -> Bits {
     ]
 }
 
-pub fn all_zero(memory: &Memory<'_>) -> bool {
+pub fn all_zero(memory: View<'_>) -> bool {
     bits(memory).iter().flatten().all(|&bits| bits == 0)
 }
 

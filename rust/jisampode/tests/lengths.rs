@@ -10,7 +10,7 @@ fn opens(builder: &JobBuilder, lengths: Lengths) -> bool {
     match opened {
         Ok(_) => true,
         Err(refused) => {
-            assert_eq!(refused.refusal, Refusal::Short);
+            assert_eq!(refused, Refusal::Short);
             false
         }
     }

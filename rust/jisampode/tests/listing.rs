@@ -3,8 +3,8 @@
 use std::fmt::Write;
 
 use jisampode::{
-    list_job, list_job_into, listed_refusal, Bounds, Child, Job, JobBuilder, Lengths, Model,
-    OwnedMemory, Part, Refusal,
+    list_job, list_job_into, listed_refusal, Bounds, Child, Job, JobBuilder, Lengths, Memory,
+    Model, OwnedMemory, Part, Refusal,
 };
 
 const EXAMPLES: [(&str, &str); 2] = [
@@ -57,7 +57,9 @@ fn refused_texts() {
     let grid = text.replace("(cell 3ff0000000000000)", "(cell 3f00000000000000)");
     assert_eq!(refused(&grid), Some((Refusal::Grid, None)));
     assert_eq!(list_job(grid.as_bytes()), b"(refused 5)\n");
-    assert_eq!(listed_refusal(b"(refused 13)\n"), None);
+    assert_eq!(listed_refusal(b"(refused 0)\n"), None);
+    let (unknown, line) = listed_refusal(b"(refused 99)\n").unwrap();
+    assert_eq!((unknown.number(), line), (99, None));
     assert_eq!(listed_refusal(b"(refused 12 x)\n"), None);
 }
 
@@ -136,7 +138,7 @@ fn decimal(word: &str) -> u32 {
 }
 
 /// The listing of a finished job, from its field.
-fn written(job: &Job<'_>) -> String {
+fn written(job: &Job<Memory<'_>>) -> String {
     let c = job.counts();
     let mut listing = format!(
         "(done {} {} {} {} {})\n",
@@ -146,7 +148,7 @@ fn written(job: &Job<'_>) -> String {
         let (word, values) = match found {
             Child::Leaf(values) => ("leaf", values.to_vec()),
             Child::Constant(number) => ("constant", vec![number]),
-            Child::Empty | Child::Undecided => panic!("an active child of a finished job"),
+            _ => panic!("an active child of a finished job"),
         };
         write!(listing, "({word} {node} {child}").unwrap();
         for value in values {

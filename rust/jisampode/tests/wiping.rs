@@ -47,7 +47,7 @@ fn an_abandoned_job() {
             job.step(budget).unwrap();
             assert!(!all_zero(job.memory()));
         }
-        assert!(all_zero(&memory.lend()));
+        assert!(all_zero(memory.view()));
     }
 }
 
@@ -60,18 +60,18 @@ fn a_job_abandoned_by_a_panic() {
         std::panic::resume_unwind(Box::new(()));
     }));
     assert!(panicked.is_err());
-    assert!(all_zero(&memory.lend()));
+    assert!(all_zero(memory.view()));
 }
 
 #[test]
 fn the_memory_comes_back_zeroed() {
     let mut owned = OwnedMemory::for_job(&large()).unwrap();
-    let lengths = owned.lend().lengths();
+    let lengths = owned.view().lengths();
     let mut job = large().open(owned.lend()).unwrap();
     job.finish().unwrap();
     let memory = job.into_memory();
-    assert_eq!(memory.lengths(), lengths);
-    assert!(all_zero(&memory));
+    assert_eq!(memory.view().lengths(), lengths);
+    assert!(all_zero(memory.view()));
     assert!(case().open(memory).is_ok());
 }
 
@@ -81,7 +81,7 @@ fn a_job_can_go_to_another_thread() {
     let mut job = case().open(memory.lend()).unwrap();
     let counts = thread::scope(|scope| scope.spawn(move || job.finish()).join());
     assert_eq!(counts.unwrap().unwrap().evaluations, 59);
-    assert!(all_zero(&memory.lend()));
+    assert!(all_zero(memory.view()));
 }
 
 #[test]
