@@ -143,3 +143,29 @@ fn nine() {
     assert_eq!(n(usize::MAX, 2, 1).product(), None);
     assert_eq!(n(2, 3, 4).product(), Some(24));
 }
+
+/// What the original takes (docs/DIFFERENCES.md, items 14 to 16).
+#[test]
+fn what_the_original_takes() {
+    let mut model = Model::new();
+    model.plane([1.0, 0.0, 0.0], 0.0).unwrap();
+    let mut values = [2.0; 8];
+    let mut field = DenseField::new(n(2, 2, 2), &mut values).unwrap();
+    for origin in [f64::INFINITY, f64::NEG_INFINITY, f64::NAN] {
+        let refused = field.sample(&model, [origin, 0.0, 0.0], 1.0);
+        assert_eq!(refused, Err(Refusal::Bounds));
+    }
+    for cell in [f64::INFINITY, f64::NAN, -1.0, 0.0] {
+        let refused = field.sample(&model, [0.0; 3], cell);
+        assert_eq!(refused, Err(Refusal::Bounds));
+    }
+    assert_eq!(values, [2.0; 8]);
+
+    let mut many = vec![0.5; 16_777_217];
+    let refused = DenseField::new(n(16_777_217, 1, 1), &mut many).err();
+    assert_eq!(refused, Some(Refusal::Dimensions));
+    for length in [7, 9] {
+        let refused = DenseField::new(n(2, 2, 2), &mut many[..length]).err();
+        assert_eq!(refused, Some(Refusal::Dimensions));
+    }
+}
