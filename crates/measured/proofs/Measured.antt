@@ -1,5 +1,8 @@
 -- THE MEASURED FACTS: all of specs/Measured, as one theorem.
 use mathlib.Core.Path.{refl}
+use lib.ListN.{replicate}
+use lib.Ieee.{nan}
+use Rattle.grid.specs.Pruning.{halfDiagonal}
 use Rattle.grid.proofs.Edge.{edge-is-leaf, nan-is-leaf}
 use Rattle.measured.specs.Measured.{Measured}
 use Rattle.measured.proofs.Flat.{two-stays}
@@ -7,12 +10,12 @@ use Rattle.measured.proofs.Small as small
 
 pub measured : Measured
 measured = record {
-  blocks-2-2 = small.eight-of-eight;
-  blocks-4-2 = (small.eight-of-64, refl, small.corners-27, refl);
-  bounds-0-0 = (small.one-of-eight, small.corners-8);
+  blocks-2-2 = small.half-of-two;
+  blocks-4-2 = (small.half-of-four, refl, refl);
+  bounds-0-0 = small.one-point;
   extent-2 = (small.two-in-one, small.above-two-in-two);
-  at-the-edge = edge-is-leaf;
-  nan-corners = nan-is-leaf;
+  at-the-edge = λ octet b least most e l. small.kept least most b octet (edge-is-leaf octet b least most e l);
+  nan-corners = λ b least most. small.kept least most b (replicate 8 nan) (nan-is-leaf least most (halfDiagonal b));
   minus-zeros = small.minus-zeros;
   sixes = small.centre-three;
   dimension-2 = two-stays;
