@@ -1,3 +1,4 @@
 pub mod Plans
+pub mod OwnCorners
 pub mod NodeKinds
 pub mod Lawful
