@@ -7,7 +7,8 @@ ghost use lib.ListN.{length, replicate};
 ghost use Rattle.lists.specs.Filled.{filled};
 ghost use Rattle.float.specs.Zero.{plusZero};
 ghost use Rattle.dense_field.specs.Inner.Lent.{Lent, Between};
-ghost use Rattle.dense_field.specs.Smoothing.{smoothRefused, neighbourSum, valueOf, blendedAt, smoothedAt, smoothedOnce, smoothed};
+ghost use Rattle.dense_field.specs.Inner.Offsets.{offsetSum, offsetBlend};
+ghost use Rattle.dense_field.specs.Smoothing.{smoothRefused, valueOf, smoothedAt, smoothedOnce, smoothed};
 use crate::Outcome;
 use geometry::Vec3i;
 
@@ -22,7 +23,7 @@ fn copy_values(old: &[f64], new: &mut [f64], at: usize, count: usize)
 // The sum of a point's six neighbours.
 fn neighbour_sum(n: Vec3i, values: &[f64], p: usize) -> f64
     requires { ⌜ Between n p 1 (length (now values)) (length (now values)) ⌝ }
-    ensures { λ r. ⌜ r ≡ neighbourSum n (now (values .entry)) p ⌝ }
+    ensures { λ r. ⌜ r ≡ offsetSum n (now (values .entry)) p ⌝ }
 {
     let row = n.i;
     let slab = n.i * n.j;
@@ -38,7 +39,7 @@ fn neighbour_sum(n: Vec3i, values: &[f64], p: usize) -> f64
 // of the loop.
 fn blend_values(n: Vec3i, factor: f64, old: &[f64], new: &mut [f64], at: usize, count: usize)
     requires { ⌜ Between n at count (length (now old)) (length (now new)) ⌝ }
-    ensures { λ _. ⌜ now (new .exit) ≡ filled at count (blendedAt n factor (now (old .entry))) (now (new .entry)) ⌝ }
+    ensures { λ _. ⌜ now (new .exit) ≡ filled at count (offsetBlend n factor (now (old .entry))) (now (new .entry)) ⌝ }
 {
     let keep = 1.0 - factor;
     let mut i = 0;

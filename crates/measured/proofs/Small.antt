@@ -80,7 +80,7 @@ sum a b c d e f = add binary64 (add binary64 (add binary64 (add binary64 (add bi
 centre-rule : (vs : List Float) → smoothedAt threes half vs 13
     ≡ blended half (getD vs 13 plusZero)
     (sum (getD vs 14 plusZero) (getD vs 12 plusZero) (getD vs 16 plusZero) (getD vs 10 plusZero) (getD vs 22 plusZero) (getD vs 4 plusZero))
-unfolding smoothedAt blendedAt neighbourSum outside onEdge indicesOf
+unfolding smoothedAt blendedAt neighbourSum placeOf outside onEdge indicesOf
 centre-rule vs = refl
 
 sixes : blended half (asFloat 0) (sum (asFloat 6) (asFloat 6) (asFloat 6) (asFloat 6) (asFloat 6) (asFloat 6)) ≡ asFloat 3

@@ -8,14 +8,14 @@ use lib.ListN.{length}
 use Rattle.lists.specs.Filled.{filled}
 use Rattle.lists.proofs.Filling.{filled-none, filled-store, filled-done}
 use Rattle.geometry.specs.Axis.{asFloat}
-use Rattle.dense_field.specs.Smoothing.{blendedAt}
+use Rattle.dense_field.specs.Inner.Offsets.{offsetBlend}
 use Rattle.dense_field.proofs.SmoothingLaws.{one-as-float, blended-read}
 use Rattle.dense_field.proofs.smoothing.blend_values.Statement.{statement}
 use Rattle.dense_field.proofs.smoothing.blend_values.Tie as tie
 
 abbrev Inv-loop : tie.InvT-loop
 Inv-loop n factor old new₀ at count keep i₀ new i =
-    (i ≤ count) × (length new ≡ length new₀) × (keep ≡ sub binary64 (asFloat 1) factor) × (new ≡ filled at i (blendedAt n factor old) new₀)
+    (i ≤ count) × (length new ≡ length new₀) × (keep ≡ sub binary64 (asFloat 1) factor) × (new ≡ filled at i (offsetBlend n factor old) new₀)
 
 abbrev μ-loop : tie.MeasureT-loop
 μ-loop n factor old new₀ at count keep i₀ new i = count - i
