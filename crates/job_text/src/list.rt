@@ -11,6 +11,7 @@ use crate::nan;
 use crate::reader;
 use crate::writing;
 use schedule::Answer;
+use schedule::Record;
 
 // More evaluations than any job has.
 const ALL: u64 = 18446744073709551615;
@@ -26,7 +27,7 @@ fn list_read(job: Job, out: &mut [u8]) -> Listing
     let mut store = [0.0; 4096];
     let mut corners = [0.0; 125];
     let opened = sparse_field::open(
-        sparse_field::no_record(),
+        Record::NoJob,
         job.input,
         &mut kinds,
         &mut numbers,

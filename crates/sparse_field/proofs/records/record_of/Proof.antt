@@ -1,6 +1,6 @@
 -- `record_of` meets its contract: few leaves have few points.
 use Prim.Native.Nat.{_*_, _≤_}
-use mathlib.Core.Bool.{true}
+use Rattle.schedule.specs.declared.Record.the-variants.{Open}
 use native.Mathlib.Omega.{arith}
 use borrow.Author.Needs.{needs}
 use Rattle.grid.proofs.BlockLaws.{cube-le}
@@ -26,8 +26,8 @@ cursor-of-requires c κs = search needs
 returns : tie.Need-returns
 returns c =
     let a = c .before .before .before .before .args in
-    λ t. record {
-      job = true;
+    λ t.
+    Open (record {
       input = a .input;
       lengths = a .lengths;
       counts = record {
@@ -37,7 +37,7 @@ returns c =
         evaluations = a .evaluations;
       };
       cursor = c .cursor-of .ensures t;
-    }
+    })
 
 pub record-of-spec : {M : Type 1} → statement M
 record-of-spec =
