@@ -21,7 +21,6 @@ use Rattle.schedule.proofs.LedgerTheorem.{same-job}
 use Rattle.schedule.proofs.Reachable.{jobAt, engineAt}
 use Rattle.input.specs.declared.Input.{Input}
 use Rattle.schedule.specs.declared.Record.{Record}
-use Rattle.sparse_field.specs.declared.Outcome.{Outcome}
 use Rattle.schedule.specs.declared.Answer.{Answer}
 use Rattle.schedule.specs.declared.Answer.the-variants.{Accepted, Refused}
 use Rattle.plans.specs.Plan.{planOf, planWith}
@@ -159,28 +158,28 @@ module _ (i : Input) (m : Memory) (none : sparse .cause (lengthsOf m) i ≡ 0) w
 -- ---- a job that is opened and then given a budget that covers it
 
 module _
-    (j : Job) (r : Record) (m : Memory) {opened : Outcome} (lengths : lengthsOf m ≡ programLengths)
-    (is-opened : opened .answer ≡ called (opens (j .input)) r m .answer) where
+    (j : Job) (r : Record) (m : Memory) {answer : Answer} (lengths : lengthsOf m ≡ programLengths)
+    (answered : answer ≡ called (opens (j .input)) r m .answer) where
   -- a refused one
-  pub refused-listed : (k : ℕ) → opened .answer ≡ Refused k → spell refusedForm (k ∷ []) ≡ jobListed j
-  refused-listed k is = sym (listed-refusal j r m lengths k (sym is-opened ∙ is))
+  pub refused-listed : (k : ℕ) → answer ≡ Refused k → spell refusedForm (k ∷ []) ≡ jobListed j
+  refused-listed k is = sym (listed-refusal j r m lengths k (sym answered ∙ is))
 
   -- a finished one
   pub finished-listed :
-      (m₁ m₂ : Memory) {done : Outcome} {nan n : ℕ} → opened .next ≡ called (opens (j .input)) r m .next .jobRecord
-      → m₁ ≡ called (opens (j .input)) r m .next .memory → opened .answer ≡ Accepted → n ≡ 18446744073709551615
-      → done .next ≡ called (steps n) (opened .next) m₁ .next .jobRecord → m₂ ≡ called (steps n) (opened .next) m₁ .next .memory → nan ≡ jobNan j
-      → (out : List ℕ) → writtenOf (done .next) nan m₂ out ≡ putListing (jobListed j) out
-  finished-listed m₁ m₂ {done} {nan} {n} is-next after-open accepted all is-done after-step is-nan out =
+      {r₁ r₂ : Record} {m₁ m₂ : Memory} {nan n : ℕ} → r₁ ≡ called (opens (j .input)) r m .next .jobRecord
+      → m₁ ≡ called (opens (j .input)) r m .next .memory → answer ≡ Accepted → n ≡ 18446744073709551615
+      → r₂ ≡ called (steps n) r₁ m₁ .next .jobRecord → m₂ ≡ called (steps n) r₁ m₁ .next .memory → nan ≡ jobNan j
+      → (out : List ℕ) → writtenOf r₂ nan m₂ out ≡ putListing (jobListed j) out
+  finished-listed {r₁} {r₂} {m₁} {m₂} {nan} {n} opened after-open accepted all done after-step is-nan out =
       let i = j .input in
-      let none = accepted-none i r m (sym is-opened ∙ accepted) in
+      let none = accepted-none i r m (sym answered ∙ accepted) in
       let covered : total (planOf i) ≤ n = omega (arith, total-small i m none, all) in
       let first = job-opened i m none r in
-      let start : opened .next ≡ recordAfter (lengthsOf m) i 0 = is-next ∙ ap (λ h. h .next .jobRecord) first in
+      let start : r₁ ≡ recordAfter (lengthsOf m) i 0 = opened ∙ ap (λ h. h .next .jobRecord) first in
       let memory : m₁ ≡ stateAt (planOf i) (lengthsOf m) 0 .memory = after-open ∙ ap (λ h. h .next .memory) first in
-      let last : called (steps n) (opened .next) m₁ ≡ acceptedWith (engineAt sparse (lengthsOf m) i (total (planOf i))) =
+      let last : called (steps n) r₁ m₁ ≡ acceptedWith (engineAt sparse (lengthsOf m) i (total (planOf i))) =
       ap (λ x. called (steps n) x m₁) start ∙ ap (λ x. called (steps n) (recordAfter (lengthsOf m) i 0) x) memory ∙ job-finished i m none n covered in
-      ap (λ x. writtenOf x nan m₂ out) (is-done ∙ ap (λ h. h .next .jobRecord) last)
+      ap (λ x. writtenOf x nan m₂ out) (done ∙ ap (λ h. h .next .jobRecord) last)
       ∙ ap (λ x. writtenOf (recordAfter (lengthsOf m) i (total (planOf i))) nan x out) (after-step ∙ ap (λ h. h .next .memory) last)
       ∙ finished-written i m none nan out
       ∙ ap (λ bs. putListing bs out) (ap (λ x. planListing (planOf i) x) is-nan ∙ sym (accepted-listed j (subst (λ l. sparse .cause l i ≡ 0) lengths none)))

@@ -26,7 +26,6 @@ use Rattle.grid.specs.Corners.{octet}
 use Rattle.schedule.specs.Possible.{impossible}
 use Rattle.input.specs.declared.Input.{Input}
 use Rattle.schedule.specs.declared.Job.{Job}
-use Rattle.schedule.specs.declared.Record.the-variants.{Open}
 use Rattle.plans.specs.Sparse.{sparse}
 use Rattle.plans.specs.Plan.{planWith, planOf, boxOf}
 use Rattle.grid.proofs.Verdicts.{verdict-kind}
@@ -159,7 +158,7 @@ pub written-plan :
     → atEnd (j .cursor) ≡ true
     → (j .counts) ≡ countsWith (planOf (j .input)) (leavesAll (planOf (j .input))) (total (planOf (j .input)))
     → Finished (planOf (j .input)) m → leavesAll (planOf (j .input)) * planOf (j .input) .leafPoints ≤ length (m .store)
-    → written (Open j) nan m out ≡ putListing (planListing (planOf (j .input)) nan) out
+    → written (record { opened = true; job = j }) nan m out ≡ putListing (planListing (planOf (j .input)) nan) out
 unfolding printable recordListing
 written-plan j nan m out judged end counts done enough =
     let P = planOf (j .input) in
@@ -167,4 +166,4 @@ written-plan j nan m out judged end counts done enough =
     let placed = all-placed P m constants done enough in
     let whole : recordListing j nan m ≡ planListing P nan =
     ap (λ k. listing (P .nodes) (P .children) (P .leafPoints) nan k m) counts ∙ listing-plan P m constants done nan in
-    judged-possible j nan m out judged ∙ listed-whole j nan m out (rw (end, placed)) ∙ ap (λ bs. putListing bs out) whole
+    judged-possible (record { opened = true; job = j }) nan m out refl judged ∙ listed-whole j nan m out (rw (end, placed)) ∙ ap (λ bs. putListing bs out) whole

@@ -1,6 +1,6 @@
 -- What writing a record's listing answers, case by case, and the sizes that a possible record gives.
 use Prim.Native.Nat.{ℕ, _*_, _≤_}
-use mathlib.Core.Path.{_≡_, refl, sym, ap, _∙_}
+use mathlib.Core.Path.{_≡_, sym, ap, _∙_}
 use mathlib.Core.Bool.{true, false}
 use mathlib.Core.List.{List, []}
 use native.Mathlib.Omega.{arith}
@@ -16,7 +16,7 @@ use Rattle.schedule.specs.Opened.{lengthsOf}
 use Rattle.schedule.specs.Possible.{impossible}
 use Rattle.schedule.proofs.Possible.{possible}
 use Rattle.schedule.specs.declared.Job.{Job}
-use Rattle.schedule.specs.declared.Record.the-variants.{NoJob, Open}
+use Rattle.schedule.specs.declared.Record.{Record}
 use Rattle.schedule.specs.Lent.{memoryOf}
 use Rattle.plans.specs.Plan.{planWith}
 use Rattle.plans.specs.Sparse.{sparse}
@@ -99,18 +99,17 @@ module _ (j : Job) (nan : ℕ) (m : Memory) (out : List ℕ) where
         let holds = sym placed-as ∙ is in
         listed-whole (rw (end, holds)) ∙ ap (λ bs. putListing bs out) (sym listing-as)
 
-  -- ---- any record with a job
+-- ---- any record
 
-  pub judged-impossible : impossible sparse j m ≡ true → written (Open j) nan m out ≡ refusedPut (Refused 8) out
+module _ (r : Record) (nan : ℕ) (m : Memory) (out : List ℕ) where
+  pub no-job : r .opened ≡ false → written r nan m out ≡ refusedPut (Refused 7) out
   unfolding written
-  judged-impossible judged = rw judged
+  no-job is = rw is
 
-  pub judged-possible : impossible sparse j m ≡ false → written (Open j) nan m out ≡ possibleWritten j nan m out
+  pub judged-impossible : r .opened ≡ true → impossible sparse (r .job) m ≡ true → written r nan m out ≡ refusedPut (Refused 8) out
   unfolding written
-  judged-possible judged = rw judged
+  judged-impossible is judged = rw (is, judged)
 
--- ---- no job
-
-pub no-job : (nan : ℕ) (m : Memory) (out : List ℕ) → written NoJob nan m out ≡ refusedPut (Refused 7) out
-unfolding written
-no-job nan m out = refl
+  pub judged-possible : r .opened ≡ true → impossible sparse (r .job) m ≡ false → written r nan m out ≡ possibleWritten (r .job) nan m out
+  unfolding written
+  judged-possible is judged = rw (is, judged)

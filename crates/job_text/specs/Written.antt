@@ -10,7 +10,6 @@ use Rattle.schedule.specs.Memory.{Memory}
 use Rattle.schedule.specs.Possible.{impossible}
 use Rattle.schedule.specs.declared.Job.{Job}
 use Rattle.schedule.specs.declared.Record.{Record}
-use Rattle.schedule.specs.declared.Record.the-variants.{NoJob, Open}
 use Rattle.schedule.specs.declared.Cursor.{Cursor}
 use Rattle.schedule.specs.declared.Cursor.the-variants.{End, Corner, Point}
 use Rattle.plans.specs.Sparse.{sparse}
@@ -75,5 +74,6 @@ possibleWritten j nan m out =
 
 -- of any record (rule T16)
 unfoldable pub written : Record → ℕ → Memory → List ℕ → Put
-written NoJob nan m out = refusedPut (answer.Refused 7) out
-written (Open j) nan m out = cond (impossible sparse j m) (refusedPut (answer.Refused 8) out) (possibleWritten j nan m out)
+written r nan m out =
+    cond (not (r .opened)) (refusedPut (answer.Refused 7) out)
+    (cond (impossible sparse (r .job) m) (refusedPut (answer.Refused 8) out) (possibleWritten (r .job) nan m out))

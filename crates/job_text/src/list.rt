@@ -11,7 +11,6 @@ use crate::nan;
 use crate::reader;
 use crate::writing;
 use schedule::Answer;
-use schedule::Record;
 
 // More evaluations than any job has.
 const ALL: u64 = 18446744073709551615;
@@ -27,7 +26,7 @@ fn list_read(job: Job, out: &mut [u8]) -> Listing
     let mut store = [0.0; 4096];
     let mut corners = [0.0; 125];
     let opened = sparse_field::open(
-        Record::NoJob,
+        sparse_field::no_record(),
         job.input,
         &mut kinds,
         &mut numbers,

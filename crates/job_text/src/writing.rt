@@ -293,9 +293,10 @@ pub fn write_listing(
     ensures answer { λ r. ⌜ r ≡ written «record» nan (entered kinds numbers places store corners) (now (out .entry)) .answer ⌝ }
     ensures out { λ _. ⌜ now (out .exit) ≡ written «record» nan (entered kinds numbers places store corners) (now (out .entry)) .bytes ⌝ }
 {
-    let Record::Open(job) = record else {
+    if !record.opened {
         return Listing::Refused(7);
-    };
+    }
+    let job = record.job;
     if sparse_field::is_impossible(job, kinds, numbers, places, store, corners) {
         return Listing::Refused(8);
     }

@@ -29,11 +29,11 @@ pub struct Job {
     pub cursor: Cursor,
 }
 
-// What calls hand on: no job, or one that is open until a drop or the next accepted open ends it (rules
-// R1 and R4).
-pub enum Record {
-    NoJob,
-    Open(Job),
+// What calls hand on: whether a job is open, and the job. Where none is, the job counts for nothing
+// (rules R1 and R4).
+pub struct Record {
+    pub opened: bool,
+    pub job: Job,
 }
 
 // Whether a call was accepted, or the number of the cause that refused it (rule C51).

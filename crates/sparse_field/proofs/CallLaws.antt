@@ -1,21 +1,20 @@
 -- What `called` comes to, by the branches of open, step and drop.
 use Prim.Native.Nat.{ℕ, suc, _-_}
 use mathlib.Core.Path.{_≡_, refl, sym, ap, _∙_}
-use mathlib.Core.Bool.{Bool, true, false, cond}
+use mathlib.Core.Bool.{Bool, true, false, cond, not}
 use native.Mathlib.Omega.{arith}
 use Rattle.input.specs.declared.Input.{Input}
 use Rattle.input.specs.declared.Refusal.the-variants.{By}
 use Rattle.input.specs.Causes.{refusalOf, numberOf}
 use Rattle.input.proofs.Clear.{number-above}
-use Rattle.schedule.specs.declared.Job.{Job}
 use Rattle.schedule.specs.declared.Record.{Record}
-use Rattle.schedule.specs.declared.Record.the-variants.{NoJob, Open}
 use Rattle.schedule.specs.declared.Answer.the-variants.{Accepted, Refused}
 use Rattle.schedule.specs.Memory.{Memory}
 use Rattle.schedule.specs.Opened.{lengthsOf, zeroMemory}
 use Rattle.schedule.specs.Possible.{impossible}
 use Rattle.schedule.specs.Calls.{opens, steps, drops, Reply}
-use Rattle.schedule.specs.Engine.{Engine, firstEngine, openedEngine, steppedEngine, engineCall, engineOpen, engineStep}
+use Rattle.schedule.specs.NoRecord.{noRecord}
+use Rattle.schedule.specs.Engine.{Engine, openedEngine, steppedEngine, engineCall, engineOpen, engineStep}
 use Rattle.plans.specs.Sparse.{sparse}
 use Rattle.sparse_field.specs.Calls.{called}
 
@@ -43,27 +42,28 @@ module _ (i : Input) (r : Record) (m : Memory) where
   unfolding engineCall engineOpen
   open-accepted none = ap byNumber none
 
-module _ (n : ℕ) (m : Memory) where
-  -- a step without a job
-  pub step-none : called (steps n) NoJob m ≡ refusedBy 7 NoJob m
+module _ (n : ℕ) (r : Record) (m : Memory) where
+  -- by whether there is no job, and whether its record is impossible
+  abbrev byTests : Bool → Bool → Reply Engine
+  byTests a b = cond a (refusedBy 7 r m) (cond b (refusedBy 8 r m) (acceptedWith (steppedEngine sparse n (r .job) m)))
+
+  by-tests : (a b : Bool) → not (r .opened) ≡ a → impossible sparse (r .job) m ≡ b → called (steps n) r m ≡ byTests a b
   unfolding engineCall engineStep
-  step-none = refl
+  by-tests a b flag judged = ap (λ x. byTests x (impossible sparse (r .job) m)) flag ∙ ap (byTests a) judged
 
-  module _ (j : Job) where
-    abbrev byJudgement : Bool → Reply Engine
-    byJudgement b = cond b (refusedBy 8 (Open j) m) (acceptedWith (steppedEngine sparse n j m))
+  -- a step without a job
+  pub step-none : r .opened ≡ false → called (steps n) r m ≡ refusedBy 7 r m
+  step-none flag = by-tests true _ (ap not flag) refl
 
-    -- a step with an impossible record
-    pub step-impossible : impossible sparse j m ≡ true → called (steps n) (Open j) m ≡ refusedBy 8 (Open j) m
-    unfolding engineCall engineStep
-    step-impossible judged = ap byJudgement judged
+  -- a step with an impossible record
+  pub step-impossible : r .opened ≡ true → impossible sparse (r .job) m ≡ true → called (steps n) r m ≡ refusedBy 8 r m
+  step-impossible flag judged = by-tests false true (ap not flag) judged
 
-    -- an accepted step
-    pub step-accepted : impossible sparse j m ≡ false → called (steps n) (Open j) m ≡ acceptedWith (steppedEngine sparse n j m)
-    unfolding engineCall engineStep
-    step-accepted judged = ap byJudgement judged
+  -- an accepted step
+  pub step-accepted : r .opened ≡ true → impossible sparse (r .job) m ≡ false → called (steps n) r m ≡ acceptedWith (steppedEngine sparse n (r .job) m)
+  step-accepted flag judged = by-tests false false (ap not flag) judged
 
 -- a drop
-pub drop-accepted : (r : Record) (m : Memory) → called drops r m ≡ acceptedWith (firstEngine (zeroMemory (lengthsOf m)))
+pub drop-accepted : (r : Record) (m : Memory) → called drops r m ≡ acceptedWith (record { jobRecord = noRecord; memory = zeroMemory (lengthsOf m) })
 unfolding engineCall
 drop-accepted r m = refl

@@ -1,7 +1,7 @@
 -- What an accepted input and a possible record give the engine to start from.
 use Prim.Native.Nat.{ℕ, suc, _+_, _*_, _-_, _≤_, _<_}
 use mathlib.Core.Path.{_≡_, refl, sym, ap, subst, _∙_}
-use mathlib.Core.Bool.{false}
+use mathlib.Core.Bool.{true, false}
 use mathlib.Core.List.{[]}
 use native.Mathlib.Nat.{mul-pos, mul-le-mul-right}
 use native.Mathlib.Omega.{arith}
@@ -20,7 +20,6 @@ use Rattle.schedule.specs.Split.{split}
 use Rattle.schedule.specs.Memory.{Memory}
 use Rattle.schedule.specs.Totals.{activeAll, activeUpTo}
 use Rattle.schedule.specs.Counts.{countsWith}
-use Rattle.schedule.specs.declared.Record.the-variants.{Open}
 use Rattle.schedule.specs.Engine.{openedEngine}
 use Rattle.schedule.proofs.Activity.{opened-active, opened-lengths}
 use Rattle.schedule.proofs.AfterFacts.{after}
@@ -129,7 +128,7 @@ module _ (i : Input) (l : Lengths) (none : sparse .cause l i ≡ 0) where
       → Advanced P 0 0 m m₁ (eventsFrom P (Corner 0 0) (readingIn m)) [] r (activeAll P)
       → openedEngine sparse i l
       ≡ record {
-        jobRecord = Open (record { input = i; lengths = l; counts = countsWith P (r .leaves) 0; cursor = cursorAt (r .stop) });
+        jobRecord = record { opened = true; job = record { input = i; lengths = l; counts = countsWith P (r .leaves) 0; cursor = cursorAt (r .stop) } };
         memory = m₁;
       }
   unfolding opens.opened
@@ -137,7 +136,7 @@ module _ (i : Input) (l : Lengths) (none : sparse .cause l i ≡ 0) where
       let none : 0 + (0 - r .left) ≡ 0 = omega arith in
       engine-after i l 0 0 0 (activeAll P) (startMemory i l) m₁ (schedule P) r (start-done start done)
       ∙ ap (λ k. record {
-        jobRecord = Open (record { input = i; lengths = l; counts = countsWith P (r .leaves) k; cursor = cursorAt (r .stop) });
+        jobRecord = record { opened = true; job = record { input = i; lengths = l; counts = countsWith P (r .leaves) k; cursor = cursorAt (r .stop) } };
         memory = m₁;
       }) none
 

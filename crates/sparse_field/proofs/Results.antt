@@ -1,6 +1,7 @@
 -- What a call hands back, from where its work has come to.
 use Prim.Native.Nat.{ℕ, zero, suc, _+_, _*_, _-_, _≤_, _<_}
 use mathlib.Core.Path.{_≡_, refl, sym, ap, _∙_}
+use mathlib.Core.Bool.{true}
 use mathlib.Core.List.{List, []}
 use native.Mathlib.Omega.{arith}
 use Rattle.schedule.specs.Schedule.{Event}
@@ -17,7 +18,6 @@ use Rattle.schedule.specs.PlanLaws.{PlanLaws, Valid}
 use Rattle.schedule.specs.Stops.{AtLeast}
 use Rattle.schedule.specs.Opened.{lengthsOf}
 use Rattle.schedule.specs.Counts.{gridCounts, countsWith}
-use Rattle.schedule.specs.declared.Record.the-variants.{Open}
 use Rattle.schedule.specs.Engine.{advanced}
 use Rattle.schedule.proofs.Split.{split-made}
 use Rattle.schedule.proofs.Sums.{up-to-most}
@@ -63,7 +63,7 @@ module _ (i : Input) (l : Lengths) (k b leaves most : ℕ) (m m₁ : Memory) (es
   -- the engine with the job, after the budget
   pub engine-after : advanced sparse i l k (stateIn m leaves) (split b es)
       ≡ record {
-        jobRecord = Open (record { input = i; lengths = l; counts = countsWith (planOf i) (r .leaves) (k + (b - r .left)); cursor = cursorAt (r .stop) });
+        jobRecord = record { opened = true; job = record { input = i; lengths = l; counts = countsWith (planOf i) (r .leaves) (k + (b - r .left)); cursor = cursorAt (r .stop) } };
         memory = m₁;
       }
   unfolding advanced runOf
@@ -71,7 +71,7 @@ module _ (i : Input) (l : Lengths) (k b leaves most : ℕ) (m m₁ : Memory) (es
       let state : applyAll (planOf i) (split b es .made) (stateIn m leaves) ≡ stateIn m₁ (r .leaves) = ap (λ x. x .state) final in
       let cursor : cursorOf (split b es .rest) ≡ cursorAt (r .stop) = ap (λ x. x .cursor) final in
       λ t. record {
-        jobRecord = Open (record { input = i; lengths = l; counts = countsWith (planOf i) (state t .leaves) (k + made t); cursor = cursor t });
+        jobRecord = record { opened = true; job = record { input = i; lengths = l; counts = countsWith (planOf i) (state t .leaves) (k + made t); cursor = cursor t } };
         memory = state t .memory;
       }
 
@@ -101,13 +101,15 @@ module _ (i : Input) (laws : PlanLaws (planOf i)) (b leaves most : ℕ) (m m₁ 
 -- the record that the code makes is the engine's
 pub record-same : (i : Input) {l k : Lengths} {counted : GridCounts} {evaluated n : ℕ} (r : Progress) → l ≡ k → counted ≡ gridCounts (planOf i) → evaluated ≡ n
     → recordAt i l counted (r .leaves) (cube (i .grid .leaf)) evaluated (r .stop)
-    ≡ Open (record { input = i; lengths = k; counts = countsWith (planOf i) (r .leaves) n; cursor = cursorAt (r .stop) })
+    ≡ record { opened = true; job = record { input = i; lengths = k; counts = countsWith (planOf i) (r .leaves) n; cursor = cursorAt (r .stop) } }
 unfolding planWith
 record-same i r lengths counted evaluated =
-    λ t.
-    Open (record {
-      input = i;
-      lengths = lengths t;
-      counts = record { grid = counted t; leaves = r .leaves; sampled = r .leaves * cube (i .grid .leaf); evaluations = evaluated t };
-      cursor = cursorAt (r .stop);
-    })
+    λ t. record {
+      opened = true;
+      job = record {
+        input = i;
+        lengths = lengths t;
+        counts = record { grid = counted t; leaves = r .leaves; sampled = r .leaves * cube (i .grid .leaf); evaluations = evaluated t };
+        cursor = cursorAt (r .stop);
+      };
+    }

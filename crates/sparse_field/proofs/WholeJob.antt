@@ -2,7 +2,7 @@
 use Prim.Native.Nat.{ℕ, _+_, _-_, _≤_, min}
 use native.Mathlib.Omega.{arith}
 use mathlib.Core.Path.{_≡_, refl, ap, subst, _∙_}
-use mathlib.Core.Bool.{false}
+use mathlib.Core.Bool.{true, false}
 use Rattle.schedule.specs.Plan.{Plan}
 use Rattle.schedule.specs.Memory.{Memory}
 use Rattle.schedule.specs.Totals.{total}
@@ -10,9 +10,9 @@ use Rattle.input.specs.declared.Lengths.{Lengths}
 use Rattle.schedule.specs.Opened.{lengthsOf, stateAt}
 use Rattle.schedule.specs.Finished.{Finished}
 use Rattle.schedule.specs.declared.Record.{Record}
-use Rattle.schedule.specs.declared.Record.the-variants.{Open}
 use Rattle.schedule.specs.declared.Cursor.the-variants.{End}
 use Rattle.schedule.specs.Calls.{opens, steps}
+use Rattle.schedule.specs.NoRecord.{noRecord}
 use Rattle.schedule.specs.Ledger.{jobLedger, ledgerOpen, ledgerStep, ledgerCall, firstLedger}
 use Rattle.schedule.specs.Possible.{impossible}
 use Rattle.schedule.proofs.Finished.{finished-memory}
@@ -27,7 +27,7 @@ use Rattle.plans.proofs.Lawful.{sparse-laws, long-enough}
 
 -- the record of an input's job after k evaluations
 abbrev pub recordAfter : Lengths → Input → ℕ → Record
-recordAfter l i k = Open (jobAt sparse l i k)
+recordAfter l i k = record { opened = true; job = jobAt sparse l i k }
 
 module _ (i : Input) (m : Memory) (none : sparse .cause (lengthsOf m) i ≡ 0) where
   abbrev P : Plan
@@ -44,7 +44,7 @@ module _ (i : Input) (m : Memory) (none : sparse .cause (lengthsOf m) i ≡ 0) w
   unfolding ledgerCall ledgerOpen
   at-start =
       subst (λ n. LedgerInvariant sparse l (ledgerOpen sparse i (firstLedger m) n .next)) none
-      (same-outcome sparse sparse-laws l (opens i) (firstLedger m) (record { lengths = refl; holds = tt }) .invariant)
+      (same-outcome sparse sparse-laws l (opens i) noRecord (firstLedger m) refl (record { lengths = refl; holds = tt }) .invariant)
 
   -- a step from there
   pub job-finished : (n : ℕ) → total (planOf i) ≤ n
@@ -53,9 +53,9 @@ module _ (i : Input) (m : Memory) (none : sparse .cause (lengthsOf m) i ≡ 0) w
   unfolding ledgerCall ledgerStep
   job-finished n enough =
       let all : 0 + min n (total P - 0) ≡ total P = omega arith in
-      same-outcome sparse sparse-laws l (steps n) (jobLedger sparse l i 0) at-start .same
-      ∙ ap (λ k. acceptedWith (engineOf sparse l (jobLedger sparse (lengthsOf (stateAt P l 0 .memory)) i k))) all
-      ∙ ap (λ d. acceptedWith (engineOf sparse l (jobLedger sparse d i (total P)))) (at-start .lengths)
+      same-outcome sparse sparse-laws l (steps n) noRecord (jobLedger sparse l i 0) refl at-start .same
+      ∙ ap (λ k. acceptedWith (engineOf sparse l noRecord (jobLedger sparse (lengthsOf (stateAt P l 0 .memory)) i k))) all
+      ∙ ap (λ d. acceptedWith (engineOf sparse l noRecord (jobLedger sparse d i (total P)))) (at-start .lengths)
 
   -- what such a record and memory are
   pub finished-possible : impossible sparse (jobAt sparse (lengthsOf m) i (total (planOf i)))

@@ -140,12 +140,13 @@ pub fn step(
     ensures next { λ r. ⌜ r .next ≡ called (steps budget) found (entered kinds numbers places store corners) .next .jobRecord ⌝ }
     ensures memory { λ _. ⌜ left kinds numbers places store corners ≡ called (steps budget) found (entered kinds numbers places store corners) .next .memory ⌝ }
 {
-    let Record::Open(job) = found else {
+    if !found.opened {
         return Outcome {
             answer: Answer::Refused(7),
             next: found,
         };
-    };
+    }
+    let job = found.job;
     if judgement::is_impossible(job, kinds, numbers, places, store, corners) {
         return Outcome {
             answer: Answer::Refused(8),
@@ -175,6 +176,6 @@ pub fn drop(
     memory::zero_all(kinds, numbers, places, store, corners);
     Outcome {
         answer: Answer::Accepted,
-        next: Record::NoJob,
+        next: records::no_record(),
     }
 }

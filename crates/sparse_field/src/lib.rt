@@ -11,12 +11,13 @@ use schedule::Record;
 mod calls; // calls.rt: open, step and drop
 mod judgement; // judgement.rt: which records are impossible
 mod memory; // memory.rt: the five slices, their lengths, and all of them zeroed
-mod records; // records.rt: the record that an accepted call hands on
+mod records; // records.rt: the records that accepted calls hand on
 
 pub use calls::drop;
 pub use calls::open;
 pub use calls::step;
 pub use judgement::is_impossible;
+pub use records::no_record;
 
 // What a call hands back: its answer, and the record for the next call.
 pub struct Outcome {

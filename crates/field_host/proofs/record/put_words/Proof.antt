@@ -22,13 +22,14 @@ cast-t14 c = search needs
 returns : tie.Need-returns
 returns c =
     let r = c .before .before .before .before .before .before .before .before .before .before .before .before .args .r in
-    let l = r .lengths in
-    let k = r .counts in
+    let j = r .job in
+    let l = j .lengths in
+    let k = j .counts in
     let flag = c .before .before .before .before .flag-word .ensures in
     let at = c .before .before .before .before .before .cursor-words .ensures in
     λ i.
     flag i
-    ∷ r .input .grid .inner ∷ r .input .grid .leaf ∷ r .input .model .count
+    ∷ j .input .grid .inner ∷ j .input .grid .leaf ∷ j .input .model .count
     ∷ l .kinds ∷ l .numbers ∷ l .places ∷ l .store ∷ l .corners
     ∷ k .grid .nodes ∷ k .grid .active ∷ k .leaves ∷ k .sampled ∷ k .evaluations
     ∷ at .0 i ∷ at .1 i ∷ at .2 i ∷ at .3 i

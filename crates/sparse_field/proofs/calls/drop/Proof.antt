@@ -14,6 +14,9 @@ memory s = memoryOf (s .args .kinds .now) (s .args .numbers .now) (s .args .plac
 zero-all-requires : tie.Need-zero-all-requires
 zero-all-requires c κs = search needs
 
+no-record-requires : tie.Need-no-record-requires
+no-record-requires c κs = search needs
+
 same-length : tie.Need-same-length
 same-length c = search needs
 
@@ -34,8 +37,10 @@ returns c =
     let s = c .before .before .before .before .before .before .before .before .before .before .before .before .before .before .before .before .before .before .before .before .before .before in
     let done = drop-accepted (s .args .found) (memory s) in (
       sym (ap (λ h. h .answer) done),
-      sym (ap (λ h. h .next .jobRecord) done),
-      c .before .before .before .before .before .before .before .before .before .before .before .zero-all .ensures ∙ sym (ap (λ h. h .next .memory) done),
+      (
+        c .no-record .ensures ∙ sym (ap (λ h. h .next .jobRecord) done),
+        c .before .before .before .before .before .before .before .before .before .before .before .zero-all .ensures ∙ sym (ap (λ h. h .next .memory) done),
+      ),
     )
 
 pub drop-spec : {M : Type 1} → statement M
@@ -43,6 +48,7 @@ drop-spec =
     tie.close
     (tie.spec
     zero-all-requires
+    no-record-requires
     same-length
     same-length-2
     same-length-3

@@ -55,7 +55,7 @@ returns c =
     let r = c .before .before .before in
     let a = start (r .before) .args in
     let done = open-refused (a .input) (a .found) (memory (r .before)) _ (refused r ∙ c .before .refusal .given .1) in
-    (sym (ap (λ h. h .answer) done), sym (ap (λ h. h .next .jobRecord) done), sym (ap (λ h. h .next .memory) done))
+    (sym (ap (λ h. h .answer) done), (sym (ap (λ h. h .next .jobRecord) done), sym (ap (λ h. h .next .memory) done)))
 
 enum-told : tie.Need-enum-told
 enum-told c = search needs
@@ -89,8 +89,7 @@ returns-2 c =
     let opened = c .before .before .before .before .before .before .before .before .before .before .opened .ensures in
     let done = open-accepted (a .input) (a .found) (memory (r .before)) (ap numberOf (refused r ∙ told .enum-told .given .1)) in (
       sym (ap (λ h. h .answer) done),
-      opened .0 ∙ sym (ap (λ h. h .next .jobRecord) done),
-      opened .1 ∙ sym (ap (λ h. h .next .memory) done),
+      (opened .0 ∙ sym (ap (λ h. h .next .jobRecord) done), opened .1 ∙ sym (ap (λ h. h .next .memory) done)),
     )
 
 pub open-spec : {M : Type 1} → statement M

@@ -1,6 +1,6 @@
 -- `record_of` meets its contract: few leaves have few points.
 use Prim.Native.Nat.{_*_, _≤_}
-use Rattle.schedule.specs.declared.Record.the-variants.{Open}
+use mathlib.Core.Bool.{true}
 use native.Mathlib.Omega.{arith}
 use borrow.Author.Needs.{needs}
 use Rattle.grid.proofs.BlockLaws.{cube-le}
@@ -26,18 +26,20 @@ cursor-of-requires c κs = search needs
 returns : tie.Need-returns
 returns c =
     let a = c .before .before .before .before .args in
-    λ t.
-    Open (record {
-      input = a .input;
-      lengths = a .lengths;
-      counts = record {
-        grid = a .counted;
-        leaves = a .turn .leaves;
-        sampled = a .turn .leaves * c .before .cube-of .ensures t;
-        evaluations = a .evaluations;
+    λ t. record {
+      opened = true;
+      job = record {
+        input = a .input;
+        lengths = a .lengths;
+        counts = record {
+          grid = a .counted;
+          leaves = a .turn .leaves;
+          sampled = a .turn .leaves * c .before .cube-of .ensures t;
+          evaluations = a .evaluations;
+        };
+        cursor = c .cursor-of .ensures t;
       };
-      cursor = c .cursor-of .ensures t;
-    })
+    }
 
 pub record-of-spec : {M : Type 1} → statement M
 record-of-spec =
