@@ -10,18 +10,18 @@ cursor-words-requires c κs = search needs
 flag-word-requires : tie.Need-flag-word-requires
 flag-word-requires c κs = search needs
 
-cast-t12 : tie.Need-cast-t12
-cast-t12 c = search needs
-
 cast-t13 : tie.Need-cast-t13
 cast-t13 c = search needs
 
 cast-t14 : tie.Need-cast-t14
 cast-t14 c = search needs
 
+cast-t15 : tie.Need-cast-t15
+cast-t15 c = search needs
+
 returns : tie.Need-returns
 returns c =
-    let r = c .before .before .before .before .before .before .before .before .before .before .before .before .args .r in
+    let r = c .before .before .before .before .before .before .before .before .before .before .before .before .before .args .r in
     let j = r .job in
     let l = j .lengths in
     let k = j .counts in
@@ -38,4 +38,4 @@ returns c =
 pub put-words-spec : {M : Type 1} → statement M
 put-words-spec =
     tie.close
-    (tie.spec cursor-words-requires flag-word-requires cast-t12 cast-t13 cast-t14 returns)
+    (tie.spec cursor-words-requires flag-word-requires cast-t13 cast-t14 cast-t15 returns)

@@ -10,8 +10,8 @@ no-record-requires c κs = search needs
 
 returns : tie.Need-returns
 returns c =
-    let flag = c .before .args .opened in
-    ap (λ (n : Record). record { opened = flag; job = n .job }) (c .no-record .ensures)
+    let flag = c .before .before .args .opened in
+    ap (λ (n : Record). record { opened = flag; job = n .job }) (c .before .no-record .ensures)
 
 pub unread-record-spec : {M : Type 1} → statement M
 unread-record-spec = tie.close (tie.spec no-record-requires returns)
