@@ -1,5 +1,5 @@
 -- `calls::opened` meets its contract: the prepared memory, the schedule from its first corner on, and the record.
-use mathlib.Core.Path.{_≡_, refl, sym, ap, subst, _∙_}
+use mathlib.Core.Path.{refl, sym, ap, subst, _∙_}
 use native.Mathlib.Omega.{arith}
 use Rattle.input.specs.declared.Input.{Input}
 use Rattle.input.specs.declared.Lengths.{Lengths}

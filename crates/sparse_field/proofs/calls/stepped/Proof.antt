@@ -1,6 +1,6 @@
 -- `calls::stepped` meets its contract: a possible record gives the work its start, and the record follows from where it has come to.
-use Prim.Native.Nat.{ℕ, _+_, _-_, _*_, _≤_}
-use mathlib.Core.Path.{_≡_, refl, sym, ap, _∙_}
+use Prim.Native.Nat.{_-_, _≤_}
+use mathlib.Core.Path.{refl, sym, ap, _∙_}
 use native.Mathlib.Omega.{arith}
 use Rattle.schedule.specs.Totals.{evaluationsBound}
 use Rattle.schedule.specs.PlanLaws.{PlanLaws}
