@@ -6,26 +6,25 @@ use Rattle.schedule.specs.Opened.{lengthsOf}
 use Rattle.schedule.specs.Calls.{opens, drops}
 use Rattle.schedule.specs.Engine.{engineCall, engineOpen}
 use Rattle.input.specs.declared.Input.{Input}
-use Rattle.sparse_field.specs.declared.Record.{Record}
+use Rattle.schedule.specs.declared.Record.{Record}
 use Rattle.plans.specs.Sparse.{sparse}
-use Rattle.sparse_field.specs.Records.{recordIn, noRecord}
-use Rattle.sparse_field.specs.Calls.{handed, called}
+use Rattle.schedule.specs.NoRecord.{noRecord}
+use Rattle.sparse_field.specs.Calls.{called}
 use Rattle.field_host.specs.Carried.{Carried, decoded}
 use Rattle.field_host.specs.Hosted.{Hosted, answerNumber, leftBy, hostedBy, hosted}
 
 module _ (old : Carried) (m : Memory) where
   pub open-from-none : (i : Input) → hostedBy (called (opens i) noRecord m) old ≡ hosted (opens i) old m
-  unfolding hosted called engineCall engineOpen answerNumber leftBy
+  unfolding hosted engineCall engineOpen answerNumber leftBy
   open-from-none i = by (sparse .cause (lengthsOf m) i)
     where
       from : Record → ℕ → Hosted
-      from r n =
-          let o = engineOpen sparse i (record { jobRecord = recordIn r; memory = m }) n in hostedBy (handed r (o .answer) (o .next)) old
+      from r n = hostedBy (engineOpen sparse i (record { jobRecord = r; memory = m }) n) old
 
       by : (n : ℕ) → from noRecord n ≡ from (decoded old) n
       by zero = refl
       by (suc n) = refl
 
   pub drop-from-none : hostedBy (called drops noRecord m) old ≡ hosted drops old m
-  unfolding hosted called engineCall
+  unfolding hosted engineCall
   drop-from-none = refl

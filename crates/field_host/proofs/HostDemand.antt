@@ -6,7 +6,6 @@ use mathlib.Core.List.{List, map}
 use native.Mathlib.Omega.{arith}
 use lib.Ieee.{Float}
 use lib.ListN.{length, getD, length-replicate}
-use borrow.Author.Tests.{eq-eqb}
 use Rattle.lists.proofs.Tables.{length-tabulate}
 use Rattle.float.specs.Zero.{plusZero}
 use Rattle.model.specs.declared.Part.the-variants.{Constant}
@@ -16,31 +15,27 @@ use Rattle.model.proofs.Accepted.{count-le}
 use Rattle.schedule.specs.Memory.{Memory}
 use Rattle.input.specs.declared.Lengths.{Lengths}
 use Rattle.schedule.specs.Opened.{lengthsOf, stateAt}
-use Rattle.schedule.specs.Calls.{opens, steps, run}
-use Rattle.schedule.specs.Engine.{advanced, engineCall, engineOpen, engineStepJob}
+use Rattle.schedule.specs.Calls.{Reply, opens, steps, run}
+use Rattle.schedule.specs.Engine.{Engine, advanced, openedEngine, engineCall, engineOpen}
 use Rattle.schedule.specs.Possible.{impossible}
 use Rattle.schedule.specs.Ledger.{noEntry, entry}
 use Rattle.schedule.specs.BudgetSum.{budgetSum}
-use Rattle.schedule.specs.JobRecord.{noJob, atEnd}
 use Rattle.schedule.specs.Implements.{Implements}
 use Rattle.schedule.proofs.Implements.{implements-ledger, implements-drop, implements-elements, implements-finished}
 use Rattle.schedule.proofs.Possible.{possible}
 use Rattle.input.specs.declared.Input.{Input}
-use Rattle.sparse_field.specs.declared.Record.{Record}
+use Rattle.schedule.specs.declared.Record.{Record}
 use Rattle.plans.specs.Plan.{planOf}
 use Rattle.plans.specs.Sparse.{sparse}
-use Rattle.sparse_field.specs.Records.{jobIn, recordIn, byFlag, noRecord, noModel}
-use Rattle.sparse_field.specs.Calls.{Handed, handed, called}
-use Rattle.sparse_field.specs.Inner.Parts.{openedRecord, openedMemory}
-use Rattle.sparse_field.specs.CallLists.{Held}
+use Rattle.schedule.specs.NoRecord.{noRecord, noModel}
+use Rattle.sparse_field.specs.Calls.{called}
 use Rattle.sparse_field.proofs.Opening.{sized, nothing}
 use Rattle.plans.proofs.Lawful.{sparse-laws, long-enough}
 use Rattle.sparse_field.proofs.CallLaws.{refusedBy, acceptedWith, step-none, step-impossible, step-accepted, drop-accepted}
-use Rattle.sparse_field.proofs.Demand.{implemented}
 use Rattle.field_host.specs.Given.{inputGiven}
 use Rattle.field_host.specs.Carried.{Carried, inputIn, fits, flagged, recordGiven, unread, decoded, encoded}
 use Rattle.field_host.specs.Hosted.{answerNumber, leftBy, carriedAfter, hosted}
-use Rattle.field_host.specs.Demand.{NoJob, HostDemandThree, HostDropLeavesZeros, HostEqualBudgets, HostFinishedField, recordAfter}
+use Rattle.field_host.specs.Demand.{NoJob, HostDemandThree, HostDropLeavesZeros, HostEqualBudgets, HostFinishedField}
 use Rattle.field_host.specs.HostLists.{HostCall, opensWith, stepsBy, dropsAll, callOf, Station, answerOf, onStation, engineAt}
 use Rattle.field_host.proofs.RecordBack.{record-back}
 use Rattle.field_host.proofs.Unread.{no-flag}
@@ -54,7 +49,7 @@ record Codable (i : Input) : Type 0 where
   count : i .model .count < 4294967296
   long : length (i .model .parts) ≡ 64
 
-back : (r : Record) → Codable (r .input) → decoded (encoded r) ≡ r
+back : (r : Record) → Codable (r .job .input) → decoded (encoded r) ≡ r
 back r c = record-back r (c .inner) (c .leaf) (c .count) (c .long)
 
 -- an input without a cause
@@ -77,15 +72,15 @@ given-long s inner leaf l count = length-tabulate 64 _
 none-long : length (noModel .parts) ≡ 64
 none-long = length-replicate {A = ModelComponent} 64 (record { part = Constant plusZero })
 
-decoded-long : (c : Carried) → length (decoded c .input .model .parts) ≡ 64
+decoded-long : (c : Carried) → length (decoded c .job .input .model .parts) ≡ 64
 unfolding decoded
 decoded-long c = by (fits (c .words))
   where
-    by : (b : Bool) → length (cond b (recordGiven (inputIn c) (c .words)) (unread (flagged (c .words))) .input .model .parts) ≡ 64
+    by : (b : Bool) → length (cond b (recordGiven (inputIn c) (c .words)) (unread (flagged (c .words))) .job .input .model .parts) ≡ 64
     by true = given-long (c .settings) (getD (c .words) 1 0) (getD (c .words) 2 0) (flatOf (c .parts) (c .reals)) (getD (c .words) 3 0)
     by false = none-long
 
-no-record-codable : Codable (noRecord .input)
+no-record-codable : Codable (noRecord .job .input)
 no-record-codable = record { inner = omega arith; leaf = omega arith; count = omega arith; long = none-long }
 
 -- ---- one call
@@ -101,64 +96,57 @@ module _ (s : Station) where
   m = s .memory
 
   -- of what a call hands back: its number is its answer, and the arrays read as its record
-  record HandedOn (h : Handed) : Type 0 where
-    answer : answerOf (answerNumber (h .outcome .answer)) ≡ h .outcome .answer
-    next : decoded (carriedAfter (h .outcome) old) ≡ h .outcome .next
+  record HandedOn (h : Reply Engine) : Type 0 where
+    answer : answerOf (answerNumber (h .answer)) ≡ h .answer
+    next : decoded (carriedAfter (h .answer) (h .next .jobRecord) old) ≡ h .next .jobRecord
 
   refused-on : (n : ℕ) → HandedOn (refusedBy (suc n) found m)
   unfolding answerNumber leftBy
   refused-on n = record { answer = refl; next = refl }
 
-  accepted-on : (r : Record) (after : Memory) → Codable (r .input) → HandedOn (acceptedWith r after)
+  accepted-on : (e : Engine) → Codable (e .jobRecord .job .input) → HandedOn (acceptedWith e)
   unfolding answerNumber leftBy
-  accepted-on r after c = record { answer = refl; next = back r c }
+  accepted-on e c = record { answer = refl; next = back (e .jobRecord) c }
 
   open-on : (i : Input) → length (i .model .parts) ≡ 64 → HandedOn (called (opens i) found m)
-  unfolding called engineCall engineOpen advanced
+  unfolding engineCall engineOpen advanced
   open-on i long = by (sparse .cause (lengthsOf m) i) refl
     where
-      by : (n : ℕ) → sparse .cause (lengthsOf m) i ≡ n
-          → HandedOn (let o = engineOpen sparse i (record { jobRecord = recordIn found; memory = m }) n in handed found (o .answer) (o .next))
-      by zero none = accepted-on (openedRecord i (lengthsOf m)) (openedMemory i (lengthsOf m)) (no-cause-codable i (lengthsOf m) none long)
+      by : (n : ℕ) → sparse .cause (lengthsOf m) i ≡ n → HandedOn (engineOpen sparse i (engineAt s) n)
+      by zero none = accepted-on (openedEngine sparse i (lengthsOf m)) (no-cause-codable i (lengthsOf m) none long)
       by (suc n) some = refused-on n
 
   step-on : (n : ℕ) → HandedOn (called (steps n) found m)
-  unfolding engineStepJob advanced
-  step-on n = by (found .job) refl
+  unfolding advanced
+  step-on n = by (found .opened) refl
     where
-      judged : (b : Bool) → found .job ≡ true → impossible sparse (jobIn found) m ≡ b → HandedOn (called (steps n) found m)
+      judged : (b : Bool) → found .opened ≡ true → impossible sparse (found .job) m ≡ b → HandedOn (called (steps n) found m)
       judged true flag e = subst HandedOn (sym (step-impossible n found m flag e)) (refused-on 7)
       judged false flag e =
           subst HandedOn (sym (step-accepted n found m flag e))
-          (accepted-on _ _ (no-cause-codable (found .input) (lengthsOf m) (possible sparse (jobIn found) m e .noCause) (decoded-long old)))
+          (accepted-on _ (no-cause-codable (found .job .input) (lengthsOf m) (possible sparse (found .job) m e .noCause) (decoded-long old)))
 
-      by : (b : Bool) → found .job ≡ b → HandedOn (called (steps n) found m)
-      by true flag = judged (impossible sparse (jobIn found) m) flag refl
+      by : (b : Bool) → found .opened ≡ b → HandedOn (called (steps n) found m)
+      by true flag = judged (impossible sparse (found .job) m) flag refl
       by false flag = subst HandedOn (sym (step-none n found m flag)) (refused-on 6)
 
   handed-on : (c : HostCall) → HandedOn (called (callOf c) found m)
   handed-on (opensWith settings inner leaf l count) =
       open-on (inputGiven settings inner leaf l count) (given-long settings inner leaf l count)
   handed-on (stepsBy n) = step-on n
-  handed-on dropsAll = subst HandedOn (sym (drop-accepted found m)) (accepted-on noRecord _ no-record-codable)
-
--- the engine's own calls, on the record that the arrays read as
-abbrev heldAt : Station → Held
-heldAt s = record { held = decoded (s .carried); memory = s .memory }
+  handed-on dropsAll = subst HandedOn (sym (drop-accepted found m)) (accepted-on _ no-record-codable)
 
 pub host-implemented : Implements sparse HostCall Station callOf engineAt onStation
 unfolding hosted
 host-implemented = record {
-  answer = λ c s. handed-on s c .answer ∙ implemented .answer (callOf c) (heldAt s);
-  next = λ c s.
-      (λ t. record { jobRecord = recordIn (handed-on s c .next t); memory = called (callOf c) (decoded (s .carried)) (s .memory) .memory })
-      ∙ implemented .next (callOf c) (heldAt s);
+  answer = λ c s. handed-on s c .answer;
+  next = λ c s t. record { jobRecord = handed-on s c .next t; memory = called (callOf c) (decoded (s .carried)) (s .memory) .next .memory };
 }
 
 -- ---- the theorem, and what belongs to it
 
-no-job : (s : Station) → NoJob s → engineAt s .jobRecord ≡ noJob
-no-job s none = ap (λ b. byFlag b (decoded (s .carried))) (no-flag (s .carried) none)
+no-job : (s : Station) → NoJob s → decoded (s .carried) .opened ≡ false
+no-job s none = no-flag (s .carried) none
 
 pub host-demand-three : HostDemandThree
 host-demand-three cs s none = implements-ledger sparse HostCall Station callOf engineAt onStation host-implemented sparse-laws s (no-job s none) cs
@@ -175,7 +163,5 @@ host-equal-elements cs₁ cs₂ s₁ s₂ none₁ none₂ lengths i n budgets₁
     elements cs₁ s₁ none₁ i n budgets₁ ∙ ap (λ l. stateAt (planOf i) l n .memory) lengths ∙ sym (elements cs₂ s₂ none₂ i n budgets₂)
 
 pub host-finished-field : HostFinishedField
-host-finished-field cs s none flag ends =
-    let r = recordAfter cs s in
-    implements-finished sparse HostCall Station callOf engineAt onStation host-implemented sparse-laws s (no-job s none) long-enough cs (jobIn r)
-    (ap (λ b. byFlag b r) flag) (ap (λ a. atEnd a) ends)
+host-finished-field cs s none =
+    implements-finished sparse HostCall Station callOf engineAt onStation host-implemented sparse-laws s (no-job s none) long-enough cs

@@ -21,7 +21,7 @@ use Rattle.model.specs.Flat.{codeOf, firstInput, secondInput, vectorOf, numberO
 use Rattle.model.proofs.EntryRows.{first-row, row-entry}
 use Rattle.schedule.specs.declared.Cursor.{Cursor}
 use Rattle.schedule.specs.declared.Cursor.the-variants.{End, Corner, Point}
-use Rattle.sparse_field.specs.declared.Record.{Record}
+use Rattle.schedule.specs.declared.Record.{Record}
 use Rattle.field_host.specs.Given.{partCoded, partGiven, componentGiven, inputGiven}
 use Rattle.field_host.specs.Carried.{flagWord, flagged, cursorTag, cursorNode, cursorPlace, cursorPoint, cursorOf, wordsOf, fits, decoded, encoded}
 
@@ -92,25 +92,27 @@ tag-below (Point v c p) = omega arith
 
 -- ---- the record
 
-module _ (r : Record) (inner : r .input .grid .inner < 4294967296) (leaf : r .input .grid .leaf < 4294967296)
-    (count : r .input .model .count < 4294967296) (long : length (r .input .model .parts) ≡ 64) where
+module _ (r : Record) (inner : r .job .input .grid .inner < 4294967296) (leaf : r .job .input .grid .leaf < 4294967296)
+    (count : r .job .input .model .count < 4294967296) (long : length (r .job .input .model .parts) ≡ 64) where
   pub fits-encoded : fits (wordsOf r) ≡ true
   unfolding fits
   fits-encoded =
-      simp (lt-ltb _ _ (flag-below (r .job)), lt-ltb _ _ inner, lt-ltb _ _ leaf, lt-ltb _ _ count, lt-ltb _ _ (tag-below (r .cursor)))
+      simp (lt-ltb _ _ (flag-below (r .opened)), lt-ltb _ _ inner, lt-ltb _ _ leaf, lt-ltb _ _ count, lt-ltb _ _ (tag-below (r .job .cursor)))
 
   pub record-back : decoded (encoded r) ≡ r
   unfolding decoded inputGiven
   record-back =
       rw fits-encoded
       (λ i. record {
-        job = flag-back (r .job) i;
-        input = record {
-          grid = r .input .grid;
-          band = r .input .band;
-          model = record { parts = parts-back (r .input .model .parts) long i; count = r .input .model .count };
+        opened = flag-back (r .opened) i;
+        job = record {
+          input = record {
+            grid = r .job .input .grid;
+            band = r .job .input .band;
+            model = record { parts = parts-back (r .job .input .model .parts) long i; count = r .job .input .model .count };
+          };
+          lengths = r .job .lengths;
+          counts = r .job .counts;
+          cursor = cursor-back (r .job .cursor) i;
         };
-        lengths = r .lengths;
-        counts = r .counts;
-        cursor = cursor-back (r .cursor) i;
       })

@@ -24,7 +24,6 @@ use Rattle.schedule.specs.Calls.{steps}
 use Rattle.schedule.specs.Possible.{impossible}
 use Rattle.schedule.proofs.Possible.{possible}
 use Rattle.plans.specs.Sparse.{sparse}
-use Rattle.sparse_field.specs.Records.{jobIn}
 use Rattle.sparse_field.specs.Calls.{called}
 use Rattle.sparse_field.proofs.Opening.{nothing}
 use Rattle.sparse_field.proofs.CallLaws.{step-none, step-impossible}
@@ -53,11 +52,11 @@ unknown-code l count p below code = by (refusedByFour (modelGiven l count)) refl
 -- ---- a first word of 0
 
 -- there is no job, whatever else the arrays hold
-pub no-flag : (c : Carried) → getD (c .words) 0 0 ≡ 0 → decoded c .job ≡ false
+pub no-flag : (c : Carried) → getD (c .words) 0 0 ≡ 0 → decoded c .opened ≡ false
 unfolding decoded
 no-flag c none = by (fits (c .words))
   where
-    by : (b : Bool) → cond b (recordGiven (inputIn c) (c .words)) (unread (flagged (c .words))) .job ≡ false
+    by : (b : Bool) → cond b (recordGiven (inputIn c) (c .words)) (unread (flagged (c .words))) .opened ≡ false
     by true = cc (ap not (eq-eqb (getD (c .words) 0 0) 0 none))
     by false = cc (ap not (eq-eqb (getD (c .words) 0 0) 0 none))
 
@@ -75,14 +74,14 @@ module _ (c : Carried) (m : Memory) (misfit : fits (c .words) ≡ false) (flag :
   reads = ap (λ b. cond b (recordGiven (inputIn c) (c .words)) (unread (flagged (c .words)))) misfit ∙ ap unread flag
 
   -- such a record is impossible, as a block size of 0 is no block
-  never : impossible sparse (jobIn (unread true)) m ≡ true
+  never : impossible sparse (unread true .job) m ≡ true
   unfolding refusedByTwo isBlock
-  never = by (impossible sparse (jobIn (unread true)) m) refl
+  never = by (impossible sparse (unread true .job) m) refl
     where
-      by : (b : Bool) → impossible sparse (jobIn (unread true)) m ≡ b → impossible sparse (jobIn (unread true)) m ≡ true
+      by : (b : Bool) → impossible sparse (unread true .job) m ≡ b → impossible sparse (unread true .job) m ≡ true
       by true e = e
       by false e =
-          let block : true ≡ false = nothing (unread true .input) (lengthsOf m) (possible sparse (jobIn (unread true)) m e .noCause) .two in
+          let block : true ≡ false = nothing (unread true .job .input) (lengthsOf m) (possible sparse (unread true .job) m e .noCause) .two in
           e ∙ sym block
 
   -- a step refuses it by 8, and changes nothing

@@ -14,8 +14,8 @@ use Rattle.input.specs.declared.Input.{Input}
 use Rattle.schedule.specs.declared.Counts.{Counts}
 use Rattle.schedule.specs.declared.Cursor.{Cursor}
 use Rattle.schedule.specs.declared.Cursor.the-variants.{End, Corner, Point}
-use Rattle.sparse_field.specs.declared.Record.{Record}
-use Rattle.sparse_field.specs.Records.{noRecord}
+use Rattle.schedule.specs.declared.Record.{Record}
+use Rattle.schedule.specs.NoRecord.{noRecord}
 use Rattle.field_host.specs.Given.{inputGiven}
 
 -- the four arrays (rule R14)
@@ -68,11 +68,12 @@ cursorWords a = cursorTag a ∷ cursorNode a ∷ cursorPlace a ∷ cursorPoint a
 -- the flag; inner, leaf and the part count; five lengths; five counts; the cursor (rule R14)
 abbrev pub wordsOf : Record → List ℕ
 wordsOf r =
-    flagWord (r .job)
-    ∷ r .input .grid .inner ∷ r .input .grid .leaf ∷ r .input .model .count
-    ∷ r .lengths .kinds ∷ r .lengths .numbers ∷ r .lengths .places ∷ r .lengths .store ∷ r .lengths .corners
-    ∷ r .counts .grid .nodes ∷ r .counts .grid .active ∷ r .counts .leaves ∷ r .counts .sampled ∷ r .counts .evaluations
-    ∷ cursorWords (r .cursor)
+    let j = r .job in
+    flagWord (r .opened)
+    ∷ j .input .grid .inner ∷ j .input .grid .leaf ∷ j .input .model .count
+    ∷ j .lengths .kinds ∷ j .lengths .numbers ∷ j .lengths .places ∷ j .lengths .store ∷ j .lengths .corners
+    ∷ j .counts .grid .nodes ∷ j .counts .grid .active ∷ j .counts .leaves ∷ j .counts .sampled ∷ j .counts .evaluations
+    ∷ cursorWords (j .cursor)
 
 abbrev pub settingsOf : Input → List Float
 settingsOf i =
@@ -84,7 +85,7 @@ settingsOf i =
 -- a record in four arrays (rule R14)
 abbrev pub encoded : Record → Carried
 encoded r =
-    let l = layoutOf (map partIn (r .input .model .parts)) in carriedOf (wordsOf r) (l .words) (settingsOf (r .input)) (l .numbers)
+    let l = layoutOf (map partIn (r .job .input .model .parts)) in carriedOf (wordsOf r) (l .words) (settingsOf (r .job .input)) (l .numbers)
 
 -- ---- arrays of any contents read
 
@@ -115,13 +116,12 @@ cursorGiven ws = cursorOf (getD ws 14 0) (getD ws 15 0) (getD ws 16 0) (getD ws 
 
 abbrev pub recordGiven : Input → List ℕ → Record
 recordGiven i ws =
-    record { job = flagged ws; input = i; lengths = lengthsGiven ws; counts = countsGiven ws; cursor = cursorGiven ws }
+    record { opened = flagged ws; job = record { input = i; lengths = lengthsGiven ws; counts = countsGiven ws; cursor = cursorGiven ws } }
 
 -- what arrays read as that no record has: without a job, or with a job of the input of which every number is 0, which cause 1 refuses
 -- (rule R15)
 abbrev pub unread : Bool → Record
-unread job =
-    record { job = job; input = noRecord .input; lengths = noRecord .lengths; counts = noRecord .counts; cursor = noRecord .cursor }
+unread flag = record { opened = flag; job = noRecord .job }
 
 -- the input in the arrays
 abbrev pub inputIn : Carried → Input

@@ -14,7 +14,7 @@ use Rattle.schedule.specs.Agree.{Agree}
 use Rattle.schedule.specs.Implements.{viewRun}
 use Rattle.input.specs.declared.Input.{Input}
 use Rattle.schedule.specs.declared.Cursor.the-variants.{End}
-use Rattle.sparse_field.specs.declared.Record.{Record}
+use Rattle.schedule.specs.declared.Record.{Record}
 use Rattle.plans.specs.Plan.{planOf}
 use Rattle.plans.specs.Sparse.{sparse}
 use Rattle.field_host.specs.Carried.{decoded}
@@ -29,7 +29,7 @@ NoJob s = getD (s .carried .words) 0 0 ≡ 0
 abbrev pub HostDemandThree : Type 0
 HostDemandThree =
     (cs : List HostCall) (s : Station) → NoJob s
-    → Agree sparse (viewRun sparse engineAt (run onStation cs s)) (run (ledgerCall sparse) (map callOf cs) (firstLedger sparse (s .memory)))
+    → Agree sparse (viewRun engineAt (run onStation cs s)) (run (ledgerCall sparse) (map callOf cs) (firstLedger (s .memory)))
 
 -- After any such list a drop leaves all zeros (rule L8).
 abbrev pub HostDropLeavesZeros : Type 0
@@ -51,5 +51,5 @@ recordAfter cs s = decoded (run onStation cs s .last .carried)
 -- After any such list a finished job holds the plan's own values, and zeros elsewhere (rule S17).
 abbrev pub HostFinishedField : Type 0
 HostFinishedField =
-    (cs : List HostCall) (s : Station) → NoJob s → recordAfter cs s .job ≡ true → recordAfter cs s .cursor ≡ End
-    → Finished (planOf (recordAfter cs s .input)) (run onStation cs s .last .memory)
+    (cs : List HostCall) (s : Station) → NoJob s → recordAfter cs s .opened ≡ true → recordAfter cs s .job .cursor ≡ End
+    → Finished (planOf (recordAfter cs s .job .input)) (run onStation cs s .last .memory)

@@ -4,13 +4,10 @@ use mathlib.Core.List.{List}
 use lib.Ieee.{Float}
 use Rattle.model.specs.Flat.{Flat}
 use Rattle.schedule.specs.Memory.{Memory}
-use Rattle.schedule.specs.Calls.{opens, steps, drops, Reply}
+use Rattle.schedule.specs.Calls.{Call, opens, steps, drops, Reply}
 use Rattle.schedule.specs.declared.Answer.{Answer}
 use Rattle.schedule.specs.declared.Answer.the-variants.{Accepted, Refused}
 use Rattle.schedule.specs.Engine.{Engine}
-use Rattle.plans.specs.Sparse.{sparse}
-use Rattle.sparse_field.specs.Records.{recordIn}
-use Rattle.sparse_field.specs.CallLists.{Call}
 use Rattle.field_host.specs.Given.{inputGiven}
 use Rattle.field_host.specs.Carried.{Carried, decoded}
 use Rattle.field_host.specs.Hosted.{hosted}
@@ -44,5 +41,5 @@ onStation c s =
     record { answer = answerOf (h .number); next = record { carried = h .carried; memory = h .memory } }
 
 -- what the schedule's engine is, with these arrays and this memory
-abbrev pub engineAt : Station → Engine sparse
-engineAt s = record { jobRecord = recordIn (decoded (s .carried)); memory = s .memory }
+abbrev pub engineAt : Station → Engine
+engineAt s = record { jobRecord = decoded (s .carried); memory = s .memory }

@@ -8,9 +8,10 @@ use Rattle.schedule.specs.Memory.{Memory}
 use Rattle.schedule.specs.declared.Counts.{Counts}
 use Rattle.schedule.specs.declared.Answer.{Answer}
 use Rattle.schedule.specs.declared.Answer.the-variants.{Accepted, Refused}
-use Rattle.sparse_field.specs.declared.Outcome.{Outcome}
-use Rattle.sparse_field.specs.Calls.{Handed, called}
-use Rattle.sparse_field.specs.CallLists.{Call}
+use Rattle.schedule.specs.declared.Record.{Record}
+use Rattle.schedule.specs.Calls.{Call, Reply}
+use Rattle.schedule.specs.Engine.{Engine}
+use Rattle.sparse_field.specs.Calls.{called}
 use Rattle.field_host.specs.Carried.{Carried, encoded, fits, decoded}
 
 -- the number of an answer, 0 for an accepted call
@@ -23,8 +24,8 @@ unfoldable pub leftBy : Answer → (next old : Carried) → Carried
 leftBy Accepted next old = next
 leftBy (Refused number) next old = old
 
-abbrev pub carriedAfter : Outcome → Carried → Carried
-carriedAfter o old = leftBy (o .answer) (encoded (o .next)) old
+abbrev pub carriedAfter : Answer → Record → Carried → Carried
+carriedAfter a r old = leftBy a (encoded r) old
 
 -- what a call of the C interface answers and leaves
 pub record Hosted : Type 0 where
@@ -32,9 +33,9 @@ pub record Hosted : Type 0 where
   pub carried : Carried
   pub memory : Memory
 
-abbrev pub hostedBy : Handed → Carried → Hosted
+abbrev pub hostedBy : Reply Engine → Carried → Hosted
 hostedBy h old =
-    record { number = answerNumber (h .outcome .answer); carried = carriedAfter (h .outcome) old; memory = h .memory }
+    record { number = answerNumber (h .answer); carried = carriedAfter (h .answer) (h .next .jobRecord) old; memory = h .next .memory }
 
 -- the engine's call on the record that the arrays read as (rule R15)
 unfoldable pub hosted : Call → Carried → Memory → Hosted

@@ -21,7 +21,7 @@ fn hand_back(
     reals: &mut [f64; 256],
 ) -> u32
     ensures answer { λ r. ⌜ r ≡ answerNumber (outcome .answer) ⌝ }
-    ensures carried { λ _. ⌜ carriedOut words parts settings reals ≡ carriedAfter outcome (carriedIn words parts settings reals) ⌝ }
+    ensures carried { λ _. ⌜ carriedOut words parts settings reals ≡ carriedAfter (outcome .answer) (outcome .next) (carriedIn words parts settings reals) ⌝ }
 {
     let answer = outcome.answer;
     match answer {

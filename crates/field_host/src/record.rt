@@ -27,7 +27,8 @@ use input::Input;
 use input::Lengths;
 use schedule::Counts;
 use schedule::Cursor;
-use sparse_field::Record;
+use schedule::Job;
+use schedule::Record;
 
 // Whether the words are those of some record: a flag of 0 or 1, block sizes and a count of 32 bits, one
 // of three cursors.
@@ -97,37 +98,30 @@ pub fn cursor_given(words: &[u64; 18]) -> Cursor
 
 // What arrays read as that no record has: without a job where the flag is 0, and else a job of an input
 // that cause 1 refuses.
-fn unread_record(job: bool) -> Record
-    ensures { λ r. ⌜ r ≡ unread job ⌝ }
+fn unread_record(opened: bool) -> Record
+    ensures { λ r. ⌜ r ≡ unread opened ⌝ }
 {
     let none = sparse_field::no_record();
-    let input = none.input;
-    let lengths = none.lengths;
-    let counts = none.counts;
-    let cursor = none.cursor;
-    Record {
-        job,
-        input,
-        lengths,
-        counts,
-        cursor,
-    }
+    let job = none.job;
+    Record { opened, job }
 }
 
 // The record of an input and the words' other numbers.
 fn record_given(input: Input, words: &[u64; 18]) -> Record
     ensures { λ r. ⌜ r ≡ recordGiven input (now (words .entry)) ⌝ }
 {
-    let job = words[0] != 0;
+    let opened = words[0] != 0;
     let lengths = lengths_given(words);
     let counts = counts_given(words);
     let cursor = cursor_given(words);
     Record {
-        job,
-        input,
-        lengths,
-        counts,
-        cursor,
+        opened,
+        job: Job {
+            input,
+            lengths,
+            counts,
+            cursor,
+        },
     }
 }
 
@@ -187,26 +181,27 @@ pub fn cursor_words(cursor: Cursor) -> CursorWords
     }
 }
 
-fn flag_word(job: bool) -> u64
-    ensures { λ r. ⌜ r ≡ flagWord job ⌝ }
+fn flag_word(opened: bool) -> u64
+    ensures { λ r. ⌜ r ≡ flagWord opened ⌝ }
 {
-    if job { 1 } else { 0 }
+    if opened { 1 } else { 0 }
 }
 
 // Writes a record's words.
 fn put_words(r: Record, words: &mut [u64; 18])
     ensures { λ _. ⌜ now (words .exit) ≡ wordsOf r ⌝ }
 {
-    let input = r.input;
+    let job = r.job;
+    let input = job.input;
     let grid = input.grid;
     let model = input.model;
-    let l = r.lengths;
-    let c = r.counts;
+    let l = job.lengths;
+    let c = job.counts;
     let counted = c.grid;
-    let cursor = r.cursor;
+    let cursor = job.cursor;
     let at = cursor_words(cursor);
     *words = [
-        flag_word(r.job),
+        flag_word(r.opened),
         grid.inner as u64,
         grid.leaf as u64,
         model.count as u64,
@@ -249,7 +244,8 @@ pub fn encode(
 )
     ensures { λ _. ⌜ carriedOut words parts settings reals ≡ encoded r ⌝ }
 {
-    let input = r.input;
+    let job = r.job;
+    let input = job.input;
     put_words(r, words);
     put_settings(input, settings);
     model::lay_out(input.model, parts, reals);

@@ -11,13 +11,7 @@ use Rattle.input.specs.declared.Lengths.{Lengths}
 -- a place for each child, the points of all active children, and a node's corners (rule S3)
 abbrev pub neededLengths : Grid → Lengths
 neededLengths g =
-    record {
-      kinds = childrenOf g;
-      numbers = childrenOf g;
-      places = childrenOf g;
-      store = activeOf g * cube (g .leaf);
-      corners = cube (g .inner + 1);
-    }
+    record { kinds = childrenOf g; numbers = childrenOf g; places = childrenOf g; store = activeOf g * cube (g .leaf); corners = cube (g .inner + 1) }
 
 -- whether one of five lengths is below the one that it is held against
 unfoldable pub shorter : Lengths → Lengths → Bool

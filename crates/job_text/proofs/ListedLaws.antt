@@ -13,28 +13,23 @@ use Rattle.schedule.specs.Totals.{leavesAll, total, evaluationsBound}
 use Rattle.input.specs.declared.Lengths.{Lengths}
 use Rattle.schedule.specs.Opened.{lengthsOf, stateAt}
 use Rattle.schedule.specs.Counts.{countsWith}
-use Rattle.schedule.specs.JobRecord.{job, isFinished}
-use Rattle.schedule.specs.Possible.{impossible}
 use Rattle.schedule.specs.Calls.{opens, steps}
 use Rattle.schedule.specs.Engine.{engineCall, engineOpen}
 use Rattle.schedule.proofs.AfterFacts.{after}
 use Rattle.schedule.proofs.EventCounts.{total-bound}
 use Rattle.schedule.proofs.LedgerTheorem.{same-job}
-use Rattle.schedule.proofs.Reachable.{jobAt}
+use Rattle.schedule.proofs.Reachable.{jobAt, engineAt}
 use Rattle.input.specs.declared.Input.{Input}
-use Rattle.sparse_field.specs.declared.Record.{Record}
-use Rattle.sparse_field.specs.declared.Outcome.{Outcome}
+use Rattle.schedule.specs.declared.Record.{Record}
 use Rattle.schedule.specs.declared.Answer.{Answer}
 use Rattle.schedule.specs.declared.Answer.the-variants.{Accepted, Refused}
 use Rattle.plans.specs.Plan.{planOf, planWith}
 use Rattle.plans.specs.Sparse.{sparse}
-use Rattle.sparse_field.specs.Records.{jobIn, recordIn}
-use Rattle.sparse_field.specs.Calls.{called, handed}
+use Rattle.sparse_field.specs.Calls.{called}
 use Rattle.sparse_field.proofs.CallLaws.{acceptedWith}
-use Rattle.sparse_field.proofs.Demand.{record-forth}
 use Rattle.sparse_field.proofs.Opening.{sized, nothing}
 use Rattle.plans.proofs.Lawful.{sparse-laws, long-enough}
-use Rattle.sparse_field.proofs.WholeJob.{recordAfter, job-opened, job-finished, finished-possible, finished-flag, finished-elements}
+use Rattle.sparse_field.proofs.WholeJob.{recordAfter, job-opened, job-finished, finished-possible, finished-cursor, finished-elements}
 use Rattle.grid.proofs.LimitLaws.{bound-fits}
 use Rattle.forms.specs.Forms.{spell}
 use Rattle.job_text.specs.declared.Job.{Job}
@@ -46,7 +41,7 @@ use Rattle.job_text.specs.Lines.{refusedForm, offForm}
 use Rattle.job_text.specs.Reading.{Read, offAt, written, readText, jobOf, readingOf}
 use Rattle.job_text.specs.NanBits.{jobNan}
 use Rattle.job_text.specs.Listing.{planListing}
-use Rattle.job_text.specs.Written.{written as writtenOf, putAnswer, putListing}
+use Rattle.job_text.specs.Written.{written as writtenOf, atEnd, putAnswer, putListing}
 use Rattle.job_text.proofs.ListingFits.{listing-fits, refused-fits, off-fits}
 use Rattle.job_text.proofs.PlanListing.{written-plan}
 use Rattle.job_text.specs.Listed.{listedBy, jobListed, readListed, listed, programLengths}
@@ -57,15 +52,11 @@ abbrev answerFor : ℕ → Answer
 answerFor zero = Accepted
 answerFor (suc n) = Refused (suc n)
 
-opened-answer : (i : Input) (r : Record) (m : Memory) → called (opens i) r m .outcome .answer ≡ answerFor (sparse .cause (lengthsOf m) i)
-unfolding called engineCall engineOpen
+opened-answer : (i : Input) (r : Record) (m : Memory) → called (opens i) r m .answer ≡ answerFor (sparse .cause (lengthsOf m) i)
+unfolding engineCall engineOpen
 opened-answer i r m = by (sparse .cause (lengthsOf m) i)
   where
-    by :
-        (n : ℕ)
-        → (let o = engineOpen sparse i (record { jobRecord = recordIn r; memory = m }) n in handed r (o .answer)
-        (o .next)) .outcome .answer
-        ≡ answerFor n
+    by : (n : ℕ) → engineOpen sparse i (record { jobRecord = r; memory = m }) n .answer ≡ answerFor n
     by zero = refl
     by (suc n) = refl
 
@@ -76,7 +67,7 @@ refused-by j zero k e = let z : _≡_ {A = ℕ} 0 1 = cc in absurd (omega arith)
 refused-by j (suc n) k e = let same : suc n ≡ k = cc in ap (λ x. spell refusedForm (x ∷ [])) same
 
 module _ (j : Job) (r : Record) (m : Memory) (lengths : lengthsOf m ≡ programLengths) where
-  pub listed-refusal : (k : ℕ) → called (opens (j .input)) r m .outcome .answer ≡ Refused k → jobListed j ≡ spell refusedForm (k ∷ [])
+  pub listed-refusal : (k : ℕ) → called (opens (j .input)) r m .answer ≡ Refused k → jobListed j ≡ spell refusedForm (k ∷ [])
   unfolding jobListed
   listed-refusal k e =
       refused-by j (sparse .cause programLengths (j .input)) k
@@ -91,7 +82,7 @@ accepted-zero : (n : ℕ) → answerFor n ≡ Accepted → n ≡ 0
 accepted-zero zero e = refl
 accepted-zero (suc n) e = let z : _≡_ {A = ℕ} 0 1 = cc in absurd (omega arith)
 
-pub accepted-none : (i : Input) (r : Record) (m : Memory) → called (opens i) r m .outcome .answer ≡ Accepted → sparse .cause (lengthsOf m) i ≡ 0
+pub accepted-none : (i : Input) (r : Record) (m : Memory) → called (opens i) r m .answer ≡ Accepted → sparse .cause (lengthsOf m) i ≡ 0
 accepted-none i r m e = accepted-zero (sparse .cause (lengthsOf m) i) (sym (opened-answer i r m) ∙ e)
 
 -- ---- what is printed, by what a text is read as
@@ -136,12 +127,6 @@ module _ (i : Input) (m : Memory) (none : sparse .cause (lengthsOf m) i ≡ 0) w
   abbrev last : Memory
   last = stateAt (planOf i) (lengthsOf m) (total (planOf i)) .memory
 
-  abbrev final : Record
-  final = recordAfter (lengthsOf m) i (total (planOf i))
-
-  same-record : jobIn (recordAfter (lengthsOf m) i (total (planOf i))) ≡ jobAt sparse (lengthsOf m) i (total (planOf i))
-  same-record = let forth : job (jobIn final) ≡ job (jobAt sparse l i (total P)) = record-forth (job (jobAt sparse l i (total P))) in cc
-
   some-points : 0 < planOf i .leafPoints
   unfolding planWith
   some-points = cube-le (i .grid .leaf) 1 (sized i (nothing i l none) .leafLeast)
@@ -150,7 +135,7 @@ module _ (i : Input) (m : Memory) (none : sparse .cause (lengthsOf m) i ≡ 0) w
   leaves-all : stateAt (planOf i) (lengthsOf m) (total (planOf i)) .leaves ≡ leavesAll (planOf i)
   unfolding total
   leaves-all =
-      let counted = same-job sparse sparse-laws l i (total P) none (omega arith) .counted .0 (finished-flag i m none) in
+      let counted = same-job sparse sparse-laws l i (total P) none (omega arith) .counted .0 (finished-cursor i m none) in
       let n = stateAt P l (total P) .leaves in
       let same : n * P .leafPoints ≡ leavesAll P * P .leafPoints = omega (arith, counted) in
       sym (mul-div-cancel n some-points) ∙ ap (λ k. k / P .leafPoints) same ∙ mul-div-cancel (leavesAll P) some-points
@@ -164,9 +149,8 @@ module _ (i : Input) (m : Memory) (none : sparse .cause (lengthsOf m) i ≡ 0) w
       → writtenOf (recordAfter (lengthsOf m) i (total (planOf i))) nan (stateAt (planOf i) (lengthsOf m) (total (planOf i)) .memory) out
       ≡ putListing (planListing (planOf i) nan) out
   finished-written nan out =
-      written-plan final nan last out refl
-      (ap (λ j. impossible sparse j last) same-record ∙ finished-possible i m none)
-      (ap isFinished same-record ∙ finished-flag i m none)
+      written-plan (jobAt sparse l i (total P)) nan last out (finished-possible i m none)
+      (ap atEnd (finished-cursor i m none))
       (ap (λ n. countsWith P n (total P)) leaves-all)
       (finished-elements i m none)
       store-long
@@ -174,32 +158,29 @@ module _ (i : Input) (m : Memory) (none : sparse .cause (lengthsOf m) i ≡ 0) w
 -- ---- a job that is opened and then given a budget that covers it
 
 module _
-    (j : Job) (r : Record) (m : Memory) {opened : Outcome} (lengths : lengthsOf m ≡ programLengths)
-    (is-opened : opened ≡ called (opens (j .input)) r m .outcome) where
+    (j : Job) (r : Record) (m : Memory) {answer : Answer} (lengths : lengthsOf m ≡ programLengths)
+    (answered : answer ≡ called (opens (j .input)) r m .answer) where
   -- a refused one
-  pub refused-listed : (k : ℕ) → opened .answer ≡ Refused k → spell refusedForm (k ∷ []) ≡ jobListed j
-  refused-listed k is = sym (listed-refusal j r m lengths k (sym (ap (λ o. o .answer) is-opened) ∙ is))
+  pub refused-listed : (k : ℕ) → answer ≡ Refused k → spell refusedForm (k ∷ []) ≡ jobListed j
+  refused-listed k is = sym (listed-refusal j r m lengths k (sym answered ∙ is))
 
   -- a finished one
   pub finished-listed :
-      (m₁ m₂ : Memory) {done : Outcome} {nan n : ℕ} → m₁ ≡ called (opens (j .input)) r m .memory
-      → opened .answer ≡ Accepted → n ≡ 18446744073709551615
-      → done ≡ called (steps n) (opened .next) m₁ .outcome → m₂ ≡ called (steps n) (opened .next) m₁ .memory → nan ≡ jobNan j
-      → (out : List ℕ) → writtenOf (done .next) nan m₂ out ≡ putListing (jobListed j) out
-  finished-listed m₁ m₂ {done} {nan} {n} after-open accepted all is-done after-step is-nan out =
+      {r₁ r₂ : Record} {m₁ m₂ : Memory} {nan n : ℕ} → r₁ ≡ called (opens (j .input)) r m .next .jobRecord
+      → m₁ ≡ called (opens (j .input)) r m .next .memory → answer ≡ Accepted → n ≡ 18446744073709551615
+      → r₂ ≡ called (steps n) r₁ m₁ .next .jobRecord → m₂ ≡ called (steps n) r₁ m₁ .next .memory → nan ≡ jobNan j
+      → (out : List ℕ) → writtenOf r₂ nan m₂ out ≡ putListing (jobListed j) out
+  finished-listed {r₁} {r₂} {m₁} {m₂} {nan} {n} opened after-open accepted all done after-step is-nan out =
       let i = j .input in
-      let none = accepted-none i r m (sym (ap (λ o. o .answer) is-opened) ∙ accepted) in
+      let none = accepted-none i r m (sym answered ∙ accepted) in
       let covered : total (planOf i) ≤ n = omega (arith, total-small i m none, all) in
       let first = job-opened i m none r in
-      let start : opened .next ≡ recordAfter (lengthsOf m) i 0 = ap (λ o. o .next) is-opened ∙ ap (λ h. h .outcome .next) first in
-      let memory : m₁ ≡ stateAt (planOf i) (lengthsOf m) 0 .memory = after-open ∙ ap (λ h. h .memory) first in
-      let last :
-      called (steps n) (opened .next) m₁
-      ≡ acceptedWith (recordAfter (lengthsOf m) i (total (planOf i)))
-      (stateAt (planOf i) (lengthsOf m) (total (planOf i)) .memory) =
+      let start : r₁ ≡ recordAfter (lengthsOf m) i 0 = opened ∙ ap (λ h. h .next .jobRecord) first in
+      let memory : m₁ ≡ stateAt (planOf i) (lengthsOf m) 0 .memory = after-open ∙ ap (λ h. h .next .memory) first in
+      let last : called (steps n) r₁ m₁ ≡ acceptedWith (engineAt sparse (lengthsOf m) i (total (planOf i))) =
       ap (λ x. called (steps n) x m₁) start ∙ ap (λ x. called (steps n) (recordAfter (lengthsOf m) i 0) x) memory ∙ job-finished i m none n covered in
-      ap (λ o. writtenOf (o .next) nan m₂ out) (is-done ∙ ap (λ h. h .outcome) last)
-      ∙ ap (λ x. writtenOf (recordAfter (lengthsOf m) i (total (planOf i))) nan x out) (after-step ∙ ap (λ h. h .memory) last)
+      ap (λ x. writtenOf x nan m₂ out) (done ∙ ap (λ h. h .next .jobRecord) last)
+      ∙ ap (λ x. writtenOf (recordAfter (lengthsOf m) i (total (planOf i))) nan x out) (after-step ∙ ap (λ h. h .next .memory) last)
       ∙ finished-written i m none nan out
       ∙ ap (λ bs. putListing bs out) (ap (λ x. planListing (planOf i) x) is-nan ∙ sym (accepted-listed j (subst (λ l. sparse .cause l i ≡ 0) lengths none)))
 

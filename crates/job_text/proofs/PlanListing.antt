@@ -23,16 +23,14 @@ use Rattle.schedule.specs.Counts.{countsWith}
 use Rattle.schedule.specs.Finished.{Finished, Child, childAt, finishedChild}
 use Rattle.schedule.proofs.Sums.{before-below}
 use Rattle.grid.specs.Corners.{octet}
-use Rattle.schedule.specs.JobRecord.{atEnd}
 use Rattle.schedule.specs.Possible.{impossible}
 use Rattle.input.specs.declared.Input.{Input}
-use Rattle.sparse_field.specs.declared.Record.{Record}
+use Rattle.schedule.specs.declared.Job.{Job}
 use Rattle.plans.specs.Sparse.{sparse}
-use Rattle.sparse_field.specs.Records.{jobIn}
 use Rattle.plans.specs.Plan.{planWith, planOf, boxOf}
 use Rattle.grid.proofs.Verdicts.{verdict-kind}
 use Rattle.job_text.specs.Listing.{doneLine, leafLine, leafValues, kindLine, lineAt, planLine, planLineAt, listing, planListing}
-use Rattle.job_text.specs.Written.{placed, allPlaced, printable, recordListing, putListing, written}
+use Rattle.job_text.specs.Written.{atEnd, placed, allPlaced, printable, recordListing, putListing, written}
 use Rattle.job_text.proofs.LineLaws.{constant-line}
 use Rattle.job_text.proofs.ListingLaws.{lines-cong, placed-all}
 use Rattle.job_text.proofs.WrittenLaws.{listed-whole, judged-possible}
@@ -156,16 +154,16 @@ module _ (P : Plan) (m : Memory) (constants : Constants P) (done : Finished P m)
 
 -- WHAT IS WRITTEN OF A FINISHED JOB IS ITS PLAN'S LISTING
 pub written-plan :
-    (r : Record) (nan : ℕ) (m : Memory) (out : List ℕ) → r .job ≡ true → impossible sparse (jobIn r) m ≡ false
-    → atEnd (r .cursor) ≡ true
-    → (r .counts) ≡ countsWith (planOf (r .input)) (leavesAll (planOf (r .input))) (total (planOf (r .input)))
-    → Finished (planOf (r .input)) m → leavesAll (planOf (r .input)) * planOf (r .input) .leafPoints ≤ length (m .store)
-    → written r nan m out ≡ putListing (planListing (planOf (r .input)) nan) out
+    (j : Job) (nan : ℕ) (m : Memory) (out : List ℕ) → impossible sparse j m ≡ false
+    → atEnd (j .cursor) ≡ true
+    → (j .counts) ≡ countsWith (planOf (j .input)) (leavesAll (planOf (j .input))) (total (planOf (j .input)))
+    → Finished (planOf (j .input)) m → leavesAll (planOf (j .input)) * planOf (j .input) .leafPoints ≤ length (m .store)
+    → written (record { opened = true; job = j }) nan m out ≡ putListing (planListing (planOf (j .input)) nan) out
 unfolding printable recordListing
-written-plan r nan m out job judged end counts done enough =
-    let P = planOf (r .input) in
-    let constants = plan-constants (r .input) in
+written-plan j nan m out judged end counts done enough =
+    let P = planOf (j .input) in
+    let constants = plan-constants (j .input) in
     let placed = all-placed P m constants done enough in
-    let whole : recordListing r nan m ≡ planListing P nan =
+    let whole : recordListing j nan m ≡ planListing P nan =
     ap (λ k. listing (P .nodes) (P .children) (P .leafPoints) nan k m) counts ∙ listing-plan P m constants done nan in
-    judged-possible r nan m out job judged ∙ listed-whole r nan m out (rw (end, placed)) ∙ ap (λ bs. putListing bs out) whole
+    judged-possible (record { opened = true; job = j }) nan m out refl judged ∙ listed-whole j nan m out (rw (end, placed)) ∙ ap (λ bs. putListing bs out) whole

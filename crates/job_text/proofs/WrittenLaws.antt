@@ -12,20 +12,19 @@ use Rattle.grid.specs.Limits.{childrenOf}
 use Rattle.grid.proofs.BlockLaws.{cube-le}
 use Rattle.grid.proofs.LimitLaws.{inner-block, leaf-block, few-children, bound-fits}
 use Rattle.schedule.specs.Memory.{Memory}
-use Rattle.schedule.specs.JobRecord.{atEnd}
 use Rattle.schedule.specs.Opened.{lengthsOf}
 use Rattle.schedule.specs.Possible.{impossible}
 use Rattle.schedule.proofs.Possible.{possible}
-use Rattle.sparse_field.specs.declared.Record.{Record}
+use Rattle.schedule.specs.declared.Job.{Job}
+use Rattle.schedule.specs.declared.Record.{Record}
 use Rattle.schedule.specs.Lent.{memoryOf}
 use Rattle.plans.specs.Plan.{planWith}
 use Rattle.plans.specs.Sparse.{sparse}
-use Rattle.sparse_field.specs.Records.{jobIn}
 use Rattle.input.proofs.Clear.{no-cause}
 use Rattle.job_text.specs.declared.Listing.the-variants.{Refused, NotPrintable}
 use Rattle.job_text.specs.Inner.Lengths.{Sizes}
 use Rattle.job_text.specs.Listing.{lineAt, listingTo, listing}
-use Rattle.job_text.specs.Written.{allPlaced, printable, recordListing, refusedPut, putListing, possibleWritten, written}
+use Rattle.job_text.specs.Written.{atEnd, allPlaced, printable, recordListing, refusedPut, putListing, possibleWritten, written}
 
 -- ---- sizes
 
@@ -39,13 +38,13 @@ pub record Ready (g : Grid) (kinds numbers places : ℕ) : Type 0 where
   pub enoughNumbers : nodesOf g * cube (g .inner) ≤ numbers
   pub enoughPlaces : nodesOf g * cube (g .inner) ≤ places
 
-pub ready : (r : Record) (m : Memory) → impossible sparse (jobIn r) m ≡ false
-    → Ready (r .input .grid) (length (m .kinds)) (length (m .numbers)) (length (m .places))
+pub ready : (j : Job) (m : Memory) → impossible sparse j m ≡ false
+    → Ready (j .input .grid) (length (m .kinds)) (length (m .numbers)) (length (m .places))
 unfolding childrenOf
-ready r m judged =
-    let i = r .input in
+ready j m judged =
+    let i = j .input in
     let g = i .grid in
-    let none = no-cause i (lengthsOf m) (possible sparse (jobIn r) m judged .noCause) in
+    let none = no-cause i (lengthsOf m) (possible sparse j m judged .noCause) in
     let n = inner-block g (none .two) in
     let fits = bound-fits g (none .two) (none .five) in
     let eight : 8 ≤ cube (g .inner) = cube-le (g .inner) 2 (n .least) in
@@ -61,19 +60,19 @@ ready r m judged =
 
 -- ---- a possible record
 
-module _ (r : Record) (nan : ℕ) (m : Memory) (out : List ℕ) where
+module _ (j : Job) (nan : ℕ) (m : Memory) (out : List ℕ) where
   abbrev g : Grid
-  g = r .input .grid
+  g = j .input .grid
 
-  not-printed : printable r m ≡ false → possibleWritten r nan m out ≡ refusedPut NotPrintable out
+  not-printed : printable j m ≡ false → possibleWritten j nan m out ≡ refusedPut NotPrintable out
   unfolding possibleWritten
   not-printed is = rw is
 
-  pub listed-whole : printable r m ≡ true → possibleWritten r nan m out ≡ putListing (recordListing r nan m) out
+  pub listed-whole : printable j m ≡ true → possibleWritten j nan m out ≡ putListing (recordListing j nan m) out
   unfolding possibleWritten
   listed-whole is = rw is
 
-  pub unfinished : atEnd (r .cursor) ≡ false → possibleWritten r nan m out ≡ refusedPut NotPrintable out
+  pub unfinished : atEnd (j .cursor) ≡ false → possibleWritten j nan m out ≡ refusedPut NotPrintable out
   unfolding printable
   unfinished is = not-printed (rw is)
 
@@ -82,34 +81,35 @@ module _ (r : Record) (nan : ℕ) (m : Memory) (out : List ℕ) where
         ≡ allPlaced (cube (g .leaf)) (length (m .store)) (m .kinds) (m .places) (nodesOf g * cube (g .inner)) 0
     placed-as = rw (n, c, p)
 
-    listing-as : listingTo (nodes * children) children points nan (r .counts) (memoryOf (m .kinds) (m .numbers) (m .places) (m .store) [])
-        ≡ recordListing r nan m
+    listing-as : listingTo (nodes * children) children points nan (j .counts) (memoryOf (m .kinds) (m .numbers) (m .places) (m .store) [])
+        ≡ recordListing j nan m
     unfolding recordListing listing planWith lineAt
     listing-as = rw (n, c, p)
 
-    pub unplaced : atEnd (r .cursor) ≡ true → allPlaced points (length (m .store)) (m .kinds) (m .places) (nodes * children) 0 ≡ false
-        → possibleWritten r nan m out ≡ refusedPut NotPrintable out
+    pub unplaced : atEnd (j .cursor) ≡ true → allPlaced points (length (m .store)) (m .kinds) (m .places) (nodes * children) 0 ≡ false
+        → possibleWritten j nan m out ≡ refusedPut NotPrintable out
     unfolding printable planWith
     unplaced end is = let fails = sym placed-as ∙ is in not-printed (rw (end, fails))
 
-    pub printed : atEnd (r .cursor) ≡ true → allPlaced points (length (m .store)) (m .kinds) (m .places) (nodes * children) 0 ≡ true
-        → possibleWritten r nan m out
-        ≡ putListing (listingTo (nodes * children) children points nan (r .counts) (memoryOf (m .kinds) (m .numbers) (m .places) (m .store) [])) out
+    pub printed : atEnd (j .cursor) ≡ true → allPlaced points (length (m .store)) (m .kinds) (m .places) (nodes * children) 0 ≡ true
+        → possibleWritten j nan m out
+        ≡ putListing (listingTo (nodes * children) children points nan (j .counts) (memoryOf (m .kinds) (m .numbers) (m .places) (m .store) [])) out
     unfolding printable planWith
     printed end is =
         let holds = sym placed-as ∙ is in
         listed-whole (rw (end, holds)) ∙ ap (λ bs. putListing bs out) (sym listing-as)
 
-  -- ---- any record
+-- ---- any record
 
-  pub no-job : r .job ≡ false → written r nan m out ≡ refusedPut (Refused 7) out
+module _ (r : Record) (nan : ℕ) (m : Memory) (out : List ℕ) where
+  pub no-job : r .opened ≡ false → written r nan m out ≡ refusedPut (Refused 7) out
   unfolding written
   no-job is = rw is
 
-  pub judged-impossible : r .job ≡ true → impossible sparse (jobIn r) m ≡ true → written r nan m out ≡ refusedPut (Refused 8) out
+  pub judged-impossible : r .opened ≡ true → impossible sparse (r .job) m ≡ true → written r nan m out ≡ refusedPut (Refused 8) out
   unfolding written
   judged-impossible is judged = rw (is, judged)
 
-  pub judged-possible : r .job ≡ true → impossible sparse (jobIn r) m ≡ false → written r nan m out ≡ possibleWritten r nan m out
+  pub judged-possible : r .opened ≡ true → impossible sparse (r .job) m ≡ false → written r nan m out ≡ possibleWritten (r .job) nan m out
   unfolding written
   judged-possible is judged = rw (is, judged)

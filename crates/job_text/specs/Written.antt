@@ -2,16 +2,17 @@
 -- printable" for an unfinished job or a leaf's place outside the store, then 6 where the bytes are too few. A refusal writes nothing; what
 -- lies past a listing is 0.
 use Prim.Native.Nat.{ℕ, zero, suc, _+_, _-_, _*_}
-use mathlib.Core.Bool.{Bool, true, cond, _&&_, _||_, not}
+use mathlib.Core.Bool.{Bool, true, false, cond, _&&_, _||_, not}
 use mathlib.Core.List.{List, _++_}
 use lib.Dec.{eqb, leb}
 use lib.ListN.{length, getD, replicate}
 use Rattle.schedule.specs.Memory.{Memory}
-use Rattle.schedule.specs.JobRecord.{isFinished}
 use Rattle.schedule.specs.Possible.{impossible}
-use Rattle.sparse_field.specs.declared.Record.{Record}
+use Rattle.schedule.specs.declared.Job.{Job}
+use Rattle.schedule.specs.declared.Record.{Record}
+use Rattle.schedule.specs.declared.Cursor.{Cursor}
+use Rattle.schedule.specs.declared.Cursor.the-variants.{End, Corner, Point}
 use Rattle.plans.specs.Sparse.{sparse}
-use Rattle.sparse_field.specs.Records.{jobIn}
 use Rattle.plans.specs.Plan.{planOf}
 use Rattle.job_text.specs.declared.Listing as answers
 use Rattle.job_text.specs.declared.Listing.the-variants as answer
@@ -39,15 +40,21 @@ allPlaced points size kinds places zero j = true
 allPlaced points size kinds places (suc r) j =
     placed points size (getD kinds j 0) (getD places j 0) && allPlaced points size kinds places r (suc j)
 
--- whether a job is finished and all its leaves lie in the store (rule T16)
-unfoldable pub printable : Record → Memory → Bool
-printable r m =
-    let P = planOf (r .input) in
-    isFinished (jobIn r) && allPlaced (P .leafPoints) (length (m .store)) (m .kinds) (m .places) (P .nodes * P .children) 0
+-- whether a cursor is at the end (rule S12)
+abbrev pub atEnd : Cursor → Bool
+atEnd End = true
+atEnd (Corner v i) = false
+atEnd (Point v c p) = false
 
-unfoldable pub recordListing : Record → ℕ → Memory → List ℕ
-recordListing r nan m =
-    let P = planOf (r .input) in listing (P .nodes) (P .children) (P .leafPoints) nan (r .counts) m
+-- whether a job is finished and all its leaves lie in the store (rule T16)
+unfoldable pub printable : Job → Memory → Bool
+printable j m =
+    let P = planOf (j .input) in
+    atEnd (j .cursor) && allPlaced (P .leafPoints) (length (m .store)) (m .kinds) (m .places) (P .nodes * P .children) 0
+
+unfoldable pub recordListing : Job → ℕ → Memory → List ℕ
+recordListing j nan m =
+    let P = planOf (j .input) in listing (P .nodes) (P .children) (P .leafPoints) nan (j .counts) m
 
 -- what writing does with a listing: an answer, and the bytes after it
 pub record Put : Type 0 where
@@ -61,12 +68,12 @@ abbrev pub putListing : List ℕ → List ℕ → Put
 putListing bs out = record { answer = putAnswer bs out; bytes = putBytes bs out }
 
 -- of a record that is not impossible
-unfoldable pub possibleWritten : Record → ℕ → Memory → List ℕ → Put
-possibleWritten r nan m out =
-    cond (not (printable r m)) (refusedPut answer.NotPrintable out) (putListing (recordListing r nan m) out)
+unfoldable pub possibleWritten : Job → ℕ → Memory → List ℕ → Put
+possibleWritten j nan m out =
+    cond (not (printable j m)) (refusedPut answer.NotPrintable out) (putListing (recordListing j nan m) out)
 
 -- of any record (rule T16)
 unfoldable pub written : Record → ℕ → Memory → List ℕ → Put
 written r nan m out =
-    cond (not (r .job)) (refusedPut (answer.Refused 7) out)
-    (cond (impossible sparse (jobIn r) m) (refusedPut (answer.Refused 8) out) (possibleWritten r nan m out))
+    cond (not (r .opened)) (refusedPut (answer.Refused 7) out)
+    (cond (impossible sparse (r .job) m) (refusedPut (answer.Refused 8) out) (possibleWritten (r .job) nan m out))

@@ -5,24 +5,23 @@ ghost use mathlib.Core.List.{[], _∷_, _++_, map};
 ghost use Prim.Native.Nat.{_+_, _<_, _≤_, _-_};
 ghost use lib.ListN.{length, take, replicate};
 ghost use lib.Seq.{sets};
-ghost use Rattle.schedule.specs.JobRecord.{atEnd};
 ghost use Rattle.schedule.specs.Possible.{impossible};
 ghost use Rattle.lists.specs.Sums.{sumBelow};
 ghost use Rattle.schedule.specs.Lent.{memoryOf, held, entered};
 ghost use Rattle.plans.specs.Sparse.{sparse};
-ghost use Rattle.sparse_field.specs.Records.{jobIn};
 ghost use Rattle.forms.specs.Forms.{pieceOf, spell};
 ghost use Rattle.job_text.specs.Inner.Lengths.{lengthAt, Sizes};
 ghost use Rattle.job_text.specs.Lines.{refusedForm, offForm};
 ghost use Rattle.job_text.specs.Listing.{doneLine, linesFrom, lineAt, listingTo};
-ghost use Rattle.job_text.specs.Written.{allPlaced, putAnswer, putBytes, possibleWritten, written};
+ghost use Rattle.job_text.specs.Written.{atEnd, allPlaced, putAnswer, putBytes, possibleWritten, written};
 use crate::Listing;
 use crate::lines::child_length;
 use crate::lines::is_placed;
 use crate::lines::put_child;
 use schedule::Counts;
 use schedule::Cursor;
-use sparse_field::Record;
+use schedule::Job;
+use schedule::Record;
 
 // Whether the first children are no leaves, or have their stretches inside a store of this size.
 fn all_placed(total: usize, points: usize, size: usize, kinds: &[u8], places: &[u32]) -> bool
@@ -239,7 +238,7 @@ fn at_end(cursor: Cursor) -> bool
 
 // Writes the listing of a record that is not impossible.
 fn write_possible(
-    record: Record,
+    job: Job,
     nan: u64,
     kinds: &[u8],
     numbers: &[f64],
@@ -248,22 +247,22 @@ fn write_possible(
     corners: &[f64],
     out: &mut [u8],
 ) -> Listing
-    requires { ⌜ impossible sparse (jobIn «record») (held kinds numbers places store corners) ≡ false ⌝ }
-    ensures answer { λ r. ⌜ r ≡ possibleWritten «record» nan (entered kinds numbers places store corners) (now (out .entry)) .answer ⌝ }
-    ensures out { λ _. ⌜ now (out .exit) ≡ possibleWritten «record» nan (entered kinds numbers places store corners) (now (out .entry)) .bytes ⌝ }
+    requires { ⌜ impossible sparse job (held kinds numbers places store corners) ≡ false ⌝ }
+    ensures answer { λ r. ⌜ r ≡ possibleWritten job nan (entered kinds numbers places store corners) (now (out .entry)) .answer ⌝ }
+    ensures out { λ _. ⌜ now (out .exit) ≡ possibleWritten job nan (entered kinds numbers places store corners) (now (out .entry)) .bytes ⌝ }
 {
-    let cursor = record.cursor;
+    let cursor = job.cursor;
     if !at_end(cursor) {
         return Listing::NotPrintable;
     }
-    let g = record.input.grid;
+    let g = job.input.grid;
     let children = grid::cube_of(g.inner as usize);
     let points = grid::cube_of(g.leaf as usize);
     let total = grid::node_total(g) * children;
     if !all_placed(total, points, store.len(), kinds, places) {
         return Listing::NotPrintable;
     }
-    let counts = record.counts;
+    let counts = job.counts;
     write_placed(
         counts,
         total,
@@ -294,13 +293,14 @@ pub fn write_listing(
     ensures answer { λ r. ⌜ r ≡ written «record» nan (entered kinds numbers places store corners) (now (out .entry)) .answer ⌝ }
     ensures out { λ _. ⌜ now (out .exit) ≡ written «record» nan (entered kinds numbers places store corners) (now (out .entry)) .bytes ⌝ }
 {
-    if !record.job {
+    if !record.opened {
         return Listing::Refused(7);
     }
-    if sparse_field::is_impossible(record, kinds, numbers, places, store, corners) {
+    let job = record.job;
+    if sparse_field::is_impossible(job, kinds, numbers, places, store, corners) {
         return Listing::Refused(8);
     }
-    write_possible(record, nan, kinds, numbers, places, store, corners, out)
+    write_possible(job, nan, kinds, numbers, places, store, corners, out)
 }
 
 // Writes one line, if the bytes lent are enough, and 0 after it.

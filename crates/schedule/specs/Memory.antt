@@ -32,16 +32,13 @@ unfoldable pub apply : Plan → Event → State → State
 apply P (evaluate (corner v i) x) s =
     let m = s .memory in state (m .kinds) (m .numbers) (m .places) (m .store) (set (m .corners) i x) (s .leaves)
 apply P (evaluate (point v c p) x) s =
-    let m = s .memory in
-    state (m .kinds) (m .numbers) (m .places) (set (m .store) ((s .leaves - 1) * P .leafPoints + p) x) (m .corners) (s .leaves)
+    let m = s .memory in state (m .kinds) (m .numbers) (m .places) (set (m .store) ((s .leaves - 1) * P .leafPoints + p) x) (m .corners) (s .leaves)
 apply P (work (makeConstant j k x)) s =
     let m = s .memory in state (set (m .kinds) j k) (set (m .numbers) j x) (m .places) (m .store) (m .corners) (s .leaves)
 apply P (work (makeLeaf j)) s =
-    let m = s .memory in
-    state (set (m .kinds) j 2) (m .numbers) (set (m .places) j (s .leaves)) (m .store) (m .corners) (suc (s .leaves))
+    let m = s .memory in state (set (m .kinds) j 2) (m .numbers) (set (m .places) j (s .leaves)) (m .store) (m .corners) (suc (s .leaves))
 apply P (work clearCorners) s =
-    let m = s .memory in
-    state (m .kinds) (m .numbers) (m .places) (m .store) (replicate (length (m .corners)) plusZero) (s .leaves)
+    let m = s .memory in state (m .kinds) (m .numbers) (m .places) (m .store) (replicate (length (m .corners)) plusZero) (s .leaves)
 
 -- what events do, one after the other
 unfoldable pub applyAll : Plan → List Event → State → State

@@ -15,6 +15,7 @@ use Rattle.input.specs.declared.Lengths.{Lengths}
 use Rattle.input.specs.Causes.{refusalOf, numberOf}
 use Rattle.input.proofs.Clear.{Clear, no-cause}
 use Rattle.schedule.specs.declared.Counts.{Counts}
+use Rattle.schedule.specs.declared.Job.{Job}
 use Rattle.schedule.specs.declared.Cursor.{Cursor}
 use Rattle.schedule.specs.declared.Cursor.the-variants.{End, Corner, Point}
 use Rattle.schedule.specs.Totals.{countBefore, countAll, activeUpTo, evaluationsBound}
@@ -26,8 +27,6 @@ use Rattle.plans.specs.Plan.{planWith, planOf}
 use Rattle.plans.specs.Sparse.{sparse}
 use Rattle.plans.specs.Inner.GridPlan.{gridPlan}
 use Rattle.judging.specs.Inner.Judged.{RightKinds, wrongProgress}
-use Rattle.sparse_field.specs.declared.Record.{Record}
-use Rattle.sparse_field.specs.Records.{jobIn}
 
 -- how far a job is depends on its grid alone
 progress-same : (i : Input) (c : Counts) (a : Cursor) → wrongProgress (gridPlan (i .grid)) c a ≡ wrongProgress (planOf i) c a
@@ -51,44 +50,44 @@ module _ (a b c d e f g h : Bool) where
   judged-rest : a ≡ false → b ≡ false → c ≡ false → {x : Bool} → x ≡ (d || e || f || g || h) → x ≡ (a || b || c || d || e || f || g || h)
   judged-rest p q r x = rw (p, q, r) x
 
-module _ (r : Record) (ks : List ℕ) (ns : List Float) (ps : List ℕ) (st cs : List Float) where
+module _ (j : Job) (ks : List ℕ) (ns : List Float) (ps : List ℕ) (st cs : List Float) where
   abbrev lentNow : Lengths
   lentNow = record { kinds = length ks; numbers = length ns; places = length ps; store = length st; corners = length cs }
 
   abbrev meetsCause : Bool
-  meetsCause = not (eqb (numberOf (refusalOf (r .input) lentNow)) 0)
+  meetsCause = not (eqb (numberOf (refusalOf (j .input) lentNow)) 0)
 
   abbrev otherLengths : Bool
-  otherLengths = not (sameLengths (r .lengths) lentNow)
+  otherLengths = not (sameLengths (j .lengths) lentNow)
 
   abbrev otherKinds : Bool
-  otherKinds = not (agreesFrom (activeAt (planOf (r .input))) 0 ks)
+  otherKinds = not (agreesFrom (activeAt (planOf (j .input))) 0 ks)
 
   abbrev otherCounts : Bool
-  otherCounts = not (sameCounts (r .counts) (countsWith (planOf (r .input)) (r .counts .leaves) (r .counts .evaluations)))
+  otherCounts = not (sameCounts (j .counts) (countsWith (planOf (j .input)) (j .counts .leaves) (j .counts .evaluations)))
 
   abbrev manyEvaluations : Bool
-  manyEvaluations = ltb (evaluationsBound (planOf (r .input))) (r .counts .evaluations)
+  manyEvaluations = ltb (evaluationsBound (planOf (j .input))) (j .counts .evaluations)
 
   abbrev otherCursor : Bool
-  otherCursor = not (validCursor (planOf (r .input)) (r .cursor))
+  otherCursor = not (validCursor (planOf (j .input)) (j .cursor))
 
   abbrev manyLeaves : Bool
-  manyLeaves = ltb (activeUpTo (planOf (r .input)) (r .cursor)) (r .counts .leaves)
+  manyLeaves = ltb (activeUpTo (planOf (j .input)) (j .cursor)) (j .counts .leaves)
 
   abbrev noLeaf : Bool
-  noLeaf = insideChild (r .cursor) && eqb (r .counts .leaves) 0
+  noLeaf = insideChild (j .cursor) && eqb (j .counts .leaves) 0
 
   abbrev isImpossible : Bool
-  isImpossible = impossible sparse (jobIn r) (memoryOf ks ns ps st cs)
+  isImpossible = impossible sparse j (memoryOf ks ns ps st cs)
 
   pub impossible-cause : meetsCause ≡ true → true ≡ isImpossible
   unfolding impossible
   impossible-cause a = judged-first meetsCause otherLengths otherKinds otherCounts manyEvaluations otherCursor manyLeaves noLeaf a
 
   module _ (a : meetsCause ≡ false) where
-    pub possible-input : Clear (r .input) lentNow
-    possible-input = no-cause (r .input) lentNow (eqb-true _ 0 (not-false _ a))
+    pub possible-input : Clear (j .input) lentNow
+    possible-input = no-cause (j .input) lentNow (eqb-true _ 0 (not-false _ a))
 
     pub impossible-lengths : otherLengths ≡ true → true ≡ isImpossible
     unfolding impossible
@@ -100,7 +99,7 @@ module _ (r : Record) (ks : List ℕ) (ns : List Float) (ps : List ℕ) (st cs :
       impossible-kinds c = judged-third meetsCause otherLengths otherKinds otherCounts manyEvaluations otherCursor manyLeaves noLeaf a b c
 
       module _ (c : otherKinds ≡ false) where
-        pub possible-kinds : RightKinds (r .input .grid) ks
+        pub possible-kinds : RightKinds (j .input .grid) ks
         unfolding planWith
         possible-kinds =
             let n = possible-input in
@@ -108,11 +107,11 @@ module _ (r : Record) (ks : List ℕ) (ns : List Float) (ps : List ℕ) (st cs :
               two = n .two;
               five = n .five;
               long = n .lent .kinds;
-              right = λ j h. rw zero-add at (agrees-each (activeAt (planOf (r .input))) ks 0 (not-false _ c) j h);
+              right = λ p h. rw zero-add at (agrees-each (activeAt (planOf (j .input))) ks 0 (not-false _ c) p h);
             }
 
-        pub impossible-progress : {x : Bool} → x ≡ wrongProgress (gridPlan (r .input .grid)) (r .counts) (r .cursor) → x ≡ isImpossible
+        pub impossible-progress : {x : Bool} → x ≡ wrongProgress (gridPlan (j .input .grid)) (j .counts) (j .cursor) → x ≡ isImpossible
         unfolding impossible
         impossible-progress x =
             judged-rest meetsCause otherLengths otherKinds otherCounts manyEvaluations otherCursor manyLeaves noLeaf a b c
-            (x ∙ progress-same (r .input) (r .counts) (r .cursor))
+            (x ∙ progress-same (j .input) (j .counts) (j .cursor))

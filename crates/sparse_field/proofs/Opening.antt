@@ -1,9 +1,8 @@
 -- What an accepted input and a possible record give the engine to start from.
-use Prim.Native.Nat.{ℕ, suc, _+_, _*_, _-_, _≤_, _<_}
-use mathlib.Core.Path.{_≡_, refl, sym, ap, subst, _∙_}
-use mathlib.Core.Bool.{false}
+use Prim.Native.Nat.{ℕ, _+_, _*_, _-_, _≤_, _<_}
+use mathlib.Core.Path.{_≡_, sym, ap, subst, _∙_}
 use mathlib.Core.List.{[]}
-use native.Mathlib.Nat.{mul-pos, mul-le-mul-right}
+use native.Mathlib.Nat.{mul-pos}
 use native.Mathlib.Omega.{arith}
 use Rattle.float.specs.Zero.{plusZero}
 use Rattle.input.specs.declared.Lengths.{Lengths}
@@ -19,8 +18,6 @@ use Rattle.schedule.specs.Resume.{cursorOf, nodesLeft, eventsFrom}
 use Rattle.schedule.specs.Split.{split}
 use Rattle.schedule.specs.Memory.{Memory}
 use Rattle.schedule.specs.Totals.{activeAll, activeUpTo}
-use Rattle.schedule.specs.Counts.{countsWith}
-use Rattle.schedule.specs.JobRecord.{job}
 use Rattle.schedule.specs.Engine.{openedEngine}
 use Rattle.schedule.proofs.Activity.{opened-active, opened-lengths}
 use Rattle.schedule.proofs.AfterFacts.{after}
@@ -44,7 +41,7 @@ use Rattle.plans.proofs.Lawful.{sparse-laws}
 use Rattle.engine.proofs.NodeLaws.{node-begins}
 use Rattle.engine.specs.Inner.Runs.{runOf}
 use Rattle.engine.proofs.ChildLaws.{active-few}
-use Rattle.sparse_field.proofs.Results.{final, engine-after}
+use Rattle.sparse_field.proofs.Results.{reached, final, engine-after}
 
 -- sizes that no cause refuses
 pub sized : (i : Input) {l : Lengths} → Clear i l → Sized (i .grid)
@@ -128,18 +125,12 @@ module _ (i : Input) (l : Lengths) (none : sparse .cause l i ≡ 0) where
   pub opened-after : {m m₁ : Memory} {r : Progress} → m ≡ startMemory i l
       → Advanced P 0 0 m m₁ (eventsFrom P (Corner 0 0) (readingIn m)) [] r (activeAll P)
       → openedEngine sparse i l
-      ≡ record {
-        jobRecord = job (record { input = i; lengths = l; counts = countsWith P (r .leaves) 0; cursor = cursorAt (r .stop) });
-        memory = m₁;
-      }
+      ≡ record { jobRecord = reached i l (r .leaves) 0 (cursorAt (r .stop)); memory = m₁ }
   unfolding opens.opened
   opened-after {m} {m₁} {r} start done =
       let none : 0 + (0 - r .left) ≡ 0 = omega arith in
       engine-after i l 0 0 0 (activeAll P) (startMemory i l) m₁ (schedule P) r (start-done start done)
-      ∙ ap (λ k. record {
-        jobRecord = job (record { input = i; lengths = l; counts = countsWith P (r .leaves) k; cursor = cursorAt (r .stop) });
-        memory = m₁;
-      }) none
+      ∙ ap (λ k. record { jobRecord = reached i l (r .leaves) k (cursorAt (r .stop)); memory = m₁ }) none
 
   -- its leaves are among the active children
   pub opened-leaves : {m m₁ : Memory} {r : Progress} → m ≡ startMemory i l

@@ -1,6 +1,6 @@
 -- What a call hands back, from where its work has come to.
-use Prim.Native.Nat.{ℕ, zero, suc, _+_, _*_, _-_, _≤_, _<_}
-use mathlib.Core.Path.{_≡_, refl, sym, ap, _∙_}
+use Prim.Native.Nat.{ℕ, _+_, _-_, _≤_}
+use mathlib.Core.Path.{_≡_, refl, ap, _∙_}
 use mathlib.Core.Bool.{true}
 use mathlib.Core.List.{List, []}
 use native.Mathlib.Omega.{arith}
@@ -18,7 +18,6 @@ use Rattle.schedule.specs.PlanLaws.{PlanLaws, Valid}
 use Rattle.schedule.specs.Stops.{AtLeast}
 use Rattle.schedule.specs.Opened.{lengthsOf}
 use Rattle.schedule.specs.Counts.{gridCounts, countsWith}
-use Rattle.schedule.specs.JobRecord.{job}
 use Rattle.schedule.specs.Engine.{advanced}
 use Rattle.schedule.proofs.Split.{split-made}
 use Rattle.schedule.proofs.Sums.{up-to-most}
@@ -26,6 +25,7 @@ use Rattle.schedule.proofs.EventCounts.{left-bound}
 use Rattle.schedule.proofs.Resume.{resume-within}
 use Rattle.input.specs.declared.Input.{Input}
 use Rattle.schedule.specs.declared.Cursor.{Cursor}
+use Rattle.schedule.specs.declared.Record.{Record}
 use Rattle.engine.specs.declared.Progress.{Progress}
 use Rattle.engine.specs.declared.Stop.{Stop}
 use Rattle.engine.specs.declared.Stop.the-variants.{Through, At}
@@ -33,7 +33,6 @@ use Rattle.plans.specs.Plan.{planOf, planWith}
 use Rattle.engine.specs.Inner.Runs.{runOf}
 use Rattle.engine.specs.Inner.Progress.{stateIn, Advanced, afterStop, readingIn}
 use Rattle.plans.specs.Sparse.{sparse}
-use Rattle.sparse_field.specs.Records.{recordOut}
 use Rattle.sparse_field.specs.Inner.Parts.{cursorAt, recordAt}
 use Rattle.engine.proofs.RunLaws.{run-end}
 
@@ -41,6 +40,10 @@ use Rattle.engine.proofs.RunLaws.{run-end}
 stop-ends : (P : Plan) (s : State) (left : ℕ) (x : Stop) → afterStop P s left x [] ≡ record { state = s; cursor = cursorAt x; left = left }
 stop-ends P s left Through = run-end P left s
 stop-ends P s left (At a) = refl
+
+-- the record of an input's job with n leaves and k evaluations, at a cursor
+abbrev pub reached : Input → Lengths → (n k : ℕ) → Cursor → Record
+reached i l n k a = record { opened = true; job = record { input = i; lengths = l; counts = countsWith (planOf i) n k; cursor = a } }
 
 module _ (i : Input) (l : Lengths) (k b leaves most : ℕ) (m m₁ : Memory) (es : List Event) (r : Progress)
     (done : Advanced (planOf i) b leaves m m₁ es [] r most) where
@@ -64,18 +67,12 @@ module _ (i : Input) (l : Lengths) (k b leaves most : ℕ) (m m₁ : Memory) (es
 
   -- the engine with the job, after the budget
   pub engine-after : advanced sparse i l k (stateIn m leaves) (split b es)
-      ≡ record {
-        jobRecord = job (record { input = i; lengths = l; counts = countsWith (planOf i) (r .leaves) (k + (b - r .left)); cursor = cursorAt (r .stop) });
-        memory = m₁;
-      }
+      ≡ record { jobRecord = reached i l (r .leaves) (k + (b - r .left)) (cursorAt (r .stop)); memory = m₁ }
   unfolding advanced runOf
   engine-after =
       let state : applyAll (planOf i) (split b es .made) (stateIn m leaves) ≡ stateIn m₁ (r .leaves) = ap (λ x. x .state) final in
       let cursor : cursorOf (split b es .rest) ≡ cursorAt (r .stop) = ap (λ x. x .cursor) final in
-      λ t. record {
-        jobRecord = job (record { input = i; lengths = l; counts = countsWith (planOf i) (state t .leaves) (k + made t); cursor = cursor t });
-        memory = state t .memory;
-      }
+      λ t. record { jobRecord = reached i l (state t .leaves) (k + made t) (cursor t); memory = state t .memory }
 
 -- ---- from a cursor of the plan
 
@@ -103,13 +100,7 @@ module _ (i : Input) (laws : PlanLaws (planOf i)) (b leaves most : ℕ) (m m₁ 
 -- the record that the code makes is the engine's
 pub record-same : (i : Input) {l k : Lengths} {counted : GridCounts} {evaluated n : ℕ} (r : Progress) → l ≡ k → counted ≡ gridCounts (planOf i) → evaluated ≡ n
     → recordAt i l counted (r .leaves) (cube (i .grid .leaf)) evaluated (r .stop)
-    ≡ recordOut (job (record { input = i; lengths = k; counts = countsWith (planOf i) (r .leaves) n; cursor = cursorAt (r .stop) }))
+    ≡ reached i k (r .leaves) n (cursorAt (r .stop))
 unfolding planWith
 record-same i r lengths counted evaluated =
-    λ t. record {
-      job = true;
-      input = i;
-      lengths = lengths t;
-      counts = record { grid = counted t; leaves = r .leaves; sampled = r .leaves * cube (i .grid .leaf); evaluations = evaluated t };
-      cursor = cursorAt (r .stop);
-    }
+    λ t. recordAt i (lengths t) (counted t) (r .leaves) (cube (i .grid .leaf)) (evaluated t) (r .stop)

@@ -5,13 +5,12 @@ ghost use mathlib.Core.Bool.{false};
 ghost use Rattle.schedule.specs.Calls.{opens, steps, drops};
 ghost use Rattle.schedule.specs.Opened.{lengthsOf};
 ghost use Rattle.schedule.specs.Possible.{impossible};
+ghost use Rattle.schedule.specs.Engine.{openedEngine, steppedEngine};
 ghost use Rattle.schedule.specs.Lent.{held, entered, left};
 ghost use Rattle.sparse_field.specs.Calls.{called};
-ghost use Rattle.sparse_field.specs.Inner.Parts.{startMemory, openedRecord, openedMemory, steppedEngine};
+ghost use Rattle.sparse_field.specs.Inner.Parts.{startMemory};
 ghost use Rattle.plans.specs.Sparse.{sparse};
-ghost use Rattle.sparse_field.specs.Records.{jobIn, recordOut};
 use crate::Outcome;
-use crate::Record;
 use crate::judgement;
 use crate::memory;
 use crate::records;
@@ -20,6 +19,8 @@ use input::Lengths;
 use input::Refusal;
 use schedule::Answer;
 use schedule::Cursor;
+use schedule::Job;
+use schedule::Record;
 
 // What an accepted open writes before the first event: all five slices are zeroed whole, and the kinds
 // are set.
@@ -50,8 +51,9 @@ fn opened(
 ) -> Record
     requires { ⌜ (lengths ≡ lengthsOf (held kinds numbers places store corners))
         × (sparse .cause (lengthsOf (held kinds numbers places store corners)) input ≡ 0) ⌝ }
-    ensures answer { λ r. ⌜ r ≡ openedRecord input (lengthsOf (entered kinds numbers places store corners)) ⌝ }
-    ensures memory { λ _. ⌜ left kinds numbers places store corners ≡ openedMemory input (lengthsOf (entered kinds numbers places store corners)) ⌝ }
+    ensures next { λ r. ⌜ r ≡ openedEngine sparse input (lengthsOf (entered kinds numbers places store corners)) .jobRecord ⌝ }
+    ensures memory { λ _. ⌜ left kinds numbers places store corners
+        ≡ openedEngine sparse input (lengthsOf (entered kinds numbers places store corners)) .memory ⌝ }
 {
     prepare(input, kinds, numbers, places, store, corners);
     let start = Cursor::Corner(0, 0);
@@ -71,8 +73,9 @@ pub fn open(
     store: &mut [f64],
     corners: &mut [f64],
 ) -> Outcome
-    ensures answer { λ r. ⌜ r ≡ called (opens input) found (entered kinds numbers places store corners) .outcome ⌝ }
-    ensures memory { λ _. ⌜ left kinds numbers places store corners ≡ called (opens input) found (entered kinds numbers places store corners) .memory ⌝ }
+    ensures answer { λ r. ⌜ r .answer ≡ called (opens input) found (entered kinds numbers places store corners) .answer ⌝ }
+    ensures next { λ r. ⌜ r .next ≡ called (opens input) found (entered kinds numbers places store corners) .next .jobRecord ⌝ }
+    ensures memory { λ _. ⌜ left kinds numbers places store corners ≡ called (opens input) found (entered kinds numbers places store corners) .next .memory ⌝ }
 {
     let lengths = memory::lengths_of(kinds, numbers, places, store, corners);
     let refusal = input::open_refusal(input, lengths);
@@ -91,7 +94,7 @@ pub fn open(
 
 // An accepted step: the job goes on from its cursor while the budget lasts.
 fn stepped(
-    found: Record,
+    job: Job,
     budget: u64,
     kinds: &mut [u8],
     numbers: &mut [f64],
@@ -99,14 +102,15 @@ fn stepped(
     store: &mut [f64],
     corners: &mut [f64],
 ) -> Record
-    requires { ⌜ impossible sparse (jobIn found) (held kinds numbers places store corners) ≡ false ⌝ }
-    ensures answer { λ r. ⌜ r ≡ recordOut (steppedEngine budget found (entered kinds numbers places store corners) .jobRecord) ⌝ }
-    ensures memory { λ _. ⌜ left kinds numbers places store corners ≡ steppedEngine budget found (entered kinds numbers places store corners) .memory ⌝ }
+    requires { ⌜ impossible sparse job (held kinds numbers places store corners) ≡ false ⌝ }
+    ensures next { λ r. ⌜ r ≡ steppedEngine sparse budget job (entered kinds numbers places store corners) .jobRecord ⌝ }
+    ensures memory { λ _. ⌜ left kinds numbers places store corners
+        ≡ steppedEngine sparse budget job (entered kinds numbers places store corners) .memory ⌝ }
 {
-    let counts = found.counts;
-    let cursor = found.cursor;
+    let counts = job.counts;
+    let cursor = job.cursor;
     let turn = engine::run_job(
-        found.input,
+        job.input,
         cursor,
         counts.leaves,
         budget,
@@ -118,7 +122,7 @@ fn stepped(
     );
     let evaluations = counts.evaluations + (budget - turn.left);
     let counted = counts.grid;
-    records::record_of(found.input, found.lengths, counted, turn, evaluations)
+    records::record_of(job.input, job.lengths, counted, turn, evaluations)
 }
 
 // Makes as many evaluations as the budget allows and the job has left, and the work that goes with
@@ -132,22 +136,24 @@ pub fn step(
     store: &mut [f64],
     corners: &mut [f64],
 ) -> Outcome
-    ensures answer { λ r. ⌜ r ≡ called (steps budget) found (entered kinds numbers places store corners) .outcome ⌝ }
-    ensures memory { λ _. ⌜ left kinds numbers places store corners ≡ called (steps budget) found (entered kinds numbers places store corners) .memory ⌝ }
+    ensures answer { λ r. ⌜ r .answer ≡ called (steps budget) found (entered kinds numbers places store corners) .answer ⌝ }
+    ensures next { λ r. ⌜ r .next ≡ called (steps budget) found (entered kinds numbers places store corners) .next .jobRecord ⌝ }
+    ensures memory { λ _. ⌜ left kinds numbers places store corners ≡ called (steps budget) found (entered kinds numbers places store corners) .next .memory ⌝ }
 {
-    if !found.job {
+    if !found.opened {
         return Outcome {
             answer: Answer::Refused(7),
             next: found,
         };
     }
-    if judgement::is_impossible(found, kinds, numbers, places, store, corners) {
+    let job = found.job;
+    if judgement::is_impossible(job, kinds, numbers, places, store, corners) {
         return Outcome {
             answer: Answer::Refused(8),
             next: found,
         };
     }
-    let next = stepped(found, budget, kinds, numbers, places, store, corners);
+    let next = stepped(job, budget, kinds, numbers, places, store, corners);
     Outcome {
         answer: Answer::Accepted,
         next,
@@ -163,8 +169,9 @@ pub fn drop(
     store: &mut [f64],
     corners: &mut [f64],
 ) -> Outcome
-    ensures answer { λ r. ⌜ r ≡ called drops found (entered kinds numbers places store corners) .outcome ⌝ }
-    ensures memory { λ _. ⌜ left kinds numbers places store corners ≡ called drops found (entered kinds numbers places store corners) .memory ⌝ }
+    ensures answer { λ r. ⌜ r .answer ≡ called drops found (entered kinds numbers places store corners) .answer ⌝ }
+    ensures next { λ r. ⌜ r .next ≡ called drops found (entered kinds numbers places store corners) .next .jobRecord ⌝ }
+    ensures memory { λ _. ⌜ left kinds numbers places store corners ≡ called drops found (entered kinds numbers places store corners) .next .memory ⌝ }
 {
     memory::zero_all(kinds, numbers, places, store, corners);
     Outcome {

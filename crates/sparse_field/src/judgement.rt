@@ -1,4 +1,4 @@
-// Which records with a job are impossible.
+// Which records of a job are impossible.
 ghost use mathlib.Core.Path.{_≡_};
 ghost use mathlib.Core.Bool.{not};
 ghost use lib.Dec.{eqb};
@@ -6,12 +6,11 @@ ghost use Rattle.input.specs.Causes.{refusalOf, numberOf};
 ghost use Rattle.schedule.specs.Possible.{sameLengths, impossible};
 ghost use Rattle.schedule.specs.Lent.{entered};
 ghost use Rattle.plans.specs.Sparse.{sparse};
-ghost use Rattle.sparse_field.specs.Records.{jobIn};
-use crate::Record;
 use crate::memory::lengths_of;
 use input::Input;
 use input::Lengths;
 use input::Refusal;
+use schedule::Job;
 
 // Whether open would refuse the input, on slices of these lengths.
 fn meets_cause(input: Input, lengths: Lengths) -> bool
@@ -42,30 +41,30 @@ fn same_lengths(a: Lengths, b: Lengths) -> bool
     a.corners == b.corners
 }
 
-// Whether a record is impossible with these slices, whatever its flag is.
+// Whether a job's record is impossible with these slices.
 pub fn is_impossible(
-    record: Record,
+    job: Job,
     kinds: &[u8],
     numbers: &[f64],
     places: &[u32],
     store: &[f64],
     corners: &[f64],
 ) -> bool
-    ensures { λ r. ⌜ r ≡ impossible sparse (jobIn «record») (entered kinds numbers places store corners) ⌝ }
+    ensures { λ r. ⌜ r ≡ impossible sparse job (entered kinds numbers places store corners) ⌝ }
 {
-    let input = record.input;
+    let input = job.input;
     let lengths = lengths_of(kinds, numbers, places, store, corners);
     if meets_cause(input, lengths) {
         return true;
     }
-    let opened = record.lengths;
+    let opened = job.lengths;
     if !same_lengths(opened, lengths) {
         return true;
     }
     if !kinds::kinds_right(input.grid, kinds) {
         return true;
     }
-    let counts = record.counts;
-    let cursor = record.cursor;
+    let counts = job.counts;
+    let cursor = job.cursor;
     judging::wrong_progress(input.grid, kinds, counts, cursor)
 }

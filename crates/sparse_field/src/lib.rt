@@ -5,16 +5,13 @@
 // constant, 2 where it is a leaf), `numbers` holds a constant's value, and `places` a leaf's ordinal. The
 // `store` holds the leaves' points, `leaf`³ for each ordinal, and `corners` the values at the corners of
 // the node in work. Every element that is not in use is 0.
-use input::Input;
-use input::Lengths;
 use schedule::Answer;
-use schedule::Counts;
-use schedule::Cursor;
+use schedule::Record;
 
 mod calls; // calls.rt: open, step and drop
 mod judgement; // judgement.rt: which records are impossible
 mod memory; // memory.rt: the five slices, their lengths, and all of them zeroed
-mod records; // records.rt: the records that calls hand on
+mod records; // records.rt: the records that accepted calls hand on
 
 pub use calls::drop;
 pub use calls::open;
@@ -22,16 +19,7 @@ pub use calls::step;
 pub use judgement::is_impossible;
 pub use records::no_record;
 
-// What calls hand on. Where `job` is false there is no job, and the other fields count for nothing.
-pub struct Record {
-    pub job: bool,
-    pub input: Input,
-    pub lengths: Lengths,
-    pub counts: Counts,
-    pub cursor: Cursor,
-}
-
-// What a call hands back.
+// What a call hands back: its answer, and the record for the next call.
 pub struct Outcome {
     pub answer: Answer,
     pub next: Record,

@@ -1,10 +1,9 @@
-// The records that calls hand on.
+// The records that accepted calls hand on.
 ghost use mathlib.Core.Path.{_≡_};
 ghost use Prim.Native.Nat.{_≤_};
 ghost use Rattle.grid.specs.Blocks.{cube};
-ghost use Rattle.sparse_field.specs.Records.{noRecord};
+ghost use Rattle.schedule.specs.NoRecord.{noRecord};
 ghost use Rattle.sparse_field.specs.Inner.Parts.{cursorAt, recordAt};
-use crate::Record;
 use engine::Progress;
 use engine::Stop;
 use geometry::BoundingBox;
@@ -19,6 +18,8 @@ use model::ModelComponent;
 use model::Part;
 use schedule::Counts;
 use schedule::Cursor;
+use schedule::Job;
+use schedule::Record;
 
 // The cursor where a function has stopped, or the end.
 pub fn cursor_of(stop: Stop) -> Cursor
@@ -30,7 +31,7 @@ pub fn cursor_of(stop: Stop) -> Cursor
     }
 }
 
-// The record without a job: every other field is zero.
+// The record without a job: every field is zero.
 pub fn no_record() -> Record
     ensures { λ r. ⌜ r ≡ noRecord ⌝ }
 {
@@ -54,25 +55,27 @@ pub fn no_record() -> Record
         model,
     };
     Record {
-        job: false,
-        input,
-        lengths: Lengths {
-            kinds: 0,
-            numbers: 0,
-            places: 0,
-            store: 0,
-            corners: 0,
-        },
-        counts: Counts {
-            grid: GridCounts {
-                nodes: 0,
-                active: 0,
+        opened: false,
+        job: Job {
+            input,
+            lengths: Lengths {
+                kinds: 0,
+                numbers: 0,
+                places: 0,
+                store: 0,
+                corners: 0,
             },
-            leaves: 0,
-            sampled: 0,
-            evaluations: 0,
+            counts: Counts {
+                grid: GridCounts {
+                    nodes: 0,
+                    active: 0,
+                },
+                leaves: 0,
+                sampled: 0,
+                evaluations: 0,
+            },
+            cursor: Cursor::End,
         },
-        cursor: Cursor::End,
     }
 }
 
@@ -92,15 +95,17 @@ pub fn record_of(
     let sampled = leaves * (grid::cube_of(g.leaf as usize) as u64);
     let stop = turn.stop;
     Record {
-        job: true,
-        input,
-        lengths,
-        counts: Counts {
-            grid: counted,
-            leaves,
-            sampled,
-            evaluations,
+        opened: true,
+        job: Job {
+            input,
+            lengths,
+            counts: Counts {
+                grid: counted,
+                leaves,
+                sampled,
+                evaluations,
+            },
+            cursor: cursor_of(stop),
         },
-        cursor: cursor_of(stop),
     }
 }

@@ -9,8 +9,8 @@ use crate::records;
 use crate::words;
 use input::Input;
 use schedule::Answer;
+use schedule::Record;
 use sparse_field::Outcome;
-use sparse_field::Record;
 
 // The three calls, without what is proved of them.
 fn opened(

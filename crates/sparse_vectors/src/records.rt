@@ -17,7 +17,8 @@ use model::ModelComponent;
 use model::Part;
 use schedule::Counts;
 use schedule::Cursor;
-use sparse_field::Record;
+use schedule::Job;
+use schedule::Record;
 
 fn grid_at(held: &[u64; 686], at: usize) -> Grid
     requires { ⌜ at + 9 ≤ 686 ⌝ }
@@ -98,11 +99,13 @@ fn cursor_in(held: &[u64; 686]) -> Cursor {
 
 pub fn record_in(held: &[u64; 686]) -> Record {
     Record {
-        job: held[JOB] != 0,
-        input: input_at(held, INPUT),
-        lengths: lengths_in(held),
-        counts: counts_in(held),
-        cursor: cursor_in(held),
+        opened: held[JOB] != 0,
+        job: Job {
+            input: input_at(held, INPUT),
+            lengths: lengths_in(held),
+            counts: counts_in(held),
+            cursor: cursor_in(held),
+        },
     }
 }
 
@@ -169,10 +172,11 @@ fn put_cursor(cursor: Cursor, held: &mut [u64; 686]) {
 }
 
 pub fn put_record(record: Record, held: &mut [u64; 686]) {
-    let cursor = record.cursor;
-    held[JOB] = if record.job { 1 } else { 0 };
-    put_input(record.input, held);
-    put_lengths(record.lengths, held);
-    put_counts(record.counts, held);
+    let job = record.job;
+    let cursor = job.cursor;
+    held[JOB] = if record.opened { 1 } else { 0 };
+    put_input(job.input, held);
+    put_lengths(job.lengths, held);
+    put_counts(job.counts, held);
     put_cursor(cursor, held);
 }

@@ -1,17 +1,13 @@
 -- The parts of what open and step do, as the functions below them state them.
 use Prim.Native.Nat.{ℕ, _*_}
-use mathlib.Core.Bool.{false, true}
+use mathlib.Core.Bool.{true}
 use Rattle.schedule.specs.Memory.{Memory}
 use Rattle.input.specs.declared.Lengths.{Lengths}
 use Rattle.schedule.specs.Opened.{opened}
-use Rattle.schedule.specs.Engine.{Engine, openedEngine, engineStepJob}
 use Rattle.input.specs.declared.Input.{Input}
-use Rattle.sparse_field.specs.declared.Record.{Record}
+use Rattle.schedule.specs.declared.Record.{Record}
 use Rattle.plans.specs.Plan.{planOf}
-use Rattle.plans.specs.Sparse.{sparse}
-use Rattle.sparse_field.specs.Records.{jobIn, recordOut}
 use Rattle.grid.specs.declared.GridCounts.{GridCounts}
-use Rattle.schedule.specs.JobRecord.{job}
 use Rattle.schedule.specs.declared.Cursor.{Cursor}
 use Rattle.schedule.specs.declared.Cursor.the-variants.{End}
 use Rattle.engine.specs.declared.Stop.{Stop}
@@ -21,17 +17,6 @@ use Rattle.engine.specs.declared.Stop.the-variants.{Through, At}
 abbrev pub startMemory : Input → Lengths → Memory
 startMemory i l = opened (planOf i) l .memory
 
--- the record and the memory after an accepted open
-abbrev pub openedRecord : Input → Lengths → Record
-openedRecord i l = recordOut (openedEngine sparse i l .jobRecord)
-
-abbrev pub openedMemory : Input → Lengths → Memory
-openedMemory i l = openedEngine sparse i l .memory
-
--- the engine after an accepted step
-abbrev pub steppedEngine : ℕ → Record → Memory → Engine sparse
-steppedEngine budget r m = engineStepJob sparse budget (jobIn r) m false .next
-
 -- the cursor where a function has stopped, or the end
 abbrev pub cursorAt : Stop → Cursor
 cursorAt Through = End
@@ -39,10 +24,13 @@ cursorAt (At a) = a
 
 -- the record of an input's job: its lengths, its counts, and where it has come to (rules R1 to R3)
 abbrev pub recordAt : Input → Lengths → GridCounts → (leaves points evaluations : ℕ) → Stop → Record
-recordAt i l counted leaves points evaluations stop = record {
-  job = true;
-  input = i;
-  lengths = l;
-  counts = record { grid = counted; leaves = leaves; sampled = leaves * points; evaluations = evaluations };
-  cursor = cursorAt stop;
-}
+recordAt i l counted leaves points evaluations stop =
+    record {
+      opened = true;
+      job = record {
+        input = i;
+        lengths = l;
+        counts = record { grid = counted; leaves = leaves; sampled = leaves * points; evaluations = evaluations };
+        cursor = cursorAt stop;
+      };
+    }

@@ -3,12 +3,11 @@ use borrow.Author.Needs.{needs}
 use mathlib.Core.Path.{ap, _∙_}
 use denote.Ref.{now}
 use Rattle.schedule.specs.Memory.{Memory}
-use Rattle.sparse_field.specs.declared.Outcome.{Outcome}
 use Rattle.schedule.specs.Lent.{memoryOf}
 use Rattle.sparse_field.specs.Calls.{called}
 use Rattle.field_host.specs.Carried.{Carried, carriedOf}
 use Rattle.schedule.specs.Calls.{drops}
-use Rattle.sparse_field.specs.declared.Record.{Record}
+use Rattle.schedule.specs.declared.Record.{Record}
 use Rattle.field_host.specs.Hosted.{answerNumber, carriedAfter}
 use Rattle.field_host.proofs.AnyRecord.{drop-from-none}
 use Rattle.field_host.proofs.calls.jisampode_drop.Statement.{statement}
@@ -56,13 +55,15 @@ returns c =
     let m : Memory = memoryOf (now (a .kinds)) (now (a .numbers)) (now (a .places)) (now (a .store)) (now (a .corners)) in
     let none = at-record (at-call c) .no-record .ensures in
     let dropped = at-call c .drop .ensures in
-    let whole = dropped .0 ∙ ap (λ (r : Record). called drops r m .outcome) none in
+    let from = ap (λ (r : Record). called drops r m) none in
+    let answer = dropped .0 ∙ ap (λ h. h .answer) from in
+    let next = dropped .1 .0 ∙ ap (λ h. h .next .jobRecord) from in
     let back = c .hand-back .ensures in
     let same = drop-from-none old m in (
-      back .0 ∙ ap (λ (o : Outcome). answerNumber (o .answer)) whole ∙ ap (λ h. h .number) same,
+      back .0 ∙ ap answerNumber answer ∙ ap (λ h. h .number) same,
       (
-        back .1 ∙ ap (λ (o : Outcome). carriedAfter o old) whole ∙ ap (λ h. h .carried) same,
-        dropped .1 ∙ ap (λ (r : Record). called drops r m .memory) none ∙ ap (λ h. h .memory) same,
+        back .1 ∙ (λ t. carriedAfter (answer t) (next t) old) ∙ ap (λ h. h .carried) same,
+        dropped .1 .1 ∙ ap (λ h. h .next .memory) from ∙ ap (λ h. h .memory) same,
       ),
     )
 

@@ -3,15 +3,14 @@ use borrow.Author.Needs.{needs}
 use mathlib.Core.Path.{ap, _∙_}
 use denote.Ref.{now}
 use Rattle.schedule.specs.Memory.{Memory}
-use Rattle.sparse_field.specs.declared.Outcome.{Outcome}
 use Rattle.schedule.specs.Lent.{memoryOf}
-use Rattle.sparse_field.specs.Calls.{called, Handed}
+use Rattle.sparse_field.specs.Calls.{called}
 use Rattle.field_host.specs.Carried.{Carried, carriedOf}
 use Rattle.schedule.specs.Calls.{opens}
 use Rattle.model.specs.Flat.{flatOf}
 use Rattle.input.specs.declared.Input.{Input}
-use Rattle.sparse_field.specs.declared.Record.{Record}
-use Rattle.sparse_field.specs.Records.{noRecord}
+use Rattle.schedule.specs.declared.Record.{Record}
+use Rattle.schedule.specs.NoRecord.{noRecord}
 use Rattle.field_host.specs.Given.{inputGiven}
 use Rattle.field_host.specs.Hosted.{answerNumber, carriedAfter}
 use Rattle.field_host.proofs.AnyRecord.{open-from-none}
@@ -68,13 +67,14 @@ returns c =
     let from =
     ap (λ (r : Record). called (opens (at-input (at-call c) .input-given .result)) r m) none
     ∙ ap (λ (x : Input). called (opens x) noRecord m) given in
-    let whole = opened .0 ∙ ap (λ (h : Handed). h .outcome) from in
+    let answer = opened .0 ∙ ap (λ h. h .answer) from in
+    let next = opened .1 .0 ∙ ap (λ h. h .next .jobRecord) from in
     let back = c .hand-back .ensures in
     let same = open-from-none old m i in (
-      back .0 ∙ ap (λ (o : Outcome). answerNumber (o .answer)) whole ∙ ap (λ h. h .number) same,
+      back .0 ∙ ap answerNumber answer ∙ ap (λ h. h .number) same,
       (
-        back .1 ∙ ap (λ (o : Outcome). carriedAfter o old) whole ∙ ap (λ h. h .carried) same,
-        opened .1 ∙ ap (λ (h : Handed). h .memory) from ∙ ap (λ h. h .memory) same,
+        back .1 ∙ (λ t. carriedAfter (answer t) (next t) old) ∙ ap (λ h. h .carried) same,
+        opened .1 .1 ∙ ap (λ h. h .next .memory) from ∙ ap (λ h. h .memory) same,
       ),
     )
 

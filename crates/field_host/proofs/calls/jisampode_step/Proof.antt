@@ -3,12 +3,11 @@ use borrow.Author.Needs.{needs}
 use mathlib.Core.Path.{ap, _∙_}
 use denote.Ref.{now}
 use Rattle.schedule.specs.Memory.{Memory}
-use Rattle.sparse_field.specs.declared.Outcome.{Outcome}
 use Rattle.schedule.specs.Lent.{memoryOf}
 use Rattle.sparse_field.specs.Calls.{called}
 use Rattle.field_host.specs.Carried.{Carried, carriedOf}
 use Rattle.schedule.specs.Calls.{steps}
-use Rattle.sparse_field.specs.declared.Record.{Record}
+use Rattle.schedule.specs.declared.Record.{Record}
 use Rattle.field_host.specs.Hosted.{answerNumber, carriedAfter, hosted}
 use Rattle.field_host.proofs.calls.jisampode_step.Statement.{statement}
 use Rattle.field_host.proofs.calls.jisampode_step.Tie as tie
@@ -56,12 +55,14 @@ returns c =
     let m : Memory = memoryOf (now (a .kinds)) (now (a .numbers)) (now (a .places)) (now (a .store)) (now (a .corners)) in
     let found = at-record (at-call c) .decode .ensures in
     let stepped = at-call c .step .ensures in
-    let whole = stepped .0 ∙ ap (λ (r : Record). called (steps (a .budget)) r m .outcome) found in
+    let from = ap (λ (r : Record). called (steps (a .budget)) r m) found in
+    let answer = stepped .0 ∙ ap (λ h. h .answer) from in
+    let next = stepped .1 .0 ∙ ap (λ h. h .next .jobRecord) from in
     let back = c .hand-back .ensures in (
-      back .0 ∙ ap (λ (o : Outcome). answerNumber (o .answer)) whole,
+      back .0 ∙ ap answerNumber answer,
       (
-        back .1 ∙ ap (λ (o : Outcome). carriedAfter o old) whole,
-        stepped .1 ∙ ap (λ (r : Record). called (steps (a .budget)) r m .memory) found,
+        back .1 ∙ (λ t. carriedAfter (answer t) (next t) old),
+        stepped .1 .1 ∙ ap (λ h. h .next .memory) from,
       ),
     )
 

@@ -10,25 +10,26 @@ cursor-words-requires c κs = search needs
 flag-word-requires : tie.Need-flag-word-requires
 flag-word-requires c κs = search needs
 
-cast-t12 : tie.Need-cast-t12
-cast-t12 c = search needs
-
 cast-t13 : tie.Need-cast-t13
 cast-t13 c = search needs
 
 cast-t14 : tie.Need-cast-t14
 cast-t14 c = search needs
 
+cast-t15 : tie.Need-cast-t15
+cast-t15 c = search needs
+
 returns : tie.Need-returns
 returns c =
-    let r = c .before .before .before .before .before .before .before .before .before .before .before .before .args .r in
-    let l = r .lengths in
-    let k = r .counts in
+    let r = c .before .before .before .before .before .before .before .before .before .before .before .before .before .args .r in
+    let j = r .job in
+    let l = j .lengths in
+    let k = j .counts in
     let flag = c .before .before .before .before .flag-word .ensures in
     let at = c .before .before .before .before .before .cursor-words .ensures in
     λ i.
     flag i
-    ∷ r .input .grid .inner ∷ r .input .grid .leaf ∷ r .input .model .count
+    ∷ j .input .grid .inner ∷ j .input .grid .leaf ∷ j .input .model .count
     ∷ l .kinds ∷ l .numbers ∷ l .places ∷ l .store ∷ l .corners
     ∷ k .grid .nodes ∷ k .grid .active ∷ k .leaves ∷ k .sampled ∷ k .evaluations
     ∷ at .0 i ∷ at .1 i ∷ at .2 i ∷ at .3 i
@@ -37,4 +38,4 @@ returns c =
 pub put-words-spec : {M : Type 1} → statement M
 put-words-spec =
     tie.close
-    (tie.spec cursor-words-requires flag-word-requires cast-t12 cast-t13 cast-t14 returns)
+    (tie.spec cursor-words-requires flag-word-requires cast-t13 cast-t14 cast-t15 returns)

@@ -5,8 +5,8 @@ use Rattle.field_host.specs.Carried.{flagged}
 use Rattle.field_host.proofs.record.record_given.Statement.{statement}
 use Rattle.field_host.proofs.record.record_given.Tie as tie
 
-element-copy-out-job : tie.Need-element-copy-out-job
-element-copy-out-job c = search needs
+element-copy-out-opened : tie.Need-element-copy-out-opened
+element-copy-out-opened c = search needs
 
 lengths-given-requires : tie.Need-lengths-given-requires
 lengths-given-requires c κs = search needs
@@ -21,18 +21,20 @@ returns : tie.Need-returns
 returns c =
     let a = c .before .before .before .before .args in
     λ i. record {
-      job = flagged (now (a .words));
-      input = a .input;
-      lengths = c .before .before .lengths-given .ensures i;
-      counts = c .before .counts-given .ensures i;
-      cursor = c .cursor-given .ensures i;
+      opened = flagged (now (a .words));
+      job = record {
+        input = a .input;
+        lengths = c .before .before .lengths-given .ensures i;
+        counts = c .before .counts-given .ensures i;
+        cursor = c .cursor-given .ensures i;
+      };
     }
 
 pub record-given-spec : {M : Type 1} → statement M
 record-given-spec =
     tie.close
     (tie.spec
-    element-copy-out-job
+    element-copy-out-opened
     lengths-given-requires
     counts-given-requires
     cursor-given-requires

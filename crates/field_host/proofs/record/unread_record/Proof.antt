@@ -1,7 +1,7 @@
 -- `record::unread_record` meets its contract.
 use borrow.Author.Needs.{needs}
 use mathlib.Core.Path.{ap}
-use Rattle.sparse_field.specs.declared.Record.{Record}
+use Rattle.schedule.specs.declared.Record.{Record}
 use Rattle.field_host.proofs.record.unread_record.Statement.{statement}
 use Rattle.field_host.proofs.record.unread_record.Tie as tie
 
@@ -10,11 +10,8 @@ no-record-requires c κs = search needs
 
 returns : tie.Need-returns
 returns c =
-    let job = c .before .before .before .before .args .job in
-    ap
-    (λ (n : Record). record
-    { job = job; input = n .input; lengths = n .lengths; counts = n .counts; cursor = n .cursor })
-    (c .before .before .before .no-record .ensures)
+    let flag = c .before .before .args .opened in
+    ap (λ (n : Record). record { opened = flag; job = n .job }) (c .before .no-record .ensures)
 
 pub unread-record-spec : {M : Type 1} → statement M
 unread-record-spec = tie.close (tie.spec no-record-requires returns)

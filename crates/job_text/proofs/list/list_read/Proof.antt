@@ -109,9 +109,9 @@ returns-2 c =
     let began = opened (stepped p) .open in
     let done = stepped p .step in
     let is =
-    finished-listed (a .job) _ _ refl (began .ensures .0) _ _ (began .ensures .1)
-    (stepped p .before .before .before .before .before .before .enum-told .given .1) refl (done .ensures .0)
-    (done .ensures .1) (p .nan-pattern .ensures) (a .out .now) in
+    finished-listed (a .job) _ _ refl (began .ensures .0) (began .ensures .1 .0) (began .ensures .1 .1)
+    (stepped p .before .before .before .before .before .before .enum-told .given .1) refl (done .ensures .1 .0)
+    (done .ensures .1 .1) (p .nan-pattern .ensures) (a .out .now) in
     (listing .ensures .0 ∙ ap (λ p. p .answer) is, listing .ensures .1 ∙ ap (λ p. p .bytes) is)
 
 pub list-read-spec : {M : Type 1} → statement M

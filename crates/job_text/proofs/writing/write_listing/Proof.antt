@@ -12,7 +12,7 @@ abbrev start : tie.After-struct-known → tie.Start
 start p = p .before .before .before .before .before .before .before
 
 abbrev judged : tie.After-write-possible → tie.After-struct-known
-judged p = p .before .before .before .before .before
+judged p = p .before .before .before .before .before .before
 
 -- the memory at entry
 abbrev memory : tie.Start → Memory
@@ -30,10 +30,10 @@ is-impossible-requires c κs = search needs
 
 returns-2 : tie.Need-returns-2
 returns-2 c =
-    let s = start (c .before .before .before) in
+    let s = start (c .before .before .before .before) in
     let a = s .args in
     let is =
-    judged-impossible (a .«record») (a .nan) (memory s) (a .out .now) (not-false _ (c .before .before .if1 .left))
+    judged-impossible (a .«record») (a .nan) (memory s) (a .out .now) (not-false _ (c .before .before .before .if1 .left))
     (sym (c .before .is-impossible .ensures) ∙ c .if2 .taken) in
     (sym (ap (λ p. p .answer) is), sym (ap (λ p. p .bytes) is))
 
@@ -49,7 +49,7 @@ returns-3 c =
     let a = s .args in
     let is =
     judged-possible (a .«record») (a .nan) (memory s) (a .out .now)
-    (not-false _ (c .before .before .before .before .before .before .if1 .left))
+    (not-false _ (c .before .before .before .before .before .before .before .if1 .left))
     (sym (c .before .before .before .before .before .is-impossible .ensures)
     ∙ c .before .before .before .before .if2 .left) in
     (c .before .before .write-possible .ensures .0 ∙ sym (ap (λ p. p .answer) is), c .before .before .write-possible .ensures .1 ∙ sym (ap (λ p. p .bytes) is))

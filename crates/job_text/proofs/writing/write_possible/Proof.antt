@@ -24,12 +24,12 @@ abbrev memory : tie.Start → Memory
 memory s = let a = s .args in memoryOf (a .kinds .now) (a .numbers .now) (a .places .now) (a .store .now) (a .corners .now)
 
 -- the sizes that the record gives
-sized : (s : tie.Start) → Ready (s .args .«record» .input .grid) (length (s .args .kinds .now)) (length (s .args .numbers .now)) (length (s .args .places .now))
-sized s = ready (s .args .«record») (memory s) (s .pre)
+sized : (s : tie.Start) → Ready (s .args .job .input .grid) (length (s .args .kinds .now)) (length (s .args .numbers .now)) (length (s .args .places .now))
+sized s = ready (s .args .job) (memory s) (s .pre)
 
 -- all children
-total-is : (s : tie.Start) {n k : ℕ} → n ≡ nodesOf (s .args .«record» .input .grid) → k ≡ cube (s .args .«record» .input .grid .inner)
-    → n * k ≡ nodesOf (s .args .«record» .input .grid) * cube (s .args .«record» .input .grid .inner)
+total-is : (s : tie.Start) {n k : ℕ} → n ≡ nodesOf (s .args .job .input .grid) → k ≡ cube (s .args .job .input .grid .inner)
+    → n * k ≡ nodesOf (s .args .job .input .grid) * cube (s .args .job .input .grid .inner)
 total-is s nodes children = ap₂ (λ (a b : ℕ). a * b) nodes children
 
 at-end-requires : tie.Need-at-end-requires
@@ -39,7 +39,7 @@ returns : tie.Need-returns
 returns c =
     let s = start (c .before) in
     let a = s .args in
-    let is = unfinished (a .«record») (a .nan) (memory s) (a .out .now) (sym (c .before .at-end .ensures) ∙ not-true _ (c .if1 .taken)) in
+    let is = unfinished (a .job) (a .nan) (memory s) (a .out .now) (sym (c .before .at-end .ensures) ∙ not-true _ (c .if1 .taken)) in
     (sym (ap (λ p. p .answer) is), sym (ap (λ p. p .bytes) is))
 
 cast-cube-of : tie.Need-cast-cube-of
@@ -80,7 +80,7 @@ returns-2 c =
     let a = s .args in
     let end = sym (ended (c .before .before) .at-end .ensures) ∙ not-false _ (c .before .before .before .before .before .before .before .before .if1 .left) in
     let is =
-    unplaced (a .«record») (a .nan) (memory s) (a .out .now) (c .before .before .node-total .ensures)
+    unplaced (a .job) (a .nan) (memory s) (a .out .now) (c .before .before .node-total .ensures)
     (c .before .before .before .before .before .cube-of .ensures) (c .before .before .before .cube-of2 .ensures) end
     (sym (c .before .all-placed .ensures) ∙ not-true _ (c .if2 .taken)) in
     (sym (ap (λ p. p .answer) is), sym (ap (λ p. p .bytes) is))
@@ -117,7 +117,7 @@ returns-3 c =
     ∙ not-false _
     (c .before .before .before .before .before .before .before .before .before .before .before .before .before .if1 .left) in
     let is =
-    printed (a .«record») (a .nan) (memory s) (a .out .now)
+    printed (a .job) (a .nan) (memory s) (a .out .now)
     (c .before .before .before .before .before .before .before .node-total .ensures)
     (c .before .before .before .before .before .before .before .before .before .before .cube-of .ensures)
     (c .before .before .before .before .before .before .before .before .cube-of2 .ensures) end

@@ -1,6 +1,5 @@
 -- `calls::drop` meets its contract.
 use mathlib.Core.Path.{sym, ap, _∙_}
-use Rattle.schedule.specs.declared.Answer.the-variants.{Accepted}
 use Rattle.sparse_field.proofs.CallLaws.{drop-accepted}
 use Rattle.schedule.specs.Memory.{Memory}
 use Rattle.schedule.specs.Lent.{memoryOf}
@@ -37,9 +36,11 @@ returns : tie.Need-returns
 returns c =
     let s = c .before .before .before .before .before .before .before .before .before .before .before .before .before .before .before .before .before .before .before .before .before .before in
     let done = drop-accepted (s .args .found) (memory s) in (
-      ap (λ r. record { answer = Accepted; next = r }) (c .no-record .ensures)
-          ∙ sym (ap (λ h. h .outcome) done),
-      c .before .before .before .before .before .before .before .before .before .before .before .zero-all .ensures ∙ sym (ap (λ h. h .memory) done),
+      sym (ap (λ h. h .answer) done),
+      (
+        c .no-record .ensures ∙ sym (ap (λ h. h .next .jobRecord) done),
+        c .before .before .before .before .before .before .before .before .before .before .before .zero-all .ensures ∙ sym (ap (λ h. h .next .memory) done),
+      ),
     )
 
 pub drop-spec : {M : Type 1} → statement M

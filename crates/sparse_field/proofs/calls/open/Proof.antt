@@ -1,7 +1,6 @@
 -- `calls::open` meets its contract: refused by the first cause, or opened.
 use mathlib.Core.Path.{_≡_, sym, ap, _∙_}
 use Rattle.input.specs.Causes.{refusalOf, numberOf}
-use Rattle.schedule.specs.declared.Answer.the-variants.{Accepted}
 use Rattle.sparse_field.proofs.CallLaws.{open-refused, open-accepted}
 use Rattle.schedule.specs.Memory.{Memory}
 use Rattle.schedule.specs.Opened.{lengthsOf}
@@ -56,7 +55,7 @@ returns c =
     let r = c .before .before .before in
     let a = start (r .before) .args in
     let done = open-refused (a .input) (a .found) (memory (r .before)) _ (refused r ∙ c .before .refusal .given .1) in
-    (sym (ap (λ h. h .outcome) done), sym (ap (λ h. h .memory) done))
+    (sym (ap (λ h. h .answer) done), (sym (ap (λ h. h .next .jobRecord) done), sym (ap (λ h. h .next .memory) done)))
 
 enum-told : tie.Need-enum-told
 enum-told c = search needs
@@ -89,8 +88,8 @@ returns-2 c =
     let a = start (r .before) .args in
     let opened = c .before .before .before .before .before .before .before .before .before .before .opened .ensures in
     let done = open-accepted (a .input) (a .found) (memory (r .before)) (ap numberOf (refused r ∙ told .enum-told .given .1)) in (
-      ap (λ r. record { answer = Accepted; next = r }) (opened .0) ∙ sym (ap (λ h. h .outcome) done),
-      opened .1 ∙ sym (ap (λ h. h .memory) done),
+      sym (ap (λ h. h .answer) done),
+      (opened .0 ∙ sym (ap (λ h. h .next .jobRecord) done), opened .1 ∙ sym (ap (λ h. h .next .memory) done)),
     )
 
 pub open-spec : {M : Type 1} → statement M

@@ -1,5 +1,5 @@
 -- `calls::opened` meets its contract: the prepared memory, the schedule from its first corner on, and the record.
-use mathlib.Core.Path.{_≡_, refl, sym, ap, subst, _∙_}
+use mathlib.Core.Path.{refl, sym, ap, subst, _∙_}
 use native.Mathlib.Omega.{arith}
 use Rattle.input.specs.declared.Input.{Input}
 use Rattle.input.specs.declared.Lengths.{Lengths}
@@ -9,7 +9,6 @@ use Rattle.schedule.specs.Lent.{memoryOf}
 use Rattle.plans.specs.Plan.{planOf, valueOf, decideBy}
 use Rattle.plans.proofs.Plans.{counts-same}
 use Rattle.engine.specs.Inner.Progress.{Lent}
-use Rattle.sparse_field.specs.Records.{recordOut}
 use Rattle.sparse_field.proofs.Opening.{sized, nothing, start-lent, start-startable, opened-after, opened-leaves, active-within}
 use Rattle.sparse_field.proofs.Results.{record-same}
 use borrow.Author.Needs.{needs}
@@ -97,7 +96,7 @@ returns c =
       c .record-of .ensures
           ∙ record-same i (r .run-job .result) (start p .pre .0)
           (c .before .grid-counts .ensures ∙ counts-same (i .grid) (decideBy (i .band)) (valueOf (i .model))) refl
-          ∙ sym (ap (λ e. recordOut (e .jobRecord)) engine),
+          ∙ sym (ap (λ e. e .jobRecord) engine),
       sym (ap (λ e. e .memory) engine),
     )
 

@@ -2,7 +2,6 @@
 use mathlib.Core.Path.{_≡_, sym, ap, _∙_}
 use mathlib.Core.Bool.{true}
 use borrow.Author.Tests.{not-true, not-false}
-use Rattle.schedule.specs.declared.Answer.the-variants.{Accepted}
 use Rattle.sparse_field.proofs.CallLaws.{step-none, step-impossible, step-accepted}
 use Rattle.schedule.specs.Memory.{Memory}
 use Rattle.schedule.specs.Lent.{memoryOf}
@@ -17,11 +16,11 @@ memory s = memoryOf (s .args .kinds .now) (s .args .numbers .now) (s .args .plac
 -- ---- where the record is judged
 
 abbrev start : tie.After-is-impossible → tie.Start
-start p = p .before .before .before .before .before .before .before .before .before .before .before .before .before
+start p = p .before .before .before .before .before .before .before .before .before .before .before .before .before .before
 
 -- it has a job
-flagged : (p : tie.After-is-impossible) → start p .args .found .job ≡ true
-flagged p = not-false _ (p .before .before .before .before .before .before .if1 .left)
+flagged : (p : tie.After-is-impossible) → start p .args .found .opened ≡ true
+flagged p = not-false _ (p .before .before .before .before .before .before .before .if1 .left)
 
 -- ---- what is left
 
@@ -30,7 +29,7 @@ returns c =
     let s = c .before .before .before .before .before .before .before in
     let a = s .args in
     let done = step-none (a .budget) (a .found) (memory s) (not-true _ (c .if1 .taken)) in
-    (sym (ap (λ h. h .outcome) done), sym (ap (λ h. h .memory) done))
+    (sym (ap (λ h. h .answer) done), (sym (ap (λ h. h .next .jobRecord) done), sym (ap (λ h. h .next .memory) done)))
 
 is-impossible-requires : tie.Need-is-impossible-requires
 is-impossible-requires c κs = search needs
@@ -55,7 +54,7 @@ returns-2 c =
     let p = c .before in
     let a = start p .args in
     let done = step-impossible (a .budget) (a .found) (memory (start p)) (flagged p) (sym (p .is-impossible .ensures) ∙ c .if2 .taken) in
-    (sym (ap (λ h. h .outcome) done), sym (ap (λ h. h .memory) done))
+    (sym (ap (λ h. h .answer) done), (sym (ap (λ h. h .next .jobRecord) done), sym (ap (λ h. h .next .memory) done)))
 
 stepped-requires : tie.Need-stepped-requires
 stepped-requires c κs = sym (c .before .before .before .before .before .before .is-impossible .ensures) ∙ c .before .before .before .before .before .if2 .left
@@ -82,8 +81,8 @@ returns-3 c =
     let a = start p .args in
     let stepped = c .before .before .before .before .before .before .before .before .before .before .stepped .ensures in
     let done = step-accepted (a .budget) (a .found) (memory (start p)) (flagged p) (sym (p .is-impossible .ensures) ∙ passed .if2 .left) in (
-      ap (λ r. record { answer = Accepted; next = r }) (stepped .0) ∙ sym (ap (λ h. h .outcome) done),
-      stepped .1 ∙ sym (ap (λ h. h .memory) done),
+      sym (ap (λ h. h .answer) done),
+      (stepped .0 ∙ sym (ap (λ h. h .next .jobRecord) done), stepped .1 ∙ sym (ap (λ h. h .next .memory) done)),
     )
 
 pub step-spec : {M : Type 1} → statement M

@@ -27,16 +27,18 @@ returns : tie.Need-returns
 returns c =
     let a = c .before .before .before .before .args in
     λ t. record {
-      job = true;
-      input = a .input;
-      lengths = a .lengths;
-      counts = record {
-        grid = a .counted;
-        leaves = a .turn .leaves;
-        sampled = a .turn .leaves * c .before .cube-of .ensures t;
-        evaluations = a .evaluations;
+      opened = true;
+      job = record {
+        input = a .input;
+        lengths = a .lengths;
+        counts = record {
+          grid = a .counted;
+          leaves = a .turn .leaves;
+          sampled = a .turn .leaves * c .before .cube-of .ensures t;
+          evaluations = a .evaluations;
+        };
+        cursor = c .cursor-of .ensures t;
       };
-      cursor = c .cursor-of .ensures t;
     }
 
 pub record-of-spec : {M : Type 1} → statement M
