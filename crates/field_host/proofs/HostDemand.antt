@@ -1,6 +1,6 @@
 -- DEMAND 3 for the C interface: its calls implement the engine, so the ledger theorem holds of every list of them. specs/Demand has the statements.
 use Prim.Native.Nat.{ℕ, zero, suc, _<_}
-use mathlib.Core.Path.{_≡_, refl, sym, ap, subst, _∙_}
+use mathlib.Core.Path.{_≡_, refl, sym, ap, ap₂, subst, _∙_}
 use mathlib.Core.Bool.{Bool, true, false, cond}
 use mathlib.Core.List.{List, map}
 use native.Mathlib.Omega.{arith}
@@ -21,7 +21,7 @@ use Rattle.schedule.specs.Possible.{impossible}
 use Rattle.schedule.specs.Ledger.{noEntry, entry}
 use Rattle.schedule.specs.BudgetSum.{budgetSum}
 use Rattle.schedule.specs.Implements.{Implements}
-use Rattle.schedule.proofs.Implements.{implements-ledger, implements-drop, implements-elements, implements-finished}
+use Rattle.schedule.proofs.Implements.{implements-ledger, implements-drop, implements-elements, implements-finished, implements-numbered}
 use Rattle.schedule.proofs.Possible.{possible}
 use Rattle.input.specs.declared.Input.{Input}
 use Rattle.schedule.specs.declared.Record.{Record}
@@ -31,11 +31,12 @@ use Rattle.schedule.specs.NoRecord.{noRecord, noModel}
 use Rattle.sparse_field.specs.Calls.{called}
 use Rattle.sparse_field.proofs.Opening.{sized, nothing}
 use Rattle.plans.proofs.Lawful.{sparse-laws, long-enough}
+use Rattle.plans.proofs.OwnCorners.{own-corners, constant-not-leaf}
 use Rattle.sparse_field.proofs.CallLaws.{refusedBy, acceptedWith, step-none, step-impossible, step-accepted, drop-accepted}
 use Rattle.field_host.specs.Given.{inputGiven}
 use Rattle.field_host.specs.Carried.{Carried, inputIn, fits, flagged, recordGiven, unread, decoded, encoded}
 use Rattle.field_host.specs.Hosted.{answerNumber, leftBy, carriedAfter, hosted}
-use Rattle.field_host.specs.Demand.{NoJob, HostDemandThree, HostDropLeavesZeros, HostEqualBudgets, HostFinishedField}
+use Rattle.field_host.specs.Demand.{NoJob, HostDemandThree, HostDropLeavesZeros, HostEqualBudgets, HostFinishedField, HostLeavesNumbered}
 use Rattle.field_host.specs.HostLists.{HostCall, opensWith, stepsBy, dropsAll, callOf, Station, answerOf, onStation, engineAt}
 use Rattle.field_host.proofs.RecordBack.{record-back}
 use Rattle.field_host.proofs.Unread.{no-flag}
@@ -159,9 +160,15 @@ elements : (cs : List HostCall) (s : Station) → NoJob s → (i : Input) (n : �
 elements cs s none = implements-elements sparse HostCall Station callOf engineAt onStation host-implemented sparse-laws s (no-job s none) cs
 
 pub host-equal-elements : HostEqualBudgets
-host-equal-elements cs₁ cs₂ s₁ s₂ none₁ none₂ lengths i n budgets₁ budgets₂ =
-    elements cs₁ s₁ none₁ i n budgets₁ ∙ ap (λ l. stateAt (planOf i) l n .memory) lengths ∙ sym (elements cs₂ s₂ none₂ i n budgets₂)
+host-equal-elements cs₁ cs₂ s₁ s₂ none₁ none₂ lengths i₁ i₂ n plans budgets₁ budgets₂ =
+    elements cs₁ s₁ none₁ i₁ n budgets₁ ∙ ap₂ (λ P l. stateAt P l n .memory) plans lengths ∙ sym (elements cs₂ s₂ none₂ i₂ n budgets₂)
 
 pub host-finished-field : HostFinishedField
-host-finished-field cs s none =
-    implements-finished sparse HostCall Station callOf engineAt onStation host-implemented sparse-laws s (no-job s none) long-enough cs
+host-finished-field cs s none opened ends = (
+  implements-finished sparse HostCall Station callOf engineAt onStation host-implemented sparse-laws s (no-job s none) long-enough cs opened ends,
+  own-corners _,
+)
+
+pub host-leaves-numbered : HostLeavesNumbered
+host-leaves-numbered cs s none opened =
+    implements-numbered sparse HostCall Station callOf engineAt onStation host-implemented sparse-laws s (no-job s none) long-enough constant-not-leaf cs opened

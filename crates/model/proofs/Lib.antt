@@ -9,3 +9,4 @@ pub mod Rows
 pub mod Middle
 pub mod RowByCode
 pub mod AllRows
+pub mod SameParts

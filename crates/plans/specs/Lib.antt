@@ -2,4 +2,5 @@
 pub mod Plan
 pub mod Sparse
 pub mod OwnCorners
+pub mod SameInputs
 pub mod Inner

@@ -2,10 +2,11 @@
 use Rattle.schedule.proofs.LedgerTheorem.{ledger-theorem}
 use Rattle.schedule.proofs.AfterDrop.{drop-zeros}
 use Rattle.schedule.proofs.Budgets.{equal-budgets}
-use Rattle.schedule.proofs.FinishedJob.{finished-job}
+use Rattle.schedule.proofs.FinishedJob.{finished-job, numbered-job}
 use Rattle.plans.specs.Sparse.{sparse}
 use Rattle.plans.proofs.Lawful.{sparse-laws, long-enough}
-use Rattle.sparse_field.specs.Demand.{DemandThree, DropLeavesZeros, EqualBudgets, FinishedField}
+use Rattle.plans.proofs.OwnCorners.{own-corners, constant-not-leaf}
+use Rattle.sparse_field.specs.Demand.{DemandThree, DropLeavesZeros, EqualBudgets, FinishedField, LeavesNumbered}
 
 pub demand-three : DemandThree
 demand-three = ledger-theorem sparse sparse-laws
@@ -17,4 +18,7 @@ pub equal-elements : EqualBudgets
 equal-elements = equal-budgets sparse sparse-laws
 
 pub finished-field : FinishedField
-finished-field = finished-job sparse sparse-laws long-enough
+finished-field cs e none opened ends = (finished-job sparse sparse-laws long-enough cs e none opened ends, own-corners _)
+
+pub leaves-numbered : LeavesNumbered
+leaves-numbered = numbered-job sparse sparse-laws long-enough constant-not-leaf
