@@ -32,8 +32,8 @@ use Rattle.engine.specs.declared.Stop.the-variants.{Through, At}
 use Rattle.schedule.specs.Lent.{memoryOf}
 use Rattle.plans.specs.Plan.{boxOf, planWith}
 use Rattle.geometry.specs.Values.{at}
-use Rattle.engine.specs.Inner.Progress.{Sized, Ready, readingIn, ChildrenAdvanced, leafProgress}
-use Rattle.engine.proofs.Turns.{progress, turn-active, turn-skip, turn-constant, turn-leaf, filledStore}
+use Rattle.engine.specs.Inner.Progress.{Sized, Ready, progress, readingIn, ChildrenAdvanced, leafProgress}
+use Rattle.engine.proofs.Turns.{turn-active, turn-skip, turn-constant, turn-leaf, filledStore}
 
 -- ---- how far a leaf's points have come
 
