@@ -31,7 +31,8 @@ use Rattle.engine.specs.declared.Stop.{Stop}
 use Rattle.engine.specs.declared.Stop.the-variants.{Through, At}
 use Rattle.schedule.specs.Lent.{memoryOf}
 use Rattle.engine.specs.Inner.Runs.{runOf}
-use Rattle.engine.specs.Inner.Progress.{Lent, afterStop, IfThrough, progress, stateIn, Advanced, Ready, readingIn, ChildrenAdvanced, NodeAdvanced, leafProgress}
+use Rattle.engine.specs.Inner.Progress.{Lent, afterStop, IfThrough, progress, stateIn, readingIn, leafProgress}
+use Rattle.engine.specs.Inner.Progress.{Advanced, Ready, ChildrenAdvanced, NodeAdvanced}
 use Rattle.engine.proofs.RunLaws.{run-work, run-stop, run-points}
 
 -- a fact holds where a function has come through, if it holds at all

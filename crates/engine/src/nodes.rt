@@ -1,14 +1,12 @@
 // A job's work from a cursor on, while the budget lasts: the corners or points at the cursor, then the
 // node's children, then the next node.
-ghost use mathlib.Core.Path.{_≡_};
 ghost use mathlib.Core.List.{[], List};
 ghost use Prim.Native.Nat.{ℕ, _≤_};
 ghost use lib.Ieee.{Float};
 ghost use Rattle.schedule.specs.Resume.{eventsFrom};
 ghost use Rattle.schedule.specs.Totals.{activeAll};
 ghost use Rattle.schedule.specs.Lent.{memoryOf, held, entered, left};
-ghost use Rattle.engine.specs.Inner.Startable.{Startable};
-ghost use Rattle.engine.specs.Inner.Progress.{planIn, planNow, Sized, Lent, Advanced, readingIn};
+ghost use Rattle.engine.specs.Inner.Progress.{planIn, planNow, Sized, Advanced, readingIn};
 ghost use Rattle.engine.specs.Inner.Turns.{Standable, Evaluable, TurnMade};
 use crate::LeafVisit;
 use crate::Progress;

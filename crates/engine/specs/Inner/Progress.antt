@@ -3,7 +3,7 @@ use Prim.Native.Nat.{ℕ, suc, _+_, _*_, _-_, _≤_, _<_, min}
 use mathlib.Core.Bool.{cond}
 use lib.Dec.{ltb}
 use mathlib.Core.Path.{_≡_}
-use mathlib.Core.List.{List, []}
+use mathlib.Core.List.{List}
 use denote.Ref.{now}
 use lib.ListN.{length, getD}
 use lib.Ieee.{Float}

@@ -1,16 +1,14 @@
 -- `nodes::evaluate_from` meets its contract: by the cursor, a node's corners or a leaf's points stop, or the children follow.
-use Prim.Native.Nat.{ℕ, suc, _+_, _-_, _*_, _≤_, _<_}
-use mathlib.Core.Path.{_≡_, ap, _∙_}
+use Prim.Native.Nat.{ℕ, suc, _+_, _-_, _*_, _≤_}
+use mathlib.Core.Path.{ap, _∙_}
 use native.Mathlib.Omega.{arith}
 use lib.ListN.{length}
 use lib.Ieee.{Float}
 use mathlib.Core.List.{List}
 use Rattle.geometry.specs.declared.BoundingBox.{BoundingBox}
 use Rattle.grid.specs.declared.Verdict.{Verdict}
-use Rattle.grid.specs.Blocks.{cube}
 use Rattle.grid.proofs.BlockLaws.{cube-le}
-use Rattle.schedule.specs.declared.Cursor.{Cursor}
-use Rattle.schedule.specs.declared.Cursor.the-variants.{Corner, Point}
+use Rattle.schedule.specs.declared.Cursor.the-variants.{Point}
 use Rattle.schedule.specs.Plan.{Plan}
 use Rattle.schedule.specs.PlanLaws.{PlanLaws}
 use Rattle.schedule.specs.Memory.{Memory}
@@ -20,7 +18,6 @@ use Rattle.schedule.specs.Totals.{activeBefore}
 use Rattle.plans.specs.Plan.{planWith, decideBy}
 use Rattle.plans.proofs.Plans.{plan-laws}
 use Rattle.rows.specs.Inner.FlatValue.{flatValue}
-use Rattle.engine.specs.Inner.Startable.{Startable}
 use Rattle.engine.specs.Inner.Progress.{Ready, Advanced, readingIn}
 use Rattle.engine.specs.Inner.Turns.{Standable}
 use Rattle.engine.proofs.Turns.{advanced-stopped}
@@ -204,8 +201,9 @@ returns c =
     λ numbers places ok.
     record {
       came = at-cursor (plan s) (s .args .at) (k .cursor .given .1)
-          (node-at-corner (s .args .task .grid) (decide s) (value s) (node k) _ (s .args .at .left) (s .args .at .leaves) (memory s numbers places) (ready k ok)
-          (p .cube-of .result) (p .cube-of .ensures) (p .before .node-box .ensures) (q .run-corners .ensures) (omega (arith, r .cube-of2 .ensures, c .if1 .taken)));
+          (node-at-corner (s .args .task .grid) (decide s) (value s) (node k) _ (s .args .at .left) (s .args .at .leaves)
+          (memory s numbers places) (ready k ok) (p .cube-of .result) (p .cube-of .ensures) (p .before .node-box .ensures) (q .run-corners .ensures)
+          (omega (arith, r .cube-of2 .ensures, c .if1 .taken)));
     }
 
 enum-known-cursor-2 : tie.Need-enum-known-cursor-2
@@ -245,7 +243,10 @@ returns-2 c =
     let k = known2 t in
     let s = start2 k in
     λ numbers places ok.
-    record { came = at-cursor (plan s) (s .args .at) (k .cursor2 .given .1) (advanced-stopped (plan s) (c .enum-told2 .given .0 .0) (points t ok) (c .enum-told2 .given .1)) }
+    record {
+      came = at-cursor (plan s) (s .args .at) (k .cursor2 .given .1)
+          (advanced-stopped (plan s) (c .enum-told2 .given .0 .0) (points t ok) (c .enum-told2 .given .1));
+    }
 
 enum-told-3 : tie.Need-enum-told-3
 enum-told-3 c = search needs
@@ -280,8 +281,8 @@ returns-4 c =
     λ numbers places ok.
     record {
       came = begun-at (plan s) (s .args .at) (k .cursor .given .1) (s .args .task .grid)
-          (node-past-corners (s .args .task .grid) (decide s) (value s) (node k) _ (s .args .at .left) (s .args .at .leaves) (memory s numbers places) (ready k ok)
-          (p .cube-of .result) (p .cube-of .ensures) (p .before .node-box .ensures) (q .run-corners .ensures) (laws s)
+          (node-past-corners (s .args .task .grid) (decide s) (value s) (node k) _ (s .args .at .left) (s .args .at .leaves)
+          (memory s numbers places) (ready k ok) (p .cube-of .result) (p .cube-of .ensures) (p .before .node-box .ensures) (q .run-corners .ensures) (laws s)
           (omega (arith, r .cube-of2 .ensures, c .if1 .left)));
     }
 
@@ -298,8 +299,8 @@ returns-5 c =
     let here = known-start (plan s) (s .args .at) (k .cursor2 .given .1) ok in
     record {
       came = begun-at (plan s) (s .args .at) (k .cursor2 .given .1) (s .args .task .grid)
-          (node-past-points (s .args .task .grid) (decide s) (value s) (node2 k) (child2 k) _ (s .args .at .left) (s .args .at .leaves) (memory s numbers places)
-          (ready2 k ok) (here .1) (t .before .before .before .before .node-box2 .ensures) (points t ok) (c .enum-told3 .given .1));
+          (node-past-points (s .args .task .grid) (decide s) (value s) (node2 k) (child2 k) _ (s .args .at .left) (s .args .at .leaves)
+          (memory s numbers places) (ready2 k ok) (here .1) (t .before .before .before .before .node-box2 .ensures) (points t ok) (c .enum-told3 .given .1));
     }
 
 pub evaluate-from-spec : {M : Type 1} → statement M

@@ -66,14 +66,68 @@ made : (t : tie.After-evaluate-from Inv-loop μ-loop) → let l = looped t in
     TurnMade (start l .args .task .grid) (plan l) (l .loop .at) (memory l) (evaluated t) (t .evaluate-from .result)
 made t = let l = looped t in t .evaluate-from .ensures (l .loop .numbers) (l .loop .places) (ready l)
 
+-- they have given the slices back
+abbrev evaluation : tie.After-slice-known7 Inv-loop μ-loop → tie.After-evaluate-from Inv-loop μ-loop
+evaluation b = b .before .before .before .before
+
+kept-evaluated : (b : tie.After-slice-known7 Inv-loop μ-loop) → let m = evaluated (evaluation b) in let a = start (looped (evaluation b)) .args in
+    (length (m .store) ≡ length (a .store .now)) × (length (m .corners) ≡ length (a .corners .now))
+kept-evaluated b =
+    let l = looped (evaluation b) .loop in
+    (b .before .before .before .store .given ∙ l .inv .4, b .before .corners .given ∙ l .inv .5)
+
 -- ---- where they have come to the children
 
 abbrev turned : tie.After-turn2 Inv-loop μ-loop → tie.After-evaluate-from Inv-loop μ-loop
-turned k = k .before .before .before .before .before .before
+turned k = evaluation (k .before .before)
 
 begun : (k : tie.After-turn2 Inv-loop μ-loop) → let l = looped (turned k) in
     Begun (start l .args .task .grid) (plan l) (l .loop .at) (memory l) (evaluated (turned k)) (k .turn2 .given .0 .0)
 begun k = turn-begun (made (turned k)) (k .turn2 .given .1)
+
+abbrev came : tie.After-run-children Inv-loop μ-loop → tie.After-turn2 Inv-loop μ-loop
+came u = u .before .before .before .before .before .before .before .before
+
+-- ---- where the children have given the slices back
+
+abbrev ran : tie.After-slice-known11 Inv-loop μ-loop → tie.After-run-children Inv-loop μ-loop
+ran d = d .before .before .before .before .before .before .before .before
+
+abbrev decided : tie.After-slice-known11 Inv-loop μ-loop → Memory
+decided d =
+    let last = ran d .run-children .last .1 .1 .1 .1 .1 in
+    memoryOf (last .0) (last .1 .0) (last .1 .1 .0) (last .1 .1 .1 .0) (evaluated (turned (came (ran d))) .corners)
+
+kept : (d : tie.After-slice-known11 Inv-loop μ-loop) → let m = decided d in let a = start (looped (turned (came (ran d)))) .args in
+    (length (m .kinds) ≡ length (a .kinds .now)) × (length (m .numbers) ≡ length (a .numbers .now)) × (length (m .places) ≡ length (a .places .now))
+    × (length (m .store) ≡ length (a .store .now)) × (length (m .corners) ≡ length (a .corners .now))
+kept d =
+    let k = came (ran d) in
+    let l = looped (turned k) .loop in
+    let before = kept-evaluated (k .before .before) in (
+      d .before .before .before .before .before .before .before .kinds .given ∙ l .inv .1,
+      d .before .before .before .before .before .numbers .given ∙ l .inv .2,
+      d .before .before .before .places .given ∙ l .inv .3,
+      d .before .store2 .given ∙ before .0,
+      before .1,
+    )
+
+-- ---- where the node's corners are cleared
+
+abbrev ended : tie.After-zero-floats Inv-loop μ-loop → tie.After-slice-known11 Inv-loop μ-loop
+ended z = z .before .before .before .before
+
+abbrev cleared : tie.After-zero-floats Inv-loop μ-loop → Memory
+cleared z = let m = decided (ended z) in memoryOf (m .kinds) (m .numbers) (m .places) (m .store) (z .zero-floats .last .0)
+
+through : (z : tie.After-zero-floats Inv-loop μ-loop) → let u = ran (ended z) in let k = came u in let w = k .turn2 .given .0 .0 in
+    NodeAdvanced (plan (looped (turned k))) (w .node) (w .left) (w .leaves) (evaluated (turned k)) (cleared z)
+    (childrenLeft (plan (looped (turned k))) (w .node) (w .place) (readingIn (evaluated (turned k)))) (u .run-children .result)
+unfolding planWith
+through z =
+    let u = ran (ended z) in
+    let w = came u .turn2 .given .0 .0 in
+    turn-clear _ (w .node) (w .left) (w .leaves) (w .place) _ _ _ (u .run-children .ensures) (z .before .before .enum-told2 .given .1) (z .zero-floats .ensures)
 
 -- ---- what is left
 
@@ -98,23 +152,23 @@ enum-known-turn : tie.Need-enum-known-turn Inv-loop μ-loop
 enum-known-turn c = search needs
 
 same-length : tie.Need-same-length Inv-loop μ-loop
-same-length c = c .before .before .before .before .before .before .before .before .before .before .before .before .loop .inv .1
+same-length c = looped (evaluation (c .before .before .before)) .loop .inv .1
 
 same-length-2 : tie.Need-same-length-2 Inv-loop μ-loop
-same-length-2 c = c .before .before .before .before .before .before .before .before .before .before .before .before .loop .inv .2
+same-length-2 c = looped (evaluation (c .before .before .before)) .loop .inv .2
 
 same-length-3 : tie.Need-same-length-3 Inv-loop μ-loop
-same-length-3 c = c .before .before .before .before .before .before .before .before .before .before .before .before .loop .inv .3
+same-length-3 c = looped (evaluation (c .before .before .before)) .loop .inv .3
 
 same-length-4 : tie.Need-same-length-4 Inv-loop μ-loop
-same-length-4 c = c .before .before .before .before .before .before .store .given ∙ c .before .before .before .before .before .before .before .before .before .before .before .before .loop .inv .4
+same-length-4 c = kept-evaluated (c .before .before .before) .0
 
 same-length-5 : tie.Need-same-length-5 Inv-loop μ-loop
-same-length-5 c = c .before .before .before .before .corners .given ∙ c .before .before .before .before .before .before .before .before .before .before .before .before .loop .inv .5
+same-length-5 c = kept-evaluated (c .before .before .before) .1
 
 returns : tie.Need-returns Inv-loop μ-loop
 returns c =
-    let t = c .before .before .before .before .before .before .before in
+    let t = evaluation (c .before .before .before) in
     advanced-then _ (looped t .loop .inv .7) refl (turn-stopped (made t) (c .before .turn .given .1))
 
 enum-known-turn-2 : tie.Need-enum-known-turn-2 Inv-loop μ-loop
@@ -134,25 +188,25 @@ enum-told : tie.Need-enum-told Inv-loop μ-loop
 enum-told c = search needs
 
 same-length-6 : tie.Need-same-length-6 Inv-loop μ-loop
-same-length-6 c = c .before .before .before .before .before .before .before .before .before .kinds .given ∙ c .before .before .before .before .before .before .before .before .before .before .before .before .before .before .before .before .before .before .before .before .before .before .before .before .before .before .before .before .before .loop .inv .1
+same-length-6 c = kept (c .before .before) .0
 
 same-length-7 : tie.Need-same-length-7 Inv-loop μ-loop
-same-length-7 c = c .before .before .before .before .before .before .before .numbers .given ∙ c .before .before .before .before .before .before .before .before .before .before .before .before .before .before .before .before .before .before .before .before .before .before .before .before .before .before .before .before .before .loop .inv .2
+same-length-7 c = kept (c .before .before) .1
 
 same-length-8 : tie.Need-same-length-8 Inv-loop μ-loop
-same-length-8 c = c .before .before .before .before .before .places .given ∙ c .before .before .before .before .before .before .before .before .before .before .before .before .before .before .before .before .before .before .before .before .before .before .before .before .before .before .before .before .before .loop .inv .3
+same-length-8 c = kept (c .before .before) .2
 
 same-length-9 : tie.Need-same-length-9 Inv-loop μ-loop
-same-length-9 c = c .before .before .before .store2 .given ∙ c .before .before .before .before .before .before .before .before .before .before .before .before .before .before .before .before .before .before .before .before .before .before .before .store .given ∙ c .before .before .before .before .before .before .before .before .before .before .before .before .before .before .before .before .before .before .before .before .before .before .before .before .before .before .before .before .before .loop .inv .4
+same-length-9 c = kept (c .before .before) .3
 
 same-length-10 : tie.Need-same-length-10 Inv-loop μ-loop
-same-length-10 c = c .before .before .before .before .before .before .before .before .before .before .before .before .before .before .before .before .before .before .before .before .before .corners .given ∙ c .before .before .before .before .before .before .before .before .before .before .before .before .before .before .before .before .before .before .before .before .before .before .before .before .before .before .before .before .before .loop .inv .5
+same-length-10 c = kept (c .before .before) .4
 
 returns-2 : tie.Need-returns-2 Inv-loop μ-loop
 unfolding planWith
 returns-2 c =
-    let u = c .before .before .before .before .before .before .before .before .before .before in
-    let k = u .before .before .before .before .before .before .before .before in
+    let u = ran (c .before .before) in
+    let k = came u in
     let l = looped (turned k) in
     advanced-stopped (plan l) (c .enum-told .given .0 .0)
     (advanced-then (plan l) (advanced-then (plan l) (l .loop .inv .7) refl (begun k .advanced)) refl (u .run-children .ensures)) (c .enum-told .given .1)
@@ -163,79 +217,58 @@ enum-told-2 c = search needs
 zero-floats-requires : tie.Need-zero-floats-requires Inv-loop μ-loop
 zero-floats-requires c κs = search needs
 
--- ---- where the node's corners are cleared
-
-abbrev childrened : tie.After-zero-floats Inv-loop μ-loop → tie.After-run-children Inv-loop μ-loop
-childrened z = z .before .before .before .before .before .before .before .before .before .before .before .before
-
-abbrev came : tie.After-zero-floats Inv-loop μ-loop → tie.After-turn2 Inv-loop μ-loop
-came z = z .before .before .before .before .before .before .before .before .before .before .before .before .before .before .before .before .before .before .before .before
-
-abbrev cleared : tie.After-zero-floats Inv-loop μ-loop → Memory
-cleared z =
-    let last = childrened z .run-children .last .1 .1 .1 .1 .1 in
-    memoryOf (last .0) (last .1 .0) (last .1 .1 .0) (last .1 .1 .1 .0) (z .zero-floats .last .0)
-
-through : (z : tie.After-zero-floats Inv-loop μ-loop) → let w = came z .turn2 .given .0 .0 in let l = looped (turned (came z)) in
-    NodeAdvanced (plan l) (w .node) (w .left) (w .leaves) (evaluated (turned (came z))) (cleared z)
-    (childrenLeft (plan l) (w .node) (w .place) (readingIn (evaluated (turned (came z))))) (childrened z .run-children .result)
-unfolding planWith
-through z =
-    let w = came z .turn2 .given .0 .0 in
-    turn-clear _ (w .node) (w .left) (w .leaves) (w .place) _ _ _ (childrened z .run-children .ensures) (z .before .before .enum-told2 .given .1)
-    (z .zero-floats .ensures)
-
 add-node : tie.Need-add-node Inv-loop μ-loop
 unfolding planWith
 add-node c =
-    let k = came (c .before .before .before) in
+    let k = came (ran (ended (c .before .before .before))) in
     let s = start (looped (turned k)) in
     omega (arith, begun k .inside, nodes-few (s .args .task .grid) (s .pre .0 .0))
 
 same-length-11 : tie.Need-same-length-11 Inv-loop μ-loop
-same-length-11 c = c .before .before .before .before .before .before .before .before .before .before .before .before .before .before .before .kinds .given ∙ c .before .before .before .before .before .before .before .before .before .before .before .before .before .before .before .before .before .before .before .before .before .before .before .before .before .before .before .before .before .before .before .before .before .before .before .loop .inv .1
+same-length-11 c = kept (ended (c .before .before .before .before)) .0
 
 same-length-12 : tie.Need-same-length-12 Inv-loop μ-loop
-same-length-12 c = c .before .before .before .before .before .before .before .before .before .before .before .before .before .numbers .given ∙ c .before .before .before .before .before .before .before .before .before .before .before .before .before .before .before .before .before .before .before .before .before .before .before .before .before .before .before .before .before .before .before .before .before .before .before .loop .inv .2
+same-length-12 c = kept (ended (c .before .before .before .before)) .1
 
 same-length-13 : tie.Need-same-length-13 Inv-loop μ-loop
-same-length-13 c = c .before .before .before .before .before .before .before .before .before .before .before .places .given ∙ c .before .before .before .before .before .before .before .before .before .before .before .before .before .before .before .before .before .before .before .before .before .before .before .before .before .before .before .before .before .before .before .before .before .before .before .loop .inv .3
+same-length-13 c = kept (ended (c .before .before .before .before)) .2
 
 same-length-14 : tie.Need-same-length-14 Inv-loop μ-loop
-same-length-14 c = c .before .before .before .before .before .before .before .before .before .store2 .given ∙ c .before .before .before .before .before .before .before .before .before .before .before .before .before .before .before .before .before .before .before .before .before .before .before .before .before .before .before .before .before .store .given ∙ c .before .before .before .before .before .before .before .before .before .before .before .before .before .before .before .before .before .before .before .before .before .before .before .before .before .before .before .before .before .before .before .before .before .before .before .loop .inv .4
+same-length-14 c = kept (ended (c .before .before .before .before)) .3
 
 same-length-15 : tie.Need-same-length-15 Inv-loop μ-loop
-same-length-15 c = c .before .before .before .corners2 .given ∙ c .before .before .before .before .before .before .before .before .before .before .before .before .before .before .before .before .before .before .before .before .before .before .before .before .before .before .before .corners .given ∙ c .before .before .before .before .before .before .before .before .before .before .before .before .before .before .before .before .before .before .before .before .before .before .before .before .before .before .before .before .before .before .before .before .before .before .before .loop .inv .5
+same-length-15 c = c .before .before .before .corners2 .given ∙ kept (ended (c .before .before .before .before)) .4
 
 returns-3 : tie.Need-returns-3 Inv-loop μ-loop
 unfolding planWith
 returns-3 c =
     let z = c .before .before .before .before in
-    let k = came z in
+    let k = came (ran (ended z)) in
     let l = looped (turned k) in
     let w = k .turn2 .given .0 .0 in
     advanced-then (plan l) (advanced-then (plan l) (l .loop .inv .7) refl (begun k .advanced)) refl
     (nodes-end (plan l) (suc (w .node)) _ _ _ _ _ _ (omega (arith, c .if1 .taken, l .loop .inv .0)) (through z .advanced))
 
 loop-less : tie.Need-loop-less Inv-loop μ-loop
-loop-less c = let k = came (c .before .before .before .before) in omega (arith, begun k .same, begun k .inside)
+loop-less c = let k = came (ran (ended (c .before .before .before .before))) in omega (arith, begun k .same, begun k .inside)
 
 loop-again : tie.Need-loop-again Inv-loop μ-loop
 unfolding planWith
 loop-again c =
     let z = c .before .before .before .before in
-    let k = came z in
+    let k = came (ran (ended z)) in
     let l = looped (turned k) in
     let w = k .turn2 .given .0 .0 in
+    let same = kept (ended z) in
     let below : w .node + 1 < plan l .nodes = omega (arith, begun k .inside, c .if1 .left, l .loop .inv .0) in
     let next = node-next (plan l) (w .node) (w .node + 1) _ _ (through z) (z .before .before .enum-told2 .given .1) (add-one (w .node)) below in
     let most = before-most (plan l) (plan l .active) (w .node + 1) 0 below (omega arith) in (
       l .loop .inv .0,
-      c .before .before .before .before .before .before .before .before .before .before .before .before .before .before .before .kinds .given ∙ l .loop .inv .1,
-      c .before .before .before .before .before .before .before .before .before .before .before .before .before .numbers .given ∙ l .loop .inv .2,
-      c .before .before .before .before .before .before .before .before .before .before .before .places .given ∙ l .loop .inv .3,
-      c .before .before .before .before .before .before .before .before .before .store2 .given ∙ c .before .before .before .before .before .before .before .before .before .before .before .before .before .before .before .before .before .before .before .before .before .before .before .before .before .before .before .before .before .store .given ∙ l .loop .inv .4,
-      c .before .before .before .corners2 .given ∙ c .before .before .before .before .before .before .before .before .before .before .before .before .before .before .before .before .before .before .before .before .before .before .before .before .before .before .before .corners .given ∙ l .loop .inv .5,
+      same .0,
+      same .1,
+      same .2,
+      same .3,
+      c .before .before .before .corners2 .given ∙ same .4,
       (below, omega arith, next .atMost),
       advanced-then (plan l) (advanced-then (plan l) (l .loop .inv .7) refl (begun k .advanced)) refl (advanced-most (plan l) most next),
     )

@@ -1,8 +1,8 @@
 -- `slabs_right` meets its contract: the slabs passed so far are right.
 use mathlib.Core.Path.{_≡_, sym, _∙_}
-use mathlib.Core.Bool.{Bool, true, _&&_}
+use mathlib.Core.Bool.{Bool, true}
 use Prim.Native.Nat.{ℕ, _+_, _*_, _-_, _≤_}
-use native.Mathlib.Nat.{zero-mul, mul-assoc}
+use native.Mathlib.Nat.{zero-mul}
 use native.Mathlib.Omega.{arith}
 use lib.ListN.{length, take}
 use borrow.Author.Tests.{not-true, not-false}

@@ -1,6 +1,6 @@
 -- `set_slabs` meets its contract: the slabs passed so far are set.
 use mathlib.Core.Path.{_≡_, refl, sym, ap, _∙_}
-use mathlib.Core.Bool.{Bool, _&&_}
+use mathlib.Core.Bool.{Bool}
 use Prim.Native.Nat.{ℕ, _+_, _*_, _-_, _≤_}
 use native.Mathlib.Nat.{zero-mul, mul-assoc}
 use native.Mathlib.Omega.{arith}
