@@ -68,14 +68,14 @@ module _ (g : Grid) (decide : BoundingBox → List Float → Verdict) (value : F
 
   -- the run over the corners that one node's part needs is the plan's
   pub plan-corners : {box : BoundingBox} {i b next left : ℕ} {before after : List Float} → box ≡ nodeBox g v
-      → CornerRun (corners.needed (g .inner) (kinds.nonzero (take d (drop first l)))) (λ i. values.at value (corners.cornerPoint box (g .inner) i))
+      → CornerRun (corners.needed (g .inner) (kinds.nonzeroAt (take d (drop first l)))) (λ i. values.at value (corners.cornerPoint box (g .inner) i))
       (cube (g .inner + 1)) i b next left before after
       → CornerRun (R .needed v) (R .cornerValue v) (R .corners) i b next left before after
   unfolding planWith
   plan-corners {box} {i} {b} {next} {left} {before} {after} boxed run =
       subst (λ test. CornerRun test (R .cornerValue v) (cube (g .inner + 1)) i b next left before after)
       (fun-ext (part-needed g decide value l right long v below from size))
-      (subst (λ x. CornerRun (corners.needed (g .inner) (kinds.nonzero (take d (drop first l)))) (λ i. values.at value (corners.cornerPoint x (g .inner) i))
+      (subst (λ x. CornerRun (corners.needed (g .inner) (kinds.nonzeroAt (take d (drop first l)))) (λ i. values.at value (corners.cornerPoint x (g .inner) i))
       (cube (g .inner + 1)) i b next left before after) boxed run)
 
 -- ---- a run over a node's corners
@@ -192,7 +192,7 @@ part-long l first n fits =
 module _ (g : Grid) (decide : BoundingBox → List Float → Verdict) (value : Float → Float → Float → Float) (v i b leaves : ℕ) (m : Memory)
     (ready : Ready (planWith g decide value) v 0 leaves m) (n : ℕ) (cubed : n ≡ cube (g .inner))
     {box : BoundingBox} {next left : ℕ} {after : List Float} (boxed : box ≡ nodeBox g v)
-    (run : CornerRun (corners.needed (g .inner) (kinds.nonzero (take (v * n + n - v * n) (drop (v * n) (m .kinds)))))
+    (run : CornerRun (corners.needed (g .inner) (kinds.nonzeroAt (take (v * n + n - v * n) (drop (v * n) (m .kinds)))))
     (λ i. values.at value (corners.cornerPoint box (g .inner) i)) (cube (g .inner + 1)) i b next left (m .corners) after) where
   abbrev P : Plan
   P = planWith g decide value
