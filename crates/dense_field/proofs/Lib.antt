@@ -1,4 +1,5 @@
 pub mod WalkLaws
+pub mod StandLaws
 pub mod CountLaws
 pub mod Lending
 pub mod Edges

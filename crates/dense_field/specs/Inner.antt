@@ -2,3 +2,4 @@
 pub mod Lent
 pub mod Runs
 pub mod Offsets
+pub mod Stands

@@ -3,11 +3,19 @@
 ghost use mathlib.Core.Path.{_≡_};
 ghost use Prim.Native.Nat.{_≤_};
 ghost use Rattle.dense_field.specs.Walks.{countRefused, walkRefused, walkPoint, walkCell, pointStep, cellStep};
+ghost use Rattle.dense_field.specs.Inner.Stands.{standOf};
 use crate::CellStep;
 use crate::PointStep;
 use geometry::BoundingBox;
 use geometry::Vec3;
 use geometry::Vec3i;
+
+// How a walk over points or cells stands: refused by a cause, past its last place, or at a place.
+enum Stand {
+    Refused(u32),
+    Done,
+    There,
+}
 
 // Whether a count along an axis is too small or too large.
 fn count_refused(least: usize, n: usize) -> bool
@@ -36,6 +44,22 @@ fn walk_refused(least: usize, n: Vec3i, cursor: Vec3i) -> bool
         return true;
     }
     cursor.j >= n.j
+}
+
+// How a walk stands before it looks at its place: cause 1, then 11, then whether k has gone through.
+fn stand_at(least: usize, bounds: BoundingBox, n: Vec3i, cursor: Vec3i) -> Stand
+    ensures { λ r. ⌜ r ≡ standOf least bounds n cursor ⌝ }
+{
+    if geometry::box_refused(bounds) {
+        return Stand::Refused(1);
+    }
+    if walk_refused(least, n, cursor) {
+        return Stand::Refused(11);
+    }
+    if cursor.k >= n.k {
+        return Stand::Done;
+    }
+    Stand::There
 }
 
 // The point at a cursor. The first point of an axis is its least end and the last its most.
@@ -83,19 +107,15 @@ fn cell_max(bounds: BoundingBox, n: Vec3i, cursor: Vec3i) -> Vec3
 pub fn point_step(bounds: BoundingBox, n: Vec3i, cursor: Vec3i) -> PointStep
     ensures { λ r. ⌜ r ≡ pointStep bounds n cursor ⌝ }
 {
-    if geometry::box_refused(bounds) {
-        return PointStep::Refused(1);
+    let stand = stand_at(2, bounds, n, cursor);
+    match stand {
+        Stand::Refused(cause) => PointStep::Refused(cause),
+        Stand::Done => PointStep::Done(cursor),
+        Stand::There => PointStep::Point(
+            walk_point(bounds, n, cursor),
+            geometry::next_indices(cursor, n.i, n.j),
+        ),
     }
-    if walk_refused(2, n, cursor) {
-        return PointStep::Refused(11);
-    }
-    if cursor.k >= n.k {
-        return PointStep::Done(cursor);
-    }
-    PointStep::Point(
-        walk_point(bounds, n, cursor),
-        geometry::next_indices(cursor, n.i, n.j),
-    )
 }
 
 // The box of the cell at the cursor and the next cursor, or done past the last cell, with the
@@ -103,19 +123,17 @@ pub fn point_step(bounds: BoundingBox, n: Vec3i, cursor: Vec3i) -> PointStep
 pub fn cell_step(bounds: BoundingBox, n: Vec3i, cursor: Vec3i) -> CellStep
     ensures { λ r. ⌜ r ≡ cellStep bounds n cursor ⌝ }
 {
-    if geometry::box_refused(bounds) {
-        return CellStep::Refused(1);
+    let stand = stand_at(1, bounds, n, cursor);
+    match stand {
+        Stand::Refused(cause) => CellStep::Refused(cause),
+        Stand::Done => CellStep::Done(cursor),
+        Stand::There => {
+            let min = cell_min(bounds, n, cursor);
+            let max = cell_max(bounds, n, cursor);
+            CellStep::Cell(
+                BoundingBox::new(min, max),
+                geometry::next_indices(cursor, n.i, n.j),
+            )
+        }
     }
-    if walk_refused(1, n, cursor) {
-        return CellStep::Refused(11);
-    }
-    if cursor.k >= n.k {
-        return CellStep::Done(cursor);
-    }
-    let min = cell_min(bounds, n, cursor);
-    let max = cell_max(bounds, n, cursor);
-    CellStep::Cell(
-        BoundingBox::new(min, max),
-        geometry::next_indices(cursor, n.i, n.j),
-    )
 }

@@ -1,6 +1,6 @@
 -- A child's turn, from what the code reads: its kind, its octet, and the points of its leaf.
-use Prim.Native.Nat.{ℕ, zero, suc, _+_, _*_, _-_, _≤_, _<_, min}
-use mathlib.Core.Path.{_≡_, refl, sym, ap, ap₂, subst, _∙_}
+use Prim.Native.Nat.{ℕ, suc, _+_, _*_, _-_, _≤_, _<_, min}
+use mathlib.Core.Path.{_≡_, sym, ap, ap₂, subst, _∙_}
 use mathlib.Core.Bool.{true, false, cond}
 use mathlib.Core.List.{List}
 use native.Mathlib.Nat.{mul-le-mul-right}
@@ -23,6 +23,7 @@ use Rattle.grid.specs.declared.Verdict.the-variants.{Constant, Leaf}
 use Rattle.schedule.specs.Plan.{Plan}
 use Rattle.schedule.specs.Memory.{Memory}
 use Rattle.lists.specs.Flags.{nonzero}
+use Rattle.lists.proofs.Flags.{nonzero-true}
 use Rattle.schedule.specs.Totals.{countOf, countAll, activeAll}
 use Rattle.schedule.proofs.Sums.{before-below, before-most}
 use Rattle.lists.proofs.Sums.{sumFrom-most, sumBits-most}
@@ -32,8 +33,8 @@ use Rattle.engine.specs.declared.Stop.the-variants.{Through, At}
 use Rattle.schedule.specs.Lent.{memoryOf}
 use Rattle.plans.specs.Plan.{boxOf, planWith}
 use Rattle.geometry.specs.Values.{at}
-use Rattle.engine.specs.Inner.Progress.{Sized, Ready, readingIn, ChildrenAdvanced, leafProgress}
-use Rattle.engine.proofs.Turns.{progress, turn-active, turn-skip, turn-constant, turn-leaf, filledStore}
+use Rattle.engine.specs.Inner.Progress.{Sized, Ready, progress, readingIn, ChildrenAdvanced, leafProgress}
+use Rattle.engine.proofs.Turns.{turn-active, turn-skip, turn-constant, turn-leaf, filledStore}
 
 -- ---- how far a leaf's points have come
 
@@ -86,11 +87,6 @@ leaves-few g decide value v c leaves m sized below ready =
     let P : Plan = planWith g decide value in
     omega (arith, ready .atMost, active-few g decide value sized, before-most P (P .active) v c (ready .node) (omega arith))
 
--- a number that is not 0
-nonzero-above : (k : ℕ) → (k ≡ 0 → ⊥) → nonzero k ≡ true
-nonzero-above zero above = absurd (above refl)
-nonzero-above (suc k) above = refl
-
 module _ (g : Grid) (decide : BoundingBox → List Float → Verdict) (value : Float → Float → Float → Float) (v c b leaves : ℕ) (m : Memory)
     (box : BoundingBox) (boxed : box ≡ nodeBox g v) (below : c < cube (g .inner)) (ready : Ready (planWith g decide value) v c leaves m)
     (r : ℕ) (cubed : r ≡ cube (g .inner)) where
@@ -113,7 +109,7 @@ module _ (g : Grid) (decide : BoundingBox → List Float → Verdict) (value : F
     -- the child is active
     is-active : P .active v c ≡ true
     unfolding planWith
-    is-active = sym (turn-active P v c b leaves m ready below) ∙ nonzero-above (getD (m .kinds) (v * cube (g .inner) + c) 0) (λ e. above (kind-read ∙ e))
+    is-active = sym (turn-active P v c b leaves m ready below) ∙ nonzero-true (getD (m .kinds) (v * cube (g .inner) + c) 0) (λ e. above (kind-read ∙ e))
 
     -- the child's box
     lies-in : child ≡ childBox (nodeBox g v) (g .inner) c

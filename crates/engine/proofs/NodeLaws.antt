@@ -5,6 +5,7 @@ use mathlib.Core.Bool.{Bool, true, false, cond}
 use mathlib.Core.Logic.{_⊎_, ⊎-elim}
 use mathlib.Core.List.{List, []}
 use native.Mathlib.Nat.{mul-le-mul-left, mul-le-mul-right}
+use native.Mathlib.Numerals.{add-one}
 use native.Mathlib.Omega.{arith}
 use lib.ListN.{set, getD, length, take, drop, length-set, length-drop}
 use lib.Seq.{length-take-le}
@@ -31,6 +32,10 @@ use Rattle.schedule.specs.Opened.{ActiveKinds}
 use Rattle.schedule.proofs.Sums.{before-all, before-most}
 use Rattle.schedule.proofs.Next.{corner-evaluate, corner-last, node-first, node-last}
 use Rattle.engine.specs.declared.Progress.{Progress}
+use Rattle.engine.specs.declared.Standing.{Standing}
+use Rattle.engine.specs.declared.Visit.{Visit}
+use Rattle.engine.specs.declared.Turn.{Turn}
+use Rattle.engine.specs.declared.Turn.the-variants.{Stopped, Children}
 use Rattle.schedule.specs.declared.Cursor.{Cursor}
 use Rattle.schedule.specs.declared.Cursor.the-variants.{End, Corner, Point}
 use Rattle.engine.specs.declared.Stop.the-variants.{Through, At}
@@ -39,11 +44,19 @@ use Rattle.rows.specs.Inner.CornerRun.{CornerRun, neededFrom, evaluatedFrom}
 use Rattle.geometry.specs.Values as values
 use Rattle.plans.specs.Plan.{planWith, boxOf}
 use Rattle.engine.specs.Inner.Runs.{runOf}
-use Rattle.engine.specs.Inner.Progress.{Sized, Lent, afterStop, IfThrough, stateIn, Advanced, Ready, readingIn, leafProgress}
-use Rattle.engine.specs.Inner.Progress.{ZeroCorners, NodeAdvanced, Turned, Onward}
+use Rattle.engine.specs.Inner.Progress.{Sized, Lent, progress, stateIn, Advanced, Ready, readingIn, ZeroCorners, NodeAdvanced, leafProgress}
+use Rattle.engine.specs.Inner.Startable.{Startable}
+use Rattle.engine.specs.Inner.Turns.{Standable, Begun, Came, TurnMade}
 use Rattle.plans.proofs.NodeKinds.{part-needed}
 use Rattle.engine.proofs.RunLaws.{run-corners}
-use Rattle.engine.proofs.Turns.{progress, stopped, advanced-start, advanced-then, filledStore, turn-points}
+use Rattle.engine.proofs.Turns.{stopped, advanced-start, advanced-through, came-through, filledStore, turn-points}
+
+-- a standing and a visit by their parts
+abbrev standing : Cursor → (leaves left : ℕ) → Standing
+standing a leaves left = record { cursor = a; leaves = leaves; left = left }
+
+abbrev visit : ℕ → BoundingBox → (place leaves left : ℕ) → Visit
+visit v box place leaves left = record { node = v; bounds = box; place = place; leaves = leaves; left = left }
 
 -- ---- the kinds of one node
 
@@ -55,14 +68,14 @@ module _ (g : Grid) (decide : BoundingBox → List Float → Verdict) (value : F
 
   -- the run over the corners that one node's part needs is the plan's
   pub plan-corners : {box : BoundingBox} {i b next left : ℕ} {before after : List Float} → box ≡ nodeBox g v
-      → CornerRun (corners.needed (g .inner) (kinds.nonzero (take d (drop first l)))) (λ i. values.at value (corners.cornerPoint box (g .inner) i))
+      → CornerRun (corners.needed (g .inner) (kinds.nonzeroAt (take d (drop first l)))) (λ i. values.at value (corners.cornerPoint box (g .inner) i))
       (cube (g .inner + 1)) i b next left before after
       → CornerRun (R .needed v) (R .cornerValue v) (R .corners) i b next left before after
   unfolding planWith
   plan-corners {box} {i} {b} {next} {left} {before} {after} boxed run =
       subst (λ test. CornerRun test (R .cornerValue v) (cube (g .inner + 1)) i b next left before after)
       (fun-ext (part-needed g decide value l right long v below from size))
-      (subst (λ x. CornerRun (corners.needed (g .inner) (kinds.nonzero (take d (drop first l)))) (λ i. values.at value (corners.cornerPoint x (g .inner) i))
+      (subst (λ x. CornerRun (corners.needed (g .inner) (kinds.nonzeroAt (take d (drop first l)))) (λ i. values.at value (corners.cornerPoint x (g .inner) i))
       (cube (g .inner + 1)) i b next left before after) boxed run)
 
 -- ---- a run over a node's corners
@@ -142,51 +155,21 @@ nodes-end P v b leaves m m₁ from r last done =
     subst (λ n. Advanced P b leaves m m₁ from [] r n) (ap (λ u. activeBefore P u 0) last ∙ before-all P (P .active))
     (subst (λ es. Advanced P b leaves m m₁ from es r (activeBefore P v 0)) (node-last P v (omega arith)) done)
 
--- one node more
-pub node-after : (P : Plan) (v b leaves made left : ℕ) {m₀ m m₁ : Memory} {from : List Event} {r : Progress} {most : ℕ}
-    → Advanced P b leaves m₀ m from (nodesLeft P v) (progress made left Through) most → v < P .nodes → ZeroCorners m
-    → NodeAdvanced P v left made m m₁ (eventsFrom P (Corner v 0) (readingIn m)) r
-    → Advanced P b leaves m₀ m₁ from (nodesLeft P (suc v)) r (activeBefore P (suc v) 0)
-node-after P v b leaves made left {m₀} {m} {m₁} {from} {r} {most} done below cleared node =
-    advanced-then P
-    (subst (λ es. Advanced P b leaves m₀ m from es (progress made left Through) most) (node-begins P v m below cleared) done)
-    refl (node .advanced)
+-- fewer leaves than some are fewer than more
+pub advanced-most : (P : Plan) {b leaves made left most most₂ : ℕ} {m m₁ : Memory} {from to : List Event} → most ≤ most₂
+    → Advanced P b leaves m m₁ from to (progress made left Through) most → Advanced P b leaves m m₁ from to (progress made left Through) most₂
+advanced-most P more done = record { same = done .same; lent = done .lent; atMost = omega (arith, done .atMost) }
 
--- the nodes up to a number that is the same
-pub nodes-upto : (P : Plan) (v₁ v₂ b leaves : ℕ) {m₀ m : Memory} {from : List Event} {r : Progress} → v₁ ≡ v₂
-    → Advanced P b leaves m₀ m from (nodesLeft P v₁) r (activeBefore P v₁ 0) → Advanced P b leaves m₀ m from (nodesLeft P v₂) r (activeBefore P v₂ 0)
-nodes-upto P v₁ v₂ b leaves {m₀} {m} {from} {r} same = subst (λ v. Advanced P b leaves m₀ m from (nodesLeft P v) r (activeBefore P v 0)) same
-
--- a node's turn, and then all nodes after it
-pub turned : (P : Plan) (v : ℕ) {turn : Progress} {b leaves : ℕ} {m₀ m : Memory} {from : List Event}
-    → NodeAdvanced P v b leaves m₀ m from turn → Turned P v turn m
-turned P v node = record { lent = node .advanced .lent; atMost = node .advanced .atMost; cleared = node .cleared }
-
-module _ (P : Plan) (v : ℕ) {turn r : Progress} {m m₁ : Memory} where
-  pub node-onward : {b leaves : ℕ} {m₀ : Memory} {from : List Event} → NodeAdvanced P v b leaves m₀ m from turn → Onward P v turn m m₁ r
-      → Advanced P b leaves m₀ m₁ from [] r (activeAll P)
-  node-onward node on = record { same = node .advanced .same ∙ on .same; lent = on .lent; atMost = on .atMost }
-
-  pub onward-through : (n : ℕ) → turn .stop ≡ Through → n ≡ suc v → Advanced P (turn .left) (turn .leaves) m m₁ (nodesLeft P n) [] r (activeAll P)
-      → Onward P v turn m m₁ r
-  onward-through n through next rest = record {
-    same = ap (λ x. afterStop P (stateIn m (turn .leaves)) (turn .left) x (nodesLeft P (suc v))) through
-        ∙ ap (λ k. runOf P (turn .left) (nodesLeft P k) (stateIn m (turn .leaves))) (sym next) ∙ rest .same;
-    lent = rest .lent;
-    atMost = rest .atMost;
-  }
-
--- a turn that has stopped
-pub onward-stopped : (P : Plan) (v : ℕ) {turn : Progress} {m : Memory} (a : Cursor) → Turned P v turn m → turn .stop ≡ At a → Onward P v turn m m turn
-onward-stopped P v {turn} {m} a here stopped =
-    let to : (es : List Event) → afterStop P (stateIn m (turn .leaves)) (turn .left) (turn .stop) es
-    ≡ afterStop P (stateIn m (turn .leaves)) (turn .left) (At a) [] =
-    λ es. ap (λ x. afterStop P (stateIn m (turn .leaves)) (turn .left) x es) stopped in
-    record {
-      same = to (nodesLeft P (suc v)) ∙ sym (to []);
-      lent = here .lent;
-      atMost = subst (λ x. IfThrough x (turn .leaves ≤ activeAll P)) (sym stopped) tt;
-    }
+-- past a node's children the next node begins, with corners that are cleared
+pub node-next : (P : Plan) (v n b leaves : ℕ) {m m₁ : Memory} {from : List Event} {r : Progress} → NodeAdvanced P v b leaves m m₁ from r
+    → r .stop ≡ Through → n ≡ suc v → n < P .nodes
+    → Advanced P b leaves m m₁ from (eventsFrom P (Corner n 0) (readingIn m₁)) (progress (r .leaves) (r .left) Through) (activeBefore P n 0)
+node-next P v n b leaves {m} {m₁} {from} {r} node through next below =
+    let here : Advanced P b leaves m m₁ from (nodesLeft P n) (progress (r .leaves) (r .left) Through) (activeBefore P n 0) =
+    subst (λ u. Advanced P b leaves m m₁ from (nodesLeft P u) (progress (r .leaves) (r .left) Through) (activeBefore P u 0)) (sym next)
+    (advanced-through P (node .advanced) through) in
+    subst (λ es. Advanced P b leaves m m₁ from es (progress (r .leaves) (r .left) Through) (activeBefore P n 0))
+    (node-begins P n m₁ below (came-through _ (node .cleared) through)) here
 
 -- ---- the same, from what the code reads
 
@@ -209,7 +192,7 @@ part-long l first n fits =
 module _ (g : Grid) (decide : BoundingBox → List Float → Verdict) (value : Float → Float → Float → Float) (v i b leaves : ℕ) (m : Memory)
     (ready : Ready (planWith g decide value) v 0 leaves m) (n : ℕ) (cubed : n ≡ cube (g .inner))
     {box : BoundingBox} {next left : ℕ} {after : List Float} (boxed : box ≡ nodeBox g v)
-    (run : CornerRun (corners.needed (g .inner) (kinds.nonzero (take (v * n + n - v * n) (drop (v * n) (m .kinds)))))
+    (run : CornerRun (corners.needed (g .inner) (kinds.nonzeroAt (take (v * n + n - v * n) (drop (v * n) (m .kinds)))))
     (λ i. values.at value (corners.cornerPoint box (g .inner) i)) (cube (g .inner + 1)) i b next left (m .corners) after) where
   abbrev P : Plan
   P = planWith g decide value
@@ -222,17 +205,22 @@ module _ (g : Grid) (decide : BoundingBox → List Float → Verdict) (value : F
 
   -- the code's corners stop before one that is needed
   pub node-at-corner : next < cube (g .inner + 1)
-      → NodeAdvanced P v b leaves m (memoryOf (m .kinds) (m .numbers) (m .places) (m .store) after) (eventsFrom P (Corner v i) (readingIn m))
-      (progress leaves left (At (Corner v next)))
+      → Advanced P b leaves m (memoryOf (m .kinds) (m .numbers) (m .places) (m .store) after) (eventsFrom P (Corner v i) (readingIn m)) []
+      (progress leaves left (At (Corner v next))) (activeAll P)
   unfolding planWith
-  node-at-corner short = record { advanced = corners-stopped P v i b leaves next left m after (ready .lent) planned short; cleared = tt }
+  node-at-corner short = corners-stopped P v i b leaves next left m after (ready .lent) planned short
 
   -- or come to the children
   pub node-past-corners : PlanLaws P → cube (g .inner + 1) ≤ next
-      → Advanced P b leaves m (memoryOf (m .kinds) (m .numbers) (m .places) (m .store) after) (eventsFrom P (Corner v i) (readingIn m))
-      (childrenLeft P v 0 (readingIn (memoryOf (m .kinds) (m .numbers) (m .places) (m .store) after))) (progress leaves left Through) (activeBefore P v 0)
+      → Begun g P (standing (Corner v i) leaves b) m (memoryOf (m .kinds) (m .numbers) (m .places) (m .store) after) (visit v box 0 leaves left)
   unfolding planWith
-  node-past-corners laws last = corners-through P v i b leaves next left m after (ready .lent) planned laws (ready .node) last (ready .atMost)
+  node-past-corners laws last = record {
+    advanced = corners-through P v i b leaves next left m after (ready .lent) planned laws (ready .node) last (ready .atMost);
+    same = refl;
+    inside = ready .node;
+    place = omega arith;
+    boxed = boxed;
+  }
 
 module _ (g : Grid) (decide : BoundingBox → List Float → Verdict) (value : Float → Float → Float → Float) (v c p b leaves : ℕ) (m : Memory)
     (ready : Ready (planWith g decide value) v (suc c) leaves m) (below : c < cube (g .inner)) where
@@ -266,15 +254,45 @@ module _ (g : Grid) (decide : BoundingBox → List Float → Verdict) (value : F
       (eventsFrom Q (Point v c p) (readingIn m)) (childrenLeft Q v (suc c) (readingIn m)) t (activeBefore Q v (suc c))) (sym goes)
       (turn-points Q v c p b leaves m (ready .lent) (ready .atMost) within))
 
+  -- they come through to the children after it
+  pub node-past-points : {box : BoundingBox} {m₁ : Memory} {turn : Progress} → box ≡ nodeBox g v
+      → Advanced Q b leaves m m₁ (eventsFrom Q (Point v c p) (readingIn m)) (childrenLeft Q v (suc c) (readingIn m₁)) turn (activeBefore Q v (suc c))
+      → turn .stop ≡ Through → Begun g Q (standing (Point v c p) leaves b) m m₁ (visit v box (c + 1) (turn .leaves) (turn .left))
+  unfolding planWith
+  node-past-points {box} {m₁} {turn} boxed points through = record {
+    advanced = subst (λ n. Advanced Q b leaves m m₁ (eventsFrom Q (Point v c p) (readingIn m)) (childrenLeft Q v n (readingIn m₁))
+        (progress (turn .leaves) (turn .left) Through) (activeBefore Q v n)) (sym (add-one c)) (advanced-through Q points through);
+    same = refl;
+    inside = ready .node;
+    place = omega arith;
+    boxed = boxed;
+  }
+
 -- ---- from a cursor on
 
--- what is left at a cursor that is known
-pub at-cursor : (P : Plan) (a x : Cursor) (b leaves : ℕ) (m : Memory) {m₁ : Memory} {r : Progress} {most : ℕ} → a ≡ x
-    → Advanced P b leaves m m₁ (eventsFrom P x (readingIn m)) [] r most → Advanced P b leaves m m₁ (eventsFrom P a (readingIn m)) [] r most
-at-cursor P a x b leaves m {m₁} {r} {most} known = subst (λ y. Advanced P b leaves m m₁ (eventsFrom P y (readingIn m)) [] r most) (sym known)
+module _ (P : Plan) (at : Standing) {x : Cursor} (known : at .cursor ≡ x) where
+  -- a job that may go on at a cursor that is known
+  pub known-start : {m : Memory} → Standable P at m → Startable P x (at .leaves)
+  known-start ok = subst (λ y. Startable P y (at .leaves)) known (ok .startable)
+
+  -- what is left there
+  pub at-cursor : {m m₁ : Memory} {r : Progress} {most : ℕ} → Advanced P (at .left) (at .leaves) m m₁ (eventsFrom P x (readingIn m)) [] r most
+      → Advanced P (at .left) (at .leaves) m m₁ (eventsFrom P (at .cursor) (readingIn m)) [] r most
+  at-cursor {m} {m₁} {r} {most} = subst (λ y. Advanced P (at .left) (at .leaves) m m₁ (eventsFrom P y (readingIn m)) [] r most) (sym known)
+
+  pub begun-at : (g : Grid) {m m₁ : Memory} {w : Visit} → Begun g P (standing x (at .leaves) (at .left)) m m₁ w → Begun g P at m m₁ w
+  begun-at g {m} {m₁} {w} = subst (λ y. Begun g P (standing y (at .leaves) (at .left)) m m₁ w) (sym known)
 
 -- at the end nothing is left
 pub at-end : (P : Plan) (b leaves : ℕ) (m : Memory) → Lent P m → leaves ≤ activeAll P
     → Advanced P b leaves m m (eventsFrom P End (readingIn m)) [] (progress leaves b Through) (activeAll P)
 unfolding eventsFrom
 at-end P b leaves m lent most = advanced-start P b leaves m [] (activeAll P) lent most
+
+-- what a turn that is known has come to
+module _ {g : Grid} {P : Plan} {at : Standing} {m m₁ : Memory} {turn : Turn} (made : TurnMade g P at m m₁ turn) where
+  pub turn-stopped : {r : Progress} → turn ≡ Stopped r → Advanced P (at .left) (at .leaves) m m₁ (eventsFrom P (at .cursor) (readingIn m)) [] r (activeAll P)
+  turn-stopped known = subst (Came g P at m m₁) known (made .came)
+
+  pub turn-begun : {w : Visit} → turn ≡ Children w → Begun g P at m m₁ w
+  turn-begun known = subst (Came g P at m m₁) known (made .came)

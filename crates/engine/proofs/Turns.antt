@@ -31,21 +31,14 @@ use Rattle.engine.specs.declared.Stop.{Stop}
 use Rattle.engine.specs.declared.Stop.the-variants.{Through, At}
 use Rattle.schedule.specs.Lent.{memoryOf}
 use Rattle.engine.specs.Inner.Runs.{runOf}
-use Rattle.engine.specs.Inner.Progress.{Lent, afterStop, IfThrough, stateIn, Advanced, Ready, readingIn, ChildrenAdvanced, NodeAdvanced, leafProgress}
+use Rattle.engine.specs.Inner.Progress.{Lent, afterStop, IfThrough, progress, stateIn, readingIn, leafProgress}
+use Rattle.engine.specs.Inner.Progress.{Advanced, Ready, ChildrenAdvanced, NodeAdvanced}
 use Rattle.engine.proofs.RunLaws.{run-work, run-stop, run-points}
-
--- progress by its parts
-abbrev pub progress : ℕ → ℕ → Stop → Progress
-progress leaves left stop = record { leaves = leaves; left = left; stop = stop }
 
 -- a fact holds where a function has come through, if it holds at all
 pub if-through : {A : Type 0} (x : Stop) → A → IfThrough x A
 if-through Through a = a
 if-through (At c) a = tt
-
--- where a function has stopped, nothing is claimed of its end
-pub if-stopped : (A : Type 0) {x : Stop} (a : Cursor) → x ≡ At a → IfThrough x A
-if-stopped A a stop = subst (λ x. IfThrough x A) (sym stop) tt
 
 -- where it has come through, what is claimed holds
 pub came-through : (A : Type 0) {x : Stop} → IfThrough x A → x ≡ Through → A
@@ -225,11 +218,6 @@ module _ (P : Plan) where
           lent = points .lent;
           atMost = points .atMost;
         }
-
-  -- a node whose function has stopped
-  pub node-stopped : (v b leaves : ℕ) {m m₁ : Memory} {from mid : List Event} {r : Progress} {most : ℕ} (a : Cursor)
-      → Advanced P b leaves m m₁ from mid r most → r .stop ≡ At a → NodeAdvanced P v b leaves m m₁ from r
-  node-stopped v b leaves a first stop = record { advanced = advanced-stopped a first stop; cleared = if-stopped _ a stop }
 
   -- past its last child a node's corners are cleared
   pub turn-clear : (v b leaves c : ℕ) (m m₁ : Memory) (r : Progress) {cleared : List Float}

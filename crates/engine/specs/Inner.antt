@@ -2,3 +2,4 @@
 pub mod Runs
 pub mod Progress
 pub mod Startable
+pub mod Turns

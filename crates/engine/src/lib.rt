@@ -59,8 +59,8 @@ pub struct Progress {
     pub stop: Stop,
 }
 
-// A node whose turn has come to its end or stopped.
-pub struct Done {
-    pub node: usize,
-    pub turn: Progress,
+// The evaluations at a cursor have stopped, or come to the children of a node.
+pub enum Turn {
+    Stopped(Progress),
+    Children(Visit),
 }

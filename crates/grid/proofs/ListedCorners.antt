@@ -13,7 +13,7 @@ use Rattle.geometry.specs.Causes.{firstOf}
 use Rattle.lists.specs.Ranges.{anyBelow, countBelow, listBelow, among}
 use Rattle.grid.specs.Blocks.{isBlock, cube}
 use Rattle.grid.specs.Corners.{needed}
-use Rattle.grid.specs.CornerList.{nonzero, cornerListCauses, cornerListOf, CornersOnce}
+use Rattle.grid.specs.CornerList.{nonzeroAt, cornerListCauses, cornerListOf, CornersOnce}
 use Rattle.grid.specs.declared.CornerList.the-variants.{Count, Refused}
 use Rattle.grid.specs.Inner.CornerMarks.{neededTo, Marks, Gathered}
 use Rattle.lists.proofs.Ranges.{listBelow-cong, countBelow-cong, among-listBelow, no-repeat}
@@ -35,7 +35,7 @@ module _ (n : ℕ) (kinds : List ℕ) (list : ℕ) where
   answer-list block same short = rw (block, eq-eqb (length kinds) (cube n) same, lt-ltb list (cube (n + 1)) short) refl
 
   pub answer-count : isBlock n ≡ true → length kinds ≡ cube n → cube (n + 1) ≤ list
-      → cornerListOf n kinds list ≡ Count (countBelow (cube (n + 1)) (needed n (nonzero kinds)))
+      → cornerListOf n kinds list ≡ Count (countBelow (cube (n + 1)) (needed n (nonzeroAt kinds)))
   unfolding firstOf cornerListOf cornerListCauses
   answer-count block same long = rw (block, eq-eqb (length kinds) (cube n) same, le-ltb list (cube (n + 1)) long) refl
 
@@ -56,9 +56,9 @@ no-marks n kinds before list long e =
 
 module _ (n : ℕ) (kinds list : List ℕ) (m : Marks n kinds (cube n) list) where
   -- a mark stands where a corner is needed
-  marked-needed : (p : ℕ) → p < cube (n + 1) → nonzero list p ≡ needed n (nonzero kinds) p
-  unfolding nonzero needed neededTo
-  marked-needed p h = rw (m .marks p h) (bit (needed n (nonzero kinds) p))
+  marked-needed : (p : ℕ) → p < cube (n + 1) → nonzeroAt list p ≡ needed n (nonzeroAt kinds) p
+  unfolding nonzeroAt needed neededTo
+  marked-needed p h = rw (m .marks p h) (bit (needed n (nonzeroAt kinds) p))
     where
       bit : (b : Bool) → not (eqb (cond b 1 0) 0) ≡ b
       bit true = refl
@@ -71,33 +71,33 @@ module _ (n : ℕ) (kinds list : List ℕ) (m : Marks n kinds (cube n) list) whe
     pub kept : length listed ≡ length gathered
     kept = ap length z ∙ rest-length count 0 gathered (room gathered count g)
 
-    pub counted : count ≡ countBelow (cube (n + 1)) (needed n (nonzero kinds))
-    counted = g .counted ∙ countBelow-cong (cube (n + 1)) (nonzero list) (needed n (nonzero kinds)) marked-needed
+    pub counted : count ≡ countBelow (cube (n + 1)) (needed n (nonzeroAt kinds))
+    counted = g .counted ∙ countBelow-cong (cube (n + 1)) (nonzeroAt list) (needed n (nonzeroAt kinds)) marked-needed
 
-    in-front : take count listed ≡ listBelow (cube (n + 1)) (needed n (nonzero kinds))
+    in-front : take count listed ≡ listBelow (cube (n + 1)) (needed n (nonzeroAt kinds))
     in-front =
         ap (take count) z ∙ rest-front count 0 gathered (room gathered count g) ∙ g .front
-        ∙ listBelow-cong (cube (n + 1)) (nonzero list) (needed n (nonzero kinds)) marked-needed
+        ∙ listBelow-cong (cube (n + 1)) (nonzeroAt list) (needed n (nonzeroAt kinds)) marked-needed
 
-    element : (p : ℕ) → p < count → getD listed p 0 ≡ getD (listBelow (cube (n + 1)) (needed n (nonzero kinds))) p 0
+    element : (p : ℕ) → p < count → getD listed p 0 ≡ getD (listBelow (cube (n + 1)) (needed n (nonzeroAt kinds))) p 0
     element p h = sym (getD-take count listed p 0 h) ∙ ap (λ (l : List ℕ). getD l p 0) in-front
 
-    pub corners-once : CornersOnce (needed n (nonzero kinds)) count listed
+    pub corners-once : CornersOnce (needed n (nonzeroAt kinds)) count listed
     corners-once =
         record {
           within = omega (arith, room gathered count g, kept);
           exactly =
               λ corner.
               ap (among corner) in-front
-              ∙ among-listBelow (cube (n + 1)) (needed n (nonzero kinds)) corner
+              ∙ among-listBelow (cube (n + 1)) (needed n (nonzeroAt kinds)) corner
               ∙ below corner (ltb corner (cube (n + 1))) refl;
           once =
               λ p q hp hq same.
-              no-repeat (needed n (nonzero kinds)) (cube (n + 1)) p q (omega (arith, counted)) (omega (arith, counted))
+              no-repeat (needed n (nonzeroAt kinds)) (cube (n + 1)) p q (omega (arith, counted)) (omega (arith, counted))
               (sym (element p hp) ∙ same ∙ element q hq);
           rest = λ p behind. ap (λ (l : List ℕ). getD l p 0) z ∙ rest-same count 0 gathered (room gathered count g) p behind;
         }
       where
-        below : (corner : ℕ) (b : Bool) → ltb corner (cube (n + 1)) ≡ b → (b && needed n (nonzero kinds) corner) ≡ needed n (nonzero kinds) corner
+        below : (corner : ℕ) (b : Bool) → ltb corner (cube (n + 1)) ≡ b → (b && needed n (nonzeroAt kinds) corner) ≡ needed n (nonzeroAt kinds) corner
         below corner true t = refl
-        below corner false t = sym (needed-within n (nonzero kinds) corner (ltb-false corner (cube (n + 1)) t))
+        below corner false t = sym (needed-within n (nonzeroAt kinds) corner (ltb-false corner (cube (n + 1)) t))

@@ -18,18 +18,18 @@ use Rattle.lists.specs.Ranges.{anyBelow, among}
 use Rattle.grid.specs.Blocks.{cube}
 use Rattle.grid.specs.Boxes.{childIndices}
 use Rattle.grid.specs.Corners.{octet, needed}
-use Rattle.grid.specs.CornerList.{nonzero}
+use Rattle.grid.specs.CornerList.{nonzeroAt}
 use Rattle.grid.specs.Inner.CornerMarks.{marked, eightFrom, neededTo, Marks}
 use Rattle.lists.proofs.Ranges.{anyBelow-none}
 
 -- ---- whether an element is nonzero
 
-pub is-nonzero : (l : List ℕ) (p : ℕ) → (getD l p 0 ≡ 0 → ⊥) → nonzero l p ≡ true
-unfolding nonzero
+pub is-nonzero : (l : List ℕ) (p : ℕ) → (getD l p 0 ≡ 0 → ⊥) → nonzeroAt l p ≡ true
+unfolding nonzeroAt
 is-nonzero l p h = rw (ne-eqb _ _ h) refl
 
-pub is-zero : (l : List ℕ) (p : ℕ) → getD l p 0 ≡ 0 → nonzero l p ≡ false
-unfolding nonzero
+pub is-zero : (l : List ℕ) (p : ℕ) → getD l p 0 ≡ 0 → nonzeroAt l p ≡ false
+unfolding nonzeroAt
 is-zero l p h = rw (eq-eqb _ _ h) refl
 
 -- ---- marks in a list
@@ -145,7 +145,7 @@ needed-within n act corner past =
 -- ---- the marks of the children before c, and of c
 
 module _ (n : ℕ) (kinds : List ℕ) (c : ℕ) (list : List ℕ) (m : Marks n kinds c list) where
-  pub marks-more : nonzero kinds c ≡ true → Marks n kinds (suc c) (marked list (octet n c))
+  pub marks-more : nonzeroAt kinds c ≡ true → Marks n kinds (suc c) (marked list (octet n c))
   unfolding neededTo anyBelow
   marks-more active =
       record {
@@ -153,7 +153,7 @@ module _ (n : ℕ) (kinds : List ℕ) (c : ℕ) (list : List ℕ) (m : Marks n k
         marks =
             λ p h.
             getD-marked list (octet n c) p (omega (arith, m .long))
-            ∙ rw (m .marks p h, active) (joined (neededTo n (nonzero kinds) c p) (among p (octet n c)));
+            ∙ rw (m .marks p h, active) (joined (neededTo n (nonzeroAt kinds) c p) (among p (octet n c)));
       }
     where
       joined : (a b : Bool) → cond b 1 (cond {A = ℕ} a 1 0) ≡ cond (a || b) 1 0
@@ -162,12 +162,12 @@ module _ (n : ℕ) (kinds : List ℕ) (c : ℕ) (list : List ℕ) (m : Marks n k
       joined false true = refl
       joined false false = refl
 
-  pub marks-skip : nonzero kinds c ≡ false → Marks n kinds (suc c) list
+  pub marks-skip : nonzeroAt kinds c ≡ false → Marks n kinds (suc c) list
   unfolding neededTo anyBelow
   marks-skip inactive =
       record {
         long = m .long;
-        marks = λ p h. m .marks p h ∙ rw inactive (same (neededTo n (nonzero kinds) c p));
+        marks = λ p h. m .marks p h ∙ rw inactive (same (neededTo n (nonzeroAt kinds) c p));
       }
     where
       same : (a : Bool) → cond {A = ℕ} a 1 0 ≡ cond (a || false) 1 0

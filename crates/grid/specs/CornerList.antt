@@ -13,8 +13,8 @@ use Rattle.grid.specs.declared.CornerList.{CornerList}
 use Rattle.grid.specs.declared.CornerList.the-variants.{Count, Refused}
 
 -- the test for active children from one node's kinds: every kind but 0 is (rule G16)
-unfoldable pub nonzero : List ℕ → ℕ → Bool
-nonzero kinds c = not (eqb (getD kinds c 0) 0)
+unfoldable pub nonzeroAt : List ℕ → ℕ → Bool
+nonzeroAt kinds c = not (eqb (getD kinds c 0) 0)
 
 -- 2 for the block size, then 6 for the lengths of the kinds and of the list (rule G17)
 unfoldable pub cornerListCauses : (n kinds list : ℕ) → List Cause
@@ -26,7 +26,7 @@ unfoldable pub cornerListOf : ℕ → List ℕ → ℕ → CornerList
 cornerListOf n kinds list =
     firstOf (cornerListCauses n (length kinds) list)
     Refused
-    (Count (countBelow (cube (n + 1)) (needed n (nonzero kinds))))
+    (Count (countBelow (cube (n + 1)) (needed n (nonzeroAt kinds))))
 
 -- a list whose first `count` elements are the corners that pass a test, no one twice, in whatever order, and which is zero from there on
 -- (rule G16)
@@ -38,5 +38,5 @@ pub record CornersOnce (test : ℕ → Bool) (count : ℕ) (list : List ℕ) : T
 
 -- what the lent list holds after the answer: a refusal leaves it as it was (rules G16 and C54)
 abbrev pub HoldsCorners : CornerList → ℕ → (kinds before after : List ℕ) → Type 0
-HoldsCorners (Count count) n kinds before after = (length after ≡ length before) × CornersOnce (needed n (nonzero kinds)) count after
+HoldsCorners (Count count) n kinds before after = (length after ≡ length before) × CornersOnce (needed n (nonzeroAt kinds)) count after
 HoldsCorners (Refused number) n kinds before after = after ≡ before

@@ -5,7 +5,7 @@ ghost use lib.ListN.{length};
 ghost use Rattle.lists.specs.Ranges.{countBelow};
 ghost use Rattle.grid.specs.Blocks.{cube};
 ghost use Rattle.grid.specs.Corners.{needed};
-ghost use Rattle.grid.specs.CornerList.{nonzero, cornerListOf, CornersOnce, HoldsCorners};
+ghost use Rattle.grid.specs.CornerList.{nonzeroAt, cornerListOf, CornersOnce, HoldsCorners};
 ghost use Rattle.grid.specs.Inner.CornerMarks.{marked, eightFrom, Marks, Gathered};
 use crate::CornerList;
 use crate::blocks::cube_of;
@@ -81,8 +81,8 @@ fn gather(corners: usize, list: &mut [u32]) -> usize
 fn list_needed(n: usize, kinds: &[u8], list: &mut [u32]) -> usize
     requires { ⌜ (n ≤ 64) × (length (now kinds) ≡ cube n) × (cube (n + 1) ≤ length (now list)) ⌝ }
     ensures { λ r. ⌜ (length (now (list .exit)) ≡ length (now (list .entry)))
-        × (r ≡ countBelow (cube (n + 1)) (needed n (nonzero (now (kinds .entry)))))
-        × CornersOnce (needed n (nonzero (now (kinds .entry)))) r (now (list .exit)) ⌝ }
+        × (r ≡ countBelow (cube (n + 1)) (needed n (nonzeroAt (now (kinds .entry)))))
+        × CornersOnce (needed n (nonzeroAt (now (kinds .entry)))) r (now (list .exit)) ⌝ }
 {
     slices::zero_words(list);
     mark(n, kinds, list);

@@ -11,20 +11,27 @@ ghost use Rattle.grid.specs.Blocks.{cube};
 ghost use Rattle.grid.specs.Corners as corners;
 ghost use Rattle.grid.specs.Leaves.{leafPoint};
 ghost use Rattle.grid.specs.Inner.Octets.{octetValues};
-ghost use Rattle.grid.specs.Inner.Steps.{leafSteps, steppedPoint, cornerAt};
+ghost use Rattle.grid.specs.Inner.Steps.{leafSteps, stepFrom, steppedPoint, cornerAlong, cornerAt};
 use crate::nodes::steps_between;
 use geometry::BoundingBox;
 use geometry::Vec3;
 use geometry::Vec3i;
+
+// Corner i along an axis, with the step c.
+fn corner_along(origin: f64, c: f64, i: usize) -> f64
+    ensures { λ r. ⌜ r ≡ cornerAlong origin c i ⌝ }
+{
+    float::computed(origin + c * float::from_count(i as u64))
+}
 
 // The corner at (i, j, k), with the step c on all three axes.
 fn corner_at(origin: Vec3, c: f64, at: Vec3i) -> Vec3
     ensures { λ r. ⌜ r ≡ cornerAt origin c at ⌝ }
 {
     Vec3::new(
-        float::computed(origin.x + c * float::from_count(at.i as u64)),
-        float::computed(origin.y + c * float::from_count(at.j as u64)),
-        float::computed(origin.z + c * float::from_count(at.k as u64)),
+        corner_along(origin.x, c, at.i),
+        corner_along(origin.y, c, at.j),
+        corner_along(origin.z, c, at.k),
     )
 }
 
@@ -62,14 +69,21 @@ fn leaf_steps(b: BoundingBox, l: u32) -> Vec3
     )
 }
 
+// Point i along an axis of a leaf.
+fn step_from(min: f64, step: f64, i: usize) -> f64
+    ensures { λ r. ⌜ r ≡ stepFrom min step i ⌝ }
+{
+    float::computed(min + float::from_count(i as u64) * step)
+}
+
 // The point at (i, j, k).
 fn stepped_point(min: Vec3, steps: Vec3, at: Vec3i) -> Vec3
     ensures { λ r. ⌜ r ≡ steppedPoint min steps at ⌝ }
 {
     Vec3::new(
-        float::computed(min.x + float::from_count(at.i as u64) * steps.x),
-        float::computed(min.y + float::from_count(at.j as u64) * steps.y),
-        float::computed(min.z + float::from_count(at.k as u64) * steps.z),
+        step_from(min.x, steps.x, at.i),
+        step_from(min.y, steps.y, at.j),
+        step_from(min.z, steps.z, at.k),
     )
 }
 

@@ -1,1 +1,2 @@
 pub mod NodeKinds
+pub mod Parts

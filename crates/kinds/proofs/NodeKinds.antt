@@ -18,6 +18,7 @@ use Rattle.geometry.proofs.Inverse.{column-below, line-below}
 use Rattle.grid.specs.declared.Grid.{Grid}
 use Rattle.grid.specs.Blocks.{cube}
 use Rattle.grid.specs.Nodes.{sizeOf, nodeCounts, nodesOf}
+use Rattle.grid.specs.Limits.{childrenOf}
 use Rattle.grid.specs.Boxes.{active, childIndices}
 use Rattle.grid.specs.Inner.Activity.{axisActive}
 use Rattle.grid.proofs.Active.{by-axes}
@@ -40,7 +41,7 @@ module _ (g : Grid) (v : ℕ) (xs ys zs : List Bool) {s : Float} {nodes at : Vec
     (hx : (c : ℕ) → c < g .inner → tableTest xs c ≡ axisActive (g .bounds .min .x) (g .bounds .max .x) s (g .inner) (at .i) c)
     (hy : (c : ℕ) → c < g .inner → tableTest ys c ≡ axisActive (g .bounds .min .y) (g .bounds .max .y) s (g .inner) (at .j) c)
     (hz : (c : ℕ) → c < g .inner → tableTest zs c ≡ axisActive (g .bounds .min .z) (g .bounds .max .z) s (g .inner) (at .k) c) where
-  by-tables : (c : ℕ) → c < cube (g .inner) → nodeTest (g .inner) xs ys zs c ≡ active g v c
+  pub by-tables : (c : ℕ) → c < cube (g .inner) → nodeTest (g .inner) xs ys zs c ≡ active g v c
   unfolding indicesOf
   by-tables c h =
       let n = g .inner in
@@ -60,19 +61,23 @@ module _ (g : Grid) (v : ℕ) (xs ys zs : List Bool) {s : Float} {nodes at : Vec
       positive zero h = absurd (omega arith)
       positive (suc n) h = omega arith
 
+-- tables by which just the active children pass
+module _ (g : Grid) (v : ℕ) (xs ys zs : List Bool) (told : (c : ℕ) → c < cube (g .inner) → nodeTest (g .inner) xs ys zs c ≡ active g v c) where
   pub node-flags : flagsFrom (nodeTest (g .inner) xs ys zs) (cube (g .inner)) 0 ≡ flagsFrom (active g v) (cube (g .inner)) 0
-  node-flags = flags-cong (nodeTest (g .inner) xs ys zs) (active g v) (cube (g .inner)) 0 0 (λ c h. rw (zero-add c) (by-tables c h))
+  node-flags = flags-cong (nodeTest (g .inner) xs ys zs) (active g v) (cube (g .inner)) 0 0 (λ c h. rw (zero-add c) (told c h))
 
   pub node-agrees : (part : List ℕ) → length part ≡ cube (g .inner) → agreesFrom (nodeTest (g .inner) xs ys zs) 0 part ≡ agreesFrom (active g v) 0 part
-  node-agrees part long = agrees-cong (nodeTest (g .inner) xs ys zs) (active g v) 0 0 part (λ c h. rw (zero-add c) (by-tables c (omega arith)))
+  node-agrees part long = agrees-cong (nodeTest (g .inner) xs ys zs) (active g v) 0 0 part (λ c h. rw (zero-add c) (told c (omega arith)))
 
 -- ---- all kinds
 
-module _ (g : Grid) (total : ℕ) (e : total ≡ nodesOf g * cube (g .inner)) where
+module _ (g : Grid) (total : ℕ) (e : total ≡ childrenOf g) where
   in-nodes : (j : ℕ) → j < total → gridTest g j ≡ activeChild g j
+  unfolding childrenOf
   in-nodes j h = rw (lt-ltb j (nodesOf g * cube (g .inner)) (omega arith)) refl
 
   past-nodes : (j : ℕ) → total ≤ j → activeChild g j ≡ false
+  unfolding childrenOf
   past-nodes j h = rw (le-ltb j (nodesOf g * cube (g .inner)) (omega arith)) refl
 
   -- the kinds of all nodes, then zeros
@@ -85,11 +90,11 @@ module _ (g : Grid) (total : ℕ) (e : total ≡ nodesOf g * cube (g .inner)) wh
       (λ t. nodes t ++ tail t) ∙ sym (flags-append (activeChild g) total rest 0)
 
   -- a slice whose nodes are set, and which is then zeroed from there on
-  pub all-set : (l part rest : List ℕ) {r d : ℕ} → total ≤ length l → r ≡ total → part ≡ flagsFrom (gridTest g) r 0 → d ≡ length (part ++ drop total l) - total
+  pub all-set : (l part rest : List ℕ) {d : ℕ} → total ≤ length l → part ≡ flagsFrom (gridTest g) (childrenOf g) 0 → d ≡ length (part ++ drop total l) - total
       → rest ≡ replicate (length (take d (drop total (part ++ drop total l)))) 0
       → putMid total d (part ++ drop total l) rest ≡ flagsFrom (activeChild g) (length l) 0
-  all-set l part rest {r} {d} long hr hp hd hrest =
-      let flags : part ≡ flagsFrom (gridTest g) total 0 = hp ∙ ap (λ (k : ℕ). flagsFrom (gridTest g) k 0) hr in
+  all-set l part rest {d} long hp hd hrest =
+      let flags : part ≡ flagsFrom (gridTest g) total 0 = hp ∙ ap (λ (k : ℕ). flagsFrom (gridTest g) k 0) (sym e) in
       let size : length part ≡ total = ap length flags ∙ length-flags (gridTest g) total 0 in
       let front : take total (part ++ drop total l) ≡ part = take-at part (drop total l) total size in
       let back : drop total (part ++ drop total l) ≡ drop total l = drop-at part (drop total l) total size in

@@ -8,7 +8,7 @@ ghost use Rattle.grid.specs.Blocks.{cube};
 ghost use Rattle.grid.specs.Boxes.{active};
 ghost use Rattle.grid.specs.Limits.{refusedByTwo, refusedByFive, childrenOf};
 ghost use Rattle.kinds.specs.Inner.Tables.{tableTest, slabTest, nodeTest, gridTest, activeChild};
-use crate::tables::axis_table;
+use crate::tables::node_tables;
 use grid::Grid;
 
 // Whether no kind is that of an active child.
@@ -86,23 +86,19 @@ fn node_right(g: Grid, v: usize, part: &[u8]) -> bool
     requires { ⌜ (g .inner ≤ 64) × (length (now part) ≡ cube (g .inner)) ⌝ }
     ensures { λ r. ⌜ r ≡ agreesFrom (active g v) 0 (now (part .entry)) ⌝ }
 {
-    let min = g.bounds.min;
-    let max = g.bounds.max;
-    let n = g.inner;
-    let s = grid::node_size(g.cell, n, g.leaf);
-    let nodes = grid::node_counts(g);
-    let at = geometry::indices(v, nodes.i, nodes.j);
-    let xs = axis_table(min.x, max.x, s, n, at.i);
-    let ys = axis_table(min.y, max.y, s, n, at.j);
-    let zs = axis_table(min.z, max.z, s, n, at.k);
-    slabs_right(n as usize, &xs, &ys, &zs, part)
+    let tables = node_tables(g, v);
+    let xs = tables.xs;
+    let ys = tables.ys;
+    let zs = tables.zs;
+    slabs_right(g.inner as usize, &xs, &ys, &zs, part)
 }
 
-// Whether those of the first nodes are, each in its own part of the slice.
-fn nodes_right(g: Grid, nodes: usize, kinds: &[u8]) -> bool
-    requires { ⌜ (g .inner ≤ 64) × (length (now kinds) ≡ nodes * cube (g .inner)) ⌝ }
+// Whether those of all nodes are, each in its own part of the slice.
+fn nodes_right(g: Grid, kinds: &[u8]) -> bool
+    requires { ⌜ (refusedByTwo g ≡ false) × (refusedByFive g ≡ false) × (length (now kinds) ≡ childrenOf g) ⌝ }
     ensures { λ r. ⌜ r ≡ agreesFrom (gridTest g) 0 (now (kinds .entry)) ⌝ }
 {
+    let nodes = grid::node_total(g);
     let children = grid::cube_of(g.inner as usize);
     let mut v: usize = 0;
     while v < nodes {
@@ -121,9 +117,8 @@ pub fn kinds_right(g: Grid, kinds: &[u8]) -> bool
     requires { ⌜ (refusedByTwo g ≡ false) × (refusedByFive g ≡ false) × (childrenOf g ≤ length (now kinds)) ⌝ }
     ensures { λ r. ⌜ r ≡ agreesFrom (activeChild g) 0 (now (kinds .entry)) ⌝ }
 {
-    let nodes = grid::node_total(g);
     let total = grid::child_total(g);
-    if !nodes_right(g, nodes, &kinds[..total]) {
+    if !nodes_right(g, &kinds[..total]) {
         return false;
     }
     all_zero(&kinds[total..])

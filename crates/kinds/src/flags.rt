@@ -9,7 +9,7 @@ ghost use Rattle.grid.specs.Blocks.{cube};
 ghost use Rattle.grid.specs.Boxes.{active};
 ghost use Rattle.grid.specs.Limits.{refusedByTwo, refusedByFive, childrenOf};
 ghost use Rattle.kinds.specs.Inner.Tables.{tableTest, slabTest, nodeTest, gridTest, activeChild};
-use crate::tables::axis_table;
+use crate::tables::node_tables;
 use grid::Grid;
 
 // The kind that open gives a child.
@@ -76,23 +76,19 @@ fn set_node(g: Grid, v: usize, part: &mut [u8])
     requires { ⌜ (g .inner ≤ 64) × (length (now part) ≡ cube (g .inner)) ⌝ }
     ensures { λ _. ⌜ now (part .exit) ≡ flagsFrom (active g v) (cube (g .inner)) 0 ⌝ }
 {
-    let min = g.bounds.min;
-    let max = g.bounds.max;
-    let n = g.inner;
-    let s = grid::node_size(g.cell, n, g.leaf);
-    let nodes = grid::node_counts(g);
-    let at = geometry::indices(v, nodes.i, nodes.j);
-    let xs = axis_table(min.x, max.x, s, n, at.i);
-    let ys = axis_table(min.y, max.y, s, n, at.j);
-    let zs = axis_table(min.z, max.z, s, n, at.k);
-    set_slabs(n as usize, &xs, &ys, &zs, part);
+    let tables = node_tables(g, v);
+    let xs = tables.xs;
+    let ys = tables.ys;
+    let zs = tables.zs;
+    set_slabs(g.inner as usize, &xs, &ys, &zs, part);
 }
 
-// Sets those of the first nodes, each through its own part of the slice.
-fn set_nodes(g: Grid, nodes: usize, kinds: &mut [u8])
-    requires { ⌜ (g .inner ≤ 64) × (length (now kinds) ≡ nodes * cube (g .inner)) ⌝ }
-    ensures { λ _. ⌜ now (kinds .exit) ≡ flagsFrom (gridTest g) (nodes * cube (g .inner)) 0 ⌝ }
+// Sets those of all nodes, each through its own part of the slice.
+fn set_nodes(g: Grid, kinds: &mut [u8])
+    requires { ⌜ (refusedByTwo g ≡ false) × (refusedByFive g ≡ false) × (length (now kinds) ≡ childrenOf g) ⌝ }
+    ensures { λ _. ⌜ now (kinds .exit) ≡ flagsFrom (gridTest g) (childrenOf g) 0 ⌝ }
 {
+    let nodes = grid::node_total(g);
     let children = grid::cube_of(g.inner as usize);
     let mut v: usize = 0;
     while v < nodes {
@@ -108,8 +104,7 @@ pub fn set_kinds(g: Grid, kinds: &mut [u8])
     requires { ⌜ (refusedByTwo g ≡ false) × (refusedByFive g ≡ false) × (childrenOf g ≤ length (now kinds)) ⌝ }
     ensures { λ _. ⌜ now (kinds .exit) ≡ flagsFrom (activeChild g) (length (now (kinds .entry))) 0 ⌝ }
 {
-    let nodes = grid::node_total(g);
     let total = grid::child_total(g);
-    set_nodes(g, nodes, &mut kinds[..total]);
+    set_nodes(g, &mut kinds[..total]);
     slices::zero_bytes(&mut kinds[total..]);
 }

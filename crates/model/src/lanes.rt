@@ -11,6 +11,7 @@ ghost use Rattle.geometry.specs.Distance.{distanceSquaredOf};
 ghost use Rattle.model.specs.Part.{past, sphereValue, planeValue};
 ghost use Rattle.model.specs.Inner.Lanes.{laneAt, filledRow};
 use super::point;
+use geometry::Vec3;
 
 pub fn fill_constant(values: &mut [f64; 4096], p: usize, n: usize, w: f64)
     requires { ⌜ (p < 64) × (n ≤ 64) ⌝ }
@@ -26,16 +27,17 @@ pub fn fill_plane(
     px: &[f64; 64],
     py: &[f64; 64],
     pz: &[f64; 64],
-    nx: f64,
-    ny: f64,
-    nz: f64,
+    normal: Vec3,
     d: f64,
 )
     requires { ⌜ (p < 64) × (n ≤ 64) ⌝ }
     ensures { λ _. ⌜ now (values .exit)
         ≡ filledRow (now (values .entry)) p n
-        (λ k. planeValue (vec3 nx ny nz) d (getD (now (px .entry)) k past) (getD (now (py .entry)) k past) (getD (now (pz .entry)) k past)) ⌝ }
+        (λ k. planeValue normal d (getD (now (px .entry)) k past) (getD (now (py .entry)) k past) (getD (now (pz .entry)) k past)) ⌝ }
 {
+    let nx = normal.x;
+    let ny = normal.y;
+    let nz = normal.z;
     let row = p * 64;
     let mut i: usize = 0;
     while i < n {
@@ -138,15 +140,16 @@ pub fn fill_squares(
     px: &[f64; 64],
     py: &[f64; 64],
     pz: &[f64; 64],
-    cx: f64,
-    cy: f64,
-    cz: f64,
+    c: Vec3,
 )
     requires { ⌜ (p < 64) × (n ≤ 64) ⌝ }
     ensures { λ _. ⌜ now (values .exit)
         ≡ filledRow (now (values .entry)) p n
-        (λ k. distanceSquaredOf (vec3 cx cy cz) (getD (now (px .entry)) k past) (getD (now (py .entry)) k past) (getD (now (pz .entry)) k past)) ⌝ }
+        (λ k. distanceSquaredOf c (getD (now (px .entry)) k past) (getD (now (py .entry)) k past) (getD (now (pz .entry)) k past)) ⌝ }
 {
+    let cx = c.x;
+    let cy = c.y;
+    let cz = c.z;
     let row = p * 64;
     let mut i: usize = 0;
     while i < n {
@@ -177,7 +180,7 @@ pub fn take_radius(values: &mut [f64; 4096], p: usize, n: usize, r: f64)
     }
 }
 
-// The distance to a sphere's centre (cx, cy, cz), less its radius, at each lane.
+// The distance to a sphere's centre c, less its radius, at each lane.
 pub fn fill_sphere(
     values: &mut [f64; 4096],
     p: usize,
@@ -185,17 +188,15 @@ pub fn fill_sphere(
     px: &[f64; 64],
     py: &[f64; 64],
     pz: &[f64; 64],
-    cx: f64,
-    cy: f64,
-    cz: f64,
+    c: Vec3,
     r: f64,
 )
     requires { ⌜ (p < 64) × (n ≤ 64) ⌝ }
     ensures { λ _. ⌜ now (values .exit)
         ≡ filledRow (now (values .entry)) p n
-        (λ k. sphereValue (vec3 cx cy cz) r (getD (now (px .entry)) k past) (getD (now (py .entry)) k past) (getD (now (pz .entry)) k past)) ⌝ }
+        (λ k. sphereValue c r (getD (now (px .entry)) k past) (getD (now (py .entry)) k past) (getD (now (pz .entry)) k past)) ⌝ }
 {
-    fill_squares(values, p, n, px, py, pz, cx, cy, cz);
+    fill_squares(values, p, n, px, py, pz, c);
     take_roots(values, p, n);
     take_radius(values, p, n, r);
 }

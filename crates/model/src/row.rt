@@ -4,7 +4,7 @@ ghost use Prim.Native.Nat.{_≤_, _<_};
 ghost use lib.ListN.{length, getD};
 ghost use Rattle.lists.specs.Filled.{filled};
 ghost use Rattle.model.specs.Part.{past, partValue};
-ghost use Rattle.model.specs.Flat.{flatIn, partFrom, placed, partAt};
+ghost use Rattle.model.specs.Flat.{flatIn, partFrom, placed};
 ghost use Rattle.model.specs.Row.{evaluatedRows};
 ghost use Rattle.model.specs.Inner.Lanes.{laneAt, filledRow, lane};
 use super::codes;
@@ -14,7 +14,7 @@ use super::layout::Entry;
 
 // The row of the part at place p, from its entries and the rows of the parts before it. Its inputs are tested once, and
 // each kind has its own loop.
-pub fn fill_entry(
+fn fill_entry(
     entry: Entry,
     p: usize,
     px: &[f64; 64],
@@ -39,11 +39,11 @@ pub fn fill_entry(
         return;
     }
     if code == codes::SPHERE {
-        lanes::fill_sphere(values, p, n, px, py, pz, v.x, v.y, v.z, w);
+        lanes::fill_sphere(values, p, n, px, py, pz, v, w);
         return;
     }
     if code == codes::PLANE {
-        lanes::fill_plane(values, p, n, px, py, pz, v.x, v.y, v.z, w);
+        lanes::fill_plane(values, p, n, px, py, pz, v, w);
         return;
     }
     if a >= p {
@@ -77,27 +77,6 @@ pub fn fill_entry(
     lanes::fill_constant(values, p, n, 0.0);
 }
 
-// The row of the part at place p of the flat arrays.
-pub fn fill_part(
-    words: &[u32; 192],
-    numbers: &[f64; 256],
-    p: usize,
-    px: &[f64; 64],
-    py: &[f64; 64],
-    pz: &[f64; 64],
-    n: usize,
-    values: &mut [f64; 4096],
-)
-    requires { ⌜ (p < 64) × (n ≤ 64) ⌝ }
-    ensures { λ _. ⌜ now (values .exit)
-        ≡ filledRow (now (values .entry)) p n
-        (λ k. partValue (partAt (flatIn words numbers) p) (getD (now (px .entry)) k past) (getD (now (py .entry)) k past)
-        (getD (now (pz .entry)) k past) (lane (now (values .entry)) k p)) ⌝ }
-{
-    let entry = layout::entry_at(words, numbers, p);
-    fill_entry(entry, p, px, py, pz, n, values);
-}
-
 // The rows of the first `count` parts, in order.
 pub fn fill_parts(
     words: &[u32; 192],
@@ -115,7 +94,8 @@ pub fn fill_parts(
 {
     let mut p: usize = 0;
     while p < count {
-        fill_part(words, numbers, p, px, py, pz, n, values);
+        let entry = layout::entry_at(words, numbers, p);
+        fill_entry(entry, p, px, py, pz, n, values);
         p += 1;
     }
 }

@@ -47,8 +47,8 @@ module _ (g : Grid) (decide : BoundingBox → List Float → Verdict) (value : F
     (long : nodesOf g * cube (g .inner) ≤ length l) (v : ℕ) (below : v < nodesOf g) {first d : ℕ} (from : first ≡ v * cube (g .inner))
     (size : d ≡ cube (g .inner)) where
   -- a kind of the part is nonzero exactly where the child is active
-  pub part-active : (c : ℕ) → c < cube (g .inner) → kinds.nonzero (take d (drop first l)) c ≡ active g v c
-  unfolding kinds.nonzero planWith
+  pub part-active : (c : ℕ) → c < cube (g .inner) → kinds.nonzeroAt (take d (drop first l)) c ≡ active g v c
+  unfolding kinds.nonzeroAt planWith
   part-active c h =
       let n : ℕ = cube (g .inner) in
       let inside : v * n + c < nodesOf g * n = omega (arith, mul-le-mul-right n below) in
@@ -57,6 +57,6 @@ module _ (g : Grid) (decide : BoundingBox → List Float → Verdict) (value : F
       ap (λ k. not (eqb k 0)) read ∙ nonzero-eqb (getD l (v * n + c) 0) ∙ right (v * n + c) (omega arith) ∙ active-at (planWith g decide value) v c below h
 
   -- so a corner is needed by the part exactly where it is by the plan
-  pub part-needed : (corner : ℕ) → corners.needed (g .inner) (kinds.nonzero (take d (drop first l))) corner ≡ planWith g decide value .needed v corner
+  pub part-needed : (corner : ℕ) → corners.needed (g .inner) (kinds.nonzeroAt (take d (drop first l))) corner ≡ planWith g decide value .needed v corner
   unfolding planWith
   part-needed corner = needed-cong (g .inner) _ (active g v) part-active corner

@@ -5,7 +5,7 @@ ghost use lib.ListN.{length, getD};
 ghost use Rattle.geometry.specs.Values.{vec3i, at};
 ghost use Rattle.grid.specs.Blocks.{cube};
 ghost use Rattle.grid.specs.Corners.{needed, cornerPoint};
-ghost use Rattle.grid.specs.CornerList.{nonzero};
+ghost use Rattle.grid.specs.CornerList.{nonzeroAt};
 ghost use Rattle.rows.specs.Inner.Around.{rowHas, slabHas, around};
 ghost use Rattle.rows.specs.Inner.CornerRun.{CornerRun};
 ghost use Rattle.rows.specs.Inner.FlatValue.{valueIn};
@@ -29,7 +29,7 @@ pub struct CornersEnd {
 // Whether one of the two children at i of a row is active. The row starts at child `first`.
 fn row_has(n: usize, kinds: &[u8], first: usize, i: usize) -> bool
     requires { ⌜ (i ≤ n) × (first + n ≤ length (now kinds)) ⌝ }
-    ensures { λ r. ⌜ r ≡ rowHas n (nonzero (now (kinds .entry))) first i ⌝ }
+    ensures { λ r. ⌜ r ≡ rowHas n (nonzeroAt (now (kinds .entry))) first i ⌝ }
 {
     if i > 0 {
         if kinds[first + (i - 1)] != 0 {
@@ -45,7 +45,7 @@ fn row_has(n: usize, kinds: &[u8], first: usize, i: usize) -> bool
 // Whether one of the four children at (i, j) of a slab is active. The slab starts at child `first`.
 fn slab_has(n: usize, kinds: &[u8], first: usize, i: usize, j: usize) -> bool
     requires { ⌜ (n ≤ 64) × (i ≤ n) × (j ≤ n) × (first + n * n ≤ length (now kinds)) ⌝ }
-    ensures { λ r. ⌜ r ≡ slabHas n (nonzero (now (kinds .entry))) first i j ⌝ }
+    ensures { λ r. ⌜ r ≡ slabHas n (nonzeroAt (now (kinds .entry))) first i j ⌝ }
 {
     if j > 0 {
         if row_has(n, kinds, first + (j - 1) * n, i) {
@@ -61,7 +61,7 @@ fn slab_has(n: usize, kinds: &[u8], first: usize, i: usize, j: usize) -> bool
 // Whether one of the eight children around the corner at (i, j, k) is active.
 fn has_child(n: usize, kinds: &[u8], i: usize, j: usize, k: usize) -> bool
     requires { ⌜ (n ≤ 64) × (i ≤ n) × (j ≤ n) × (k ≤ n) × (length (now kinds) ≡ cube n) ⌝ }
-    ensures { λ r. ⌜ r ≡ around n (nonzero (now (kinds .entry))) (vec3i i j k) ⌝ }
+    ensures { λ r. ⌜ r ≡ around n (nonzeroAt (now (kinds .entry))) (vec3i i j k) ⌝ }
 {
     if k > 0 {
         if slab_has(n, kinds, (k - 1) * n * n, i, j) {
@@ -77,7 +77,7 @@ fn has_child(n: usize, kinds: &[u8], i: usize, j: usize, k: usize) -> bool
 // Whether an active child has the corner, by the kinds of one node.
 pub fn is_needed(n: u32, kinds: &[u8], corner: usize) -> bool
     requires { ⌜ (0 < n) × (n ≤ 64) × (length (now kinds) ≡ cube n) × (corner < cube (n + 1)) ⌝ }
-    ensures { λ r. ⌜ r ≡ needed n (nonzero (now (kinds .entry))) corner ⌝ }
+    ensures { λ r. ⌜ r ≡ needed n (nonzeroAt (now (kinds .entry))) corner ⌝ }
 {
     let side = n as usize;
     let at = geometry::indices(corner, side + 1, side + 1);
@@ -88,7 +88,7 @@ pub fn is_needed(n: u32, kinds: &[u8], corner: usize) -> bool
 // corner or past the last. The indices go along, so that no corner needs a division.
 fn gather(n: usize, kinds: &[u8], i: usize, most: usize, list: &mut [u32]) -> Found
     requires { ⌜ (0 < n) × (n ≤ 64) × (length (now kinds) ≡ cube n) × (i ≤ cube (n + 1)) × (most ≤ length (now list)) ⌝ }
-    ensures { λ r. ⌜ Gathered (needed n (nonzero (now (kinds .entry)))) (cube (n + 1)) i most (r .count) (r .next) (now (list .exit)) ⌝ }
+    ensures { λ r. ⌜ Gathered (needed n (nonzeroAt (now (kinds .entry)))) (cube (n + 1)) i most (r .count) (r .next) (now (list .exit)) ⌝ }
 {
     let side = n + 1;
     let total = grid::cube_of(side);
@@ -144,7 +144,7 @@ pub fn run_corners(
     corners: &mut [f64],
 ) -> CornersEnd
     requires { ⌜ (0 < n) × (n ≤ 64) × (length (now kinds) ≡ cube n) × (cube (n + 1) ≤ length (now corners)) × (i ≤ cube (n + 1)) × (parts ≤ 64) ⌝ }
-    ensures { λ r. ⌜ CornerRun (needed n (nonzero (now (kinds .entry)))) (λ c. at (valueIn words reals parts) (cornerPoint b n c)) (cube (n + 1)) i budget
+    ensures { λ r. ⌜ CornerRun (needed n (nonzeroAt (now (kinds .entry)))) (λ c. at (valueIn words reals parts) (cornerPoint b n c)) (cube (n + 1)) i budget
         (r .next) (r .left) (now (corners .entry)) (now (corners .exit)) ⌝ }
 {
     let side = n as usize;

@@ -100,21 +100,11 @@ pub fn fill_points(
     let mut t = 0;
     while t < made {
         let first = p + t;
-        let count = allowed((made - t) as u64, 64);
-        place_points(l, first, count, &axes, &mut xs, &mut ys, &mut zs);
-        model::evaluate_row_into(
-            words,
-            reals,
-            parts,
-            &xs,
-            &ys,
-            &zs,
-            count,
-            scratch,
-            &mut values,
-        );
-        copy_row(&values, count, first, stretch);
-        t += count;
+        let n = allowed((made - t) as u64, 64);
+        place_points(l, first, n, &axes, &mut xs, &mut ys, &mut zs);
+        model::evaluate_row_into(words, reals, parts, &xs, &ys, &zs, n, scratch, &mut values);
+        copy_row(&values, n, first, stretch);
+        t += n;
     }
     p + made
 }

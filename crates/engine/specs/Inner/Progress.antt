@@ -3,7 +3,7 @@ use Prim.Native.Nat.{ℕ, suc, _+_, _*_, _-_, _≤_, _<_, min}
 use mathlib.Core.Bool.{cond}
 use lib.Dec.{ltb}
 use mathlib.Core.Path.{_≡_}
-use mathlib.Core.List.{List, []}
+use mathlib.Core.List.{List}
 use denote.Ref.{now}
 use lib.ListN.{length, getD}
 use lib.Ieee.{Float}
@@ -65,6 +65,10 @@ abbrev pub IfThrough : Stop → Type 0 → Type 0
 IfThrough Through A = A
 IfThrough (At a) A = Unit {0}
 
+-- progress by its parts
+abbrev pub progress : ℕ → ℕ → Stop → Progress
+progress leaves left stop = record { leaves = leaves; left = left; stop = stop }
+
 -- a state by its memory and its leaves
 abbrev pub stateIn : Memory → ℕ → State
 stateIn m leaves = record { memory = m; leaves = leaves }
@@ -99,19 +103,6 @@ ZeroCorners m = (i : ℕ) → readingIn m i ≡ plusZero
 pub record NodeAdvanced (P : Plan) (v b leaves : ℕ) (m m′ : Memory) (from : List Event) (r : Progress) : Type 0 where
   pub advanced : Advanced P b leaves m m′ from (nodesLeft P (suc v)) r (activeBefore P (suc v) 0)
   pub cleared : IfThrough (r .stop) (ZeroCorners m′)
-
--- node v's turn has come to memory m: if it has come through, few leaves are there and the corners are cleared
-pub record Turned (P : Plan) (v : ℕ) (turn : Progress) (m : Memory) : Type 0 where
-  pub lent : Lent P m
-  pub atMost : IfThrough (turn .stop) (turn .leaves ≤ activeBefore P (suc v) 0)
-  pub cleared : IfThrough (turn .stop) (ZeroCorners m)
-
--- after that turn, all nodes after node v
-pub record Onward (P : Plan) (v : ℕ) (turn : Progress) (m m′ : Memory) (r : Progress) : Type 0 where
-  pub same : afterStop P (stateIn m (turn .leaves)) (turn .left) (turn .stop) (nodesLeft P (suc v))
-      ≡ afterStop P (stateIn m′ (r .leaves)) (r .left) (r .stop) []
-  pub lent : Lent P m′
-  pub atMost : IfThrough (r .stop) (r .leaves ≤ activeAll P)
 
 -- points of a leaf from p on: how far a budget goes
 unfoldable pub leafProgress : (leaves b v c p points : ℕ) → Progress

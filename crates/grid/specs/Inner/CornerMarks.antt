@@ -7,7 +7,7 @@ use lib.ListN.{length, getD, take, set}
 use Rattle.lists.specs.Ranges.{anyBelow, countBelow, listBelow, among}
 use Rattle.grid.specs.Blocks.{cube}
 use Rattle.grid.specs.Corners.{octet}
-use Rattle.grid.specs.CornerList.{nonzero}
+use Rattle.grid.specs.CornerList.{nonzeroAt}
 
 -- a 1 at each of some places
 unfoldable pub marked : List ℕ → List ℕ → List ℕ
@@ -26,11 +26,11 @@ neededTo n act c corner = anyBelow c (λ c. act c && among corner (octet n c))
 -- a 1 at each corner that the children before c need, and a 0 at the others
 pub record Marks (n : ℕ) (kinds : List ℕ) (c : ℕ) (list : List ℕ) : Type 0 where
   pub long : cube (n + 1) ≤ length list
-  pub marks : (p : ℕ) → p < cube (n + 1) → getD list p 0 ≡ cond (neededTo n (nonzero kinds) c p) 1 0
+  pub marks : (p : ℕ) → p < cube (n + 1) → getD list p 0 ≡ cond (neededTo n (nonzeroAt kinds) c p) 1 0
 
 -- a list that begins with the places below n that were nonzero, in a row
 pub record Gathered (n : ℕ) (before after : List ℕ) (count : ℕ) : Type 0 where
   pub kept : length after ≡ length before
   pub few : count ≤ n
-  pub counted : count ≡ countBelow n (nonzero before)
-  pub front : take count after ≡ listBelow n (nonzero before)
+  pub counted : count ≡ countBelow n (nonzeroAt before)
+  pub front : take count after ≡ listBelow n (nonzeroAt before)

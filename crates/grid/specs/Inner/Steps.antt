@@ -16,18 +16,17 @@ leafSteps b l =
     (stepAlong (b .min .y) (b .max .y) (l - 1))
     (stepAlong (b .min .z) (b .max .z) (l - 1))
 
--- so many steps from a box's min, on each axis (rule G15)
+-- so many steps from a box's min: on one axis, and on each (rule G15)
+abbrev pub stepFrom : (min step : Float) → ℕ → Float
+stepFrom min step i = add binary64 min (mul binary64 (asFloat i) step)
+
 unfoldable pub steppedPoint : (min steps : Vec3) → Vec3i → Vec3
 steppedPoint min steps at =
-    vec3
-    (add binary64 (min .x) (mul binary64 (asFloat (at .i)) (steps .x)))
-    (add binary64 (min .y) (mul binary64 (asFloat (at .j)) (steps .y)))
-    (add binary64 (min .z) (mul binary64 (asFloat (at .k)) (steps .z)))
+    vec3 (stepFrom (min .x) (steps .x) (at .i)) (stepFrom (min .y) (steps .y) (at .j)) (stepFrom (min .z) (steps .z) (at .k))
 
--- so many steps of one size from an origin, on each axis (rule G8)
+-- so many steps of one size from an origin: on one axis, and on each (rule G8)
+abbrev pub cornerAlong : (origin c : Float) → ℕ → Float
+cornerAlong origin c i = add binary64 origin (mul binary64 c (asFloat i))
+
 unfoldable pub cornerAt : (origin : Vec3) → (c : Float) → Vec3i → Vec3
-cornerAt origin c at =
-    vec3
-    (add binary64 (origin .x) (mul binary64 c (asFloat (at .i))))
-    (add binary64 (origin .y) (mul binary64 c (asFloat (at .j))))
-    (add binary64 (origin .z) (mul binary64 c (asFloat (at .k))))
+cornerAt origin c at = vec3 (cornerAlong (origin .x) c (at .i)) (cornerAlong (origin .y) c (at .j)) (cornerAlong (origin .z) c (at .k))

@@ -15,12 +15,18 @@ abbrev pub tableTest : List Bool → ℕ → Bool
 tableTest t i = getD t i false
 
 -- the children of a slab, from the tables of two axes: n rows of n
+abbrev pub rowTest : (xs ys : List Bool) → (j i : ℕ) → Bool
+rowTest xs ys j i = tableTest ys j && tableTest xs i
+
 abbrev pub slabTest : ℕ → (xs ys : List Bool) → ℕ → Bool
-slabTest n xs ys = inRows n (λ j i. tableTest ys j && tableTest xs i)
+slabTest n xs ys = inRows n (rowTest xs ys)
 
 -- the children of a node, from the tables of three axes: n slabs of n * n
+abbrev pub slabsTest : ℕ → (xs ys zs : List Bool) → (k p : ℕ) → Bool
+slabsTest n xs ys zs k p = tableTest zs k && slabTest n xs ys p
+
 abbrev pub nodeTest : ℕ → (xs ys zs : List Bool) → ℕ → Bool
-nodeTest n xs ys zs = inRows (n * n) (λ k p. tableTest zs k && slabTest n xs ys p)
+nodeTest n xs ys zs = inRows (n * n) (slabsTest n xs ys zs)
 
 -- the children of all nodes: a row of n³ for each
 abbrev pub gridTest : Grid → ℕ → Bool

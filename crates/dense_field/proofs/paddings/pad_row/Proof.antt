@@ -13,34 +13,19 @@ within-of : (s : tie.Start) → Within (s .args .n) (s .args .j) (s .args .k) (l
 within-of s = within (s .pre .0) (s .args .j) (s .args .k) (omega arith) (omega arith)
 
 mul-at : tie.Need-mul-at
-mul-at c =
-    let s = c .before .before in
-    let w = within-of s in
-    omega arith
+mul-at c = omega (arith, within-of (c .before .before))
 
 mul-at-2 : tie.Need-mul-at-2
-mul-at-2 c =
-    let s = c .before .before in
-    let w = within-of s in
-    omega arith
+mul-at-2 c = omega (arith, within-of (c .before .before))
 
 mul-at-3 : tie.Need-mul-at-3
-mul-at-3 c =
-    let s = c .before .before in
-    let w = within-of s in
-    omega arith
+mul-at-3 c = omega (arith, within-of (c .before .before))
 
 add-at : tie.Need-add-at
-add-at c =
-    let s = c .before .before in
-    let w = within-of s in
-    omega arith
+add-at c = omega (arith, within-of (c .before .before))
 
 fill-floats-requires : tie.Need-fill-floats-requires
-fill-floats-requires c κs =
-    let s = c .before .before .before .before in
-    let w = within-of s in
-    omega arith
+fill-floats-requires c κs = omega (arith, within-of (c .before .before .before .before))
 
 same-length : tie.Need-same-length
 same-length c = search needs
@@ -55,10 +40,7 @@ add-if2 : tie.Need-add-if2
 add-if2 c = search needs
 
 fill-floats-requires-2 : tie.Need-fill-floats-requires-2
-fill-floats-requires-2 c κs =
-    let s = c .before .before .before .before .before .before in
-    let w = within-of s in
-    omega arith
+fill-floats-requires-2 c κs = omega (arith, within-of (c .before .before .before .before .before .before))
 
 same-length-2 : tie.Need-same-length-2
 same-length-2 c = search needs
@@ -70,34 +52,19 @@ returns-2 c =
     (c .before .before .fill-floats2 .ensures)
 
 mul-values : tie.Need-mul-values
-mul-values c =
-    let s = c .before .before .before .before .before in
-    let w = within-of s in
-    omega arith
+mul-values c = omega (arith, within-of (c .before .before .before .before .before))
 
 slice-write-values : tie.Need-slice-write-values
-slice-write-values c =
-    let s = c .before .before .before .before .before in
-    let w = within-of s in
-    omega arith
+slice-write-values c = omega (arith, within-of (c .before .before .before .before .before))
 
 sub-values : tie.Need-sub-values
-sub-values c =
-    let s = c .before .before .before .before .before in
-    let w = within-of s in
-    omega arith
+sub-values c = omega (arith, within-of (c .before .before .before .before .before))
 
 add-values : tie.Need-add-values
-add-values c =
-    let s = c .before .before .before .before .before in
-    let w = within-of s in
-    omega arith
+add-values c = omega (arith, within-of (c .before .before .before .before .before))
 
 mul-values-2 : tie.Need-mul-values-2
-mul-values-2 c =
-    let s = c .before .before .before .before .before in
-    let w = within-of s in
-    omega arith
+mul-values-2 c = omega (arith, within-of (c .before .before .before .before .before))
 
 slice-write-values-2 : tie.Need-slice-write-values-2
 slice-write-values-2 c =

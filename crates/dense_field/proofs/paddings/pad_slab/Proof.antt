@@ -26,22 +26,13 @@ within-of : (s : tie.Start Inv-loop μ-loop) → Within (s .args .n) 0 (s .args 
 within-of s = within (s .pre .0) 0 (s .args .k) (s .pre .0 .y-above) (omega arith)
 
 mul-slab : tie.Need-mul-slab Inv-loop μ-loop
-mul-slab c =
-    let s = c .before .before in
-    let w = within-of s in
-    omega arith
+mul-slab c = omega (arith, within-of (c .before .before))
 
 mul-fill-floats : tie.Need-mul-fill-floats Inv-loop μ-loop
-mul-fill-floats c =
-    let s = c .before .before .before .before in
-    let w = within-of s in
-    omega arith
+mul-fill-floats c = omega (arith, within-of (c .before .before .before .before))
 
 fill-floats-requires : tie.Need-fill-floats-requires Inv-loop μ-loop
-fill-floats-requires c κs =
-    let s = c .before .before .before .before in
-    let w = within-of s in
-    omega arith
+fill-floats-requires c κs = omega (arith, within-of (c .before .before .before .before))
 
 same-length : tie.Need-same-length Inv-loop μ-loop
 same-length c = search needs
@@ -55,16 +46,10 @@ add-if2 : tie.Need-add-if2 Inv-loop μ-loop
 add-if2 c = search needs
 
 mul-fill-floats-2 : tie.Need-mul-fill-floats-2 Inv-loop μ-loop
-mul-fill-floats-2 c =
-    let s = c .before .before .before .before .before .before in
-    let w = within-of s in
-    omega arith
+mul-fill-floats-2 c = omega (arith, within-of (c .before .before .before .before .before .before))
 
 fill-floats-requires-2 : tie.Need-fill-floats-requires-2 Inv-loop μ-loop
-fill-floats-requires-2 c κs =
-    let s = c .before .before .before .before .before .before in
-    let w = within-of s in
-    omega arith
+fill-floats-requires-2 c κs = omega (arith, within-of (c .before .before .before .before .before .before))
 
 same-length-2 : tie.Need-same-length-2 Inv-loop μ-loop
 same-length-2 c = search needs

@@ -17,33 +17,20 @@ within-of : (s : tie.Start) → Within (s .args .n) (s .args .j) (s .args .k) (l
 within-of s = within (s .pre .0 .0) (s .args .j) (s .args .k) (omega arith) (omega arith)
 
 mul-at : tie.Need-mul-at
-mul-at c =
-    let s = c .before .before .before in
-    let w = within-of s in
-    omega arith
+mul-at c = omega (arith, within-of (c .before .before .before))
 
 mul-at-2 : tie.Need-mul-at-2
-mul-at-2 c =
-    let s = c .before .before .before in
-    let w = within-of s in
-    omega arith
+mul-at-2 c = omega (arith, within-of (c .before .before .before))
 
 mul-at-3 : tie.Need-mul-at-3
-mul-at-3 c =
-    let s = c .before .before .before in
-    let w = within-of s in
-    omega arith
+mul-at-3 c = omega (arith, within-of (c .before .before .before))
 
 add-at : tie.Need-add-at
-add-at c =
-    let s = c .before .before .before in
-    let w = within-of s in
-    omega arith
+add-at c = omega (arith, within-of (c .before .before .before))
 
 copy-values-requires : tie.Need-copy-values-requires
 copy-values-requires c κs =
-    let s = c .before .before .before .before .before in
-    let w = within-of s in
+    let w = within-of (c .before .before .before .before .before) in
     (omega arith, omega arith)
 
 same-length : tie.Need-same-length
@@ -56,8 +43,7 @@ returns c =
 
 copy-values-requires-2 : tie.Need-copy-values-requires-2
 copy-values-requires-2 c κs =
-    let s = c .before .before .before .before .before .before in
-    let w = within-of s in
+    let w = within-of (c .before .before .before .before .before .before) in
     (omega arith, omega arith)
 
 same-length-2 : tie.Need-same-length-2
@@ -74,8 +60,7 @@ add-if3 c = search needs
 
 copy-values-requires-3 : tie.Need-copy-values-requires-3
 copy-values-requires-3 c κs =
-    let s = c .before .before .before .before .before .before .before .before in
-    let w = within-of s in
+    let w = within-of (c .before .before .before .before .before .before .before .before) in
     (omega arith, omega arith)
 
 same-length-3 : tie.Need-same-length-3
@@ -88,15 +73,11 @@ returns-3 c =
 
 copy-values-requires-4 : tie.Need-copy-values-requires-4
 copy-values-requires-4 c κs =
-    let s = c .before .before .before .before .before .before .before .before in
-    let w = within-of s in
+    let w = within-of (c .before .before .before .before .before .before .before .before) in
     (omega arith, omega arith)
 
 add-blend-values : tie.Need-add-blend-values
-add-blend-values c =
-    let s = c .before .before .before .before .before .before .before .before .before .before .before .before in
-    let w = within-of s in
-    omega arith
+add-blend-values c = omega (arith, within-of (c .before .before .before .before .before .before .before .before .before .before .before .before))
 
 sub-blend-values : tie.Need-sub-blend-values
 sub-blend-values c = search needs
@@ -117,8 +98,7 @@ blend-values-requires c κs =
 add-copy-values : tie.Need-add-copy-values
 add-copy-values c =
     let s = c .before .before .before .before .before .before .before .before .before .before .before .before .before .before .before .before in
-    let w = within-of s in
-    omega arith
+    omega (arith, within-of s)
 
 sub-copy-values : tie.Need-sub-copy-values
 sub-copy-values c = search needs
@@ -126,8 +106,7 @@ sub-copy-values c = search needs
 add-copy-values-2 : tie.Need-add-copy-values-2
 add-copy-values-2 c =
     let s = c .before .before .before .before .before .before .before .before .before .before .before .before .before .before .before .before in
-    let w = within-of s in
-    omega arith
+    omega (arith, within-of s)
 
 copy-values-requires-5 : tie.Need-copy-values-requires-5
 copy-values-requires-5 c κs =

@@ -26,21 +26,14 @@ within-of : (s : tie.Start Inv-loop μ-loop) → Within (s .args .n) 0 (s .args 
 within-of s = within (s .pre .0 .0) 0 (s .args .k) (s .pre .0 .0 .y-above) (omega arith)
 
 mul-slab : tie.Need-mul-slab Inv-loop μ-loop
-mul-slab c =
-    let s = c .before .before .before in
-    let w = within-of s in
-    omega arith
+mul-slab c = omega (arith, within-of (c .before .before .before))
 
 mul-copy-values : tie.Need-mul-copy-values Inv-loop μ-loop
-mul-copy-values c =
-    let s = c .before .before .before .before .before in
-    let w = within-of s in
-    omega arith
+mul-copy-values c = omega (arith, within-of (c .before .before .before .before .before))
 
 copy-values-requires : tie.Need-copy-values-requires Inv-loop μ-loop
 copy-values-requires c κs =
-    let s = c .before .before .before .before .before in
-    let w = within-of s in
+    let w = within-of (c .before .before .before .before .before) in
     (omega arith, omega arith)
 
 same-length : tie.Need-same-length Inv-loop μ-loop
@@ -55,15 +48,11 @@ add-if2 : tie.Need-add-if2 Inv-loop μ-loop
 add-if2 c = search needs
 
 mul-copy-values-2 : tie.Need-mul-copy-values-2 Inv-loop μ-loop
-mul-copy-values-2 c =
-    let s = c .before .before .before .before .before .before .before in
-    let w = within-of s in
-    omega arith
+mul-copy-values-2 c = omega (arith, within-of (c .before .before .before .before .before .before .before))
 
 copy-values-requires-2 : tie.Need-copy-values-requires-2 Inv-loop μ-loop
 copy-values-requires-2 c κs =
-    let s = c .before .before .before .before .before .before .before in
-    let w = within-of s in
+    let w = within-of (c .before .before .before .before .before .before .before) in
     (omega arith, omega arith)
 
 same-length-2 : tie.Need-same-length-2 Inv-loop μ-loop

@@ -1,43 +1,26 @@
--- `walks::cell_step` meets its contract: each test is the cause that it stands for.
+-- `walks::cell_step` meets its contract: a cell by how the walk stands.
 use mathlib.Core.Path.{sym, ap₂, _∙_}
 use native.Mathlib.Omega.{arith}
 use borrow.Author.Needs.{needs}
-use borrow.Author.Tests.{lt-ltb, le-ltb}
-use Rattle.geometry.specs.Causes.{firstOf}
 use Rattle.geometry.specs.Values.{box}
-use Rattle.dense_field.specs.Walks.{cellStep, walkCell}
+use Rattle.dense_field.specs.Walks.{walkCell}
 use Rattle.dense_field.specs.declared.CellStep.the-variants.{Cell}
 use Rattle.dense_field.proofs.WalkLaws.{walk-passed}
+use Rattle.dense_field.proofs.StandLaws.{cell-by, stand-passed}
 use Rattle.dense_field.proofs.walks.cell_step.Statement.{statement}
 use Rattle.dense_field.proofs.walks.cell_step.Tie as tie
 
-box-refused-requires : tie.Need-box-refused-requires
-box-refused-requires c κs = search needs
+stand-at-requires : tie.Need-stand-at-requires
+stand-at-requires c κs = search needs
 
-returns : tie.Need-returns
-unfolding firstOf cellStep
-returns c = simp (sym (c .before .box-refused .ensures) ∙ c .if1 .taken)
+enum-known-stand : tie.Need-enum-known-stand
+enum-known-stand c = search needs
 
-walk-refused-requires : tie.Need-walk-refused-requires
-walk-refused-requires c κs = search needs
+enum-told : tie.Need-enum-told
+enum-told c = search needs
 
-returns-2 : tie.Need-returns-2
-unfolding firstOf cellStep
-returns-2 c =
-    simp (
-      sym (c .before .before .before .box-refused .ensures) ∙ c .before .before .if1 .left,
-      sym (c .before .walk-refused .ensures) ∙ c .if2 .taken,
-    )
-
-returns-3 : tie.Need-returns-3
-unfolding firstOf cellStep
-returns-3 c =
-    simp (
-      sym (c .before .before .before .before .before .before .box-refused .ensures)
-          ∙ c .before .before .before .before .before .if1 .left,
-      sym (c .before .before .before .before .walk-refused .ensures) ∙ c .before .before .before .if2 .left,
-      le-ltb _ _ (c .if3 .taken),
-    )
+enum-told-2 : tie.Need-enum-told-2
+enum-told-2 c = search needs
 
 cell-min-requires : tie.Need-cell-min-requires
 cell-min-requires c κs = search needs
@@ -50,38 +33,38 @@ new-requires c κs = search needs
 
 next-indices-requires : tie.Need-next-indices-requires
 next-indices-requires c κs =
-    let walk =
-    walk-passed _ _ _
-    (sym (c .before .before .before .before .before .before .before .walk-refused .ensures)
-    ∙ c .before .before .before .before .before .before .if2 .left) in
-    (omega arith, omega arith, omega arith)
+    let told = c .before .before .before in
+    let passed = stand-passed _ _ _ _ (told .before .before .stand-at .ensures) (told .enum-told2 .given .1) in
+    let walk = walk-passed _ _ _ (passed .0) in
+    (omega arith, omega arith, omega (arith, told .before .before .before .good))
 
-returns-4 : tie.Need-returns-4
-unfolding firstOf cellStep walkCell
-returns-4 c =
+returns : tie.Need-returns
+returns c = sym (cell-by _ _ _ (c .before .before .before .stand-at .ensures) (c .before .stand .given .1))
+
+returns-2 : tie.Need-returns-2
+returns-2 c = sym (cell-by _ _ _ (c .before .before .stand-at .ensures) (c .enum-told .given .1))
+
+returns-3 : tie.Need-returns-3
+unfolding walkCell
+returns-3 c =
     let low = c .before .before .before .cell-min .ensures in
     let high = c .before .before .cell-max .ensures in
-    simp (
-      sym
-          (c .before .before .before .before .before .before .before .before .before .before .box-refused .ensures)
-          ∙ c .before .before .before .before .before .before .before .before .before .if1 .left,
-      sym (c .before .before .before .before .before .before .before .before .walk-refused .ensures)
-          ∙ c .before .before .before .before .before .before .before .if2 .left,
-      lt-ltb _ _ (c .before .before .before .before .if3 .left),
-    )
-    (ap₂ Cell (c .before .new .ensures ∙ (λ i. box (low i) (high i))) (c .next-indices .ensures))
+    let told = c .before .before .before .before in
+    ap₂ Cell (c .before .new .ensures ∙ (λ i. box (low i) (high i))) (c .next-indices .ensures)
+    ∙ sym (cell-by _ _ _ (told .before .before .stand-at .ensures) (told .enum-told2 .given .1))
 
 pub cell-step-spec : {M : Type 1} → statement M
 cell-step-spec =
     tie.close
     (tie.spec
-    box-refused-requires
-    returns
-    walk-refused-requires
-    returns-2
-    returns-3
+    stand-at-requires
+    enum-known-stand
+    enum-told
+    enum-told-2
     cell-min-requires
     cell-max-requires
     new-requires
     next-indices-requires
-    returns-4)
+    returns
+    returns-2
+    returns-3)

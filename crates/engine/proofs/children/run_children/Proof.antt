@@ -8,8 +8,8 @@ use borrow.Author.Needs.{needs}
 use Rattle.grid.specs.Blocks.{cube}
 use Rattle.engine.specs.declared.Stop.the-variants.{Through}
 use Rattle.schedule.specs.Lent.{memoryOf}
-use Rattle.engine.specs.Inner.Progress.{plan, ChildrenAdvanced}
-use Rattle.engine.proofs.Turns.{progress, advanced-start, advanced-through, advanced-then, advanced-stopped, children-upto}
+use Rattle.engine.specs.Inner.Progress.{plan, progress, ChildrenAdvanced}
+use Rattle.engine.proofs.Turns.{advanced-start, advanced-through, advanced-then, advanced-stopped, children-upto}
 use Rattle.engine.proofs.children.run_children.Statement.{statement}
 use Rattle.engine.proofs.children.run_children.Tie as tie
 

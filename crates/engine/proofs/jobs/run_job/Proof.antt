@@ -34,10 +34,9 @@ run-from-requires c κs =
     let o = c .before .before .before .before .before .before .before .before .before .before .before in
     let s = start o in
     let a = s .args in
-    let same = same-plan (a .input) _ _ (s .pre .0 .1) (o .lay-out .ensures .1) (o .lay-out .ensures .0) in (
-      (s .pre .0 .0, count-le (a .input .model) (s .pre .0 .1)),
-      subst (λ P. Lent P (memory s) × Startable P (a .cursor) (a .leaves) × (a .leaves ≤ activeAll P)) same (s .pre .1),
-    )
+    let same = same-plan (a .input) _ _ (s .pre .0 .1) (o .lay-out .ensures .1) (o .lay-out .ensures .0) in
+    let ok = subst (λ P. Lent P (memory s) × Startable P (a .cursor) (a .leaves) × (a .leaves ≤ activeAll P)) same (s .pre .1) in
+    ((s .pre .0 .0, count-le (a .input .model) (s .pre .0 .1)), record { lent = ok .0; startable = ok .1; few = ok .2 })
 
 same-length : tie.Need-same-length
 same-length c = search needs

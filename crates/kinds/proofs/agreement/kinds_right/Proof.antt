@@ -1,14 +1,10 @@
 -- `kinds_right` meets its contract: the kinds of all nodes, and those past them.
-use mathlib.Core.Path.{_≡_, sym, ap, _∙_}
-use Prim.Native.Nat.{ℕ, _*_, _≤_}
+use mathlib.Core.Path.{sym, _∙_}
+use Prim.Native.Nat.{ℕ, _≤_}
 use native.Mathlib.Omega.{arith}
 use lib.ListN.{length}
 use lib.Seq.{length-take-le}
 use borrow.Author.Tests.{not-true, not-false}
-use Rattle.grid.specs.Blocks.{cube}
-use Rattle.grid.specs.Nodes.{nodesOf}
-use Rattle.grid.specs.Limits.{childrenOf}
-use Rattle.grid.proofs.LimitLaws.{inner-block, few-nodes, nodes-few}
 use Rattle.kinds.proofs.NodeKinds.{all-differ, all-agree}
 use borrow.Author.Needs.{needs}
 use Rattle.kinds.proofs.agreement.kinds_right.Statement.{statement}
@@ -17,18 +13,10 @@ use Rattle.kinds.proofs.agreement.kinds_right.Tie as tie
 -- ---- where the number of all children is known
 
 abbrev start : tie.After-child-total → tie.Start
-start p = p .before .before .before
+start p = p .before .before
 
 abbrev total : tie.After-child-total → ℕ
 total p = p .child-total .result
-
--- all children are those of the nodes
-all : (p : tie.After-child-total) → total p ≡ nodesOf (start p .args .g) * cube (start p .args .g .inner)
-unfolding childrenOf
-all p = p .child-total .ensures
-
-of-nodes : (p : tie.After-child-total) → total p ≡ p .before .node-total .result * cube (start p .args .g .inner)
-of-nodes p = all p ∙ ap (λ (n : ℕ). n * cube (start p .args .g .inner)) (sym (p .before .node-total .ensures))
 
 -- they are inside the slice
 long : (p : tie.After-child-total) → total p ≤ length (start p .args .kinds .now)
@@ -36,11 +24,8 @@ long p = omega (arith, p .child-total .ensures, start p .pre .2)
 
 -- ---- what is left
 
-node-total-requires : tie.Need-node-total-requires
-node-total-requires c κs = omega (arith, nodes-few _ (few-nodes _ (c .before .pre .1)))
-
 child-total-requires : tie.Need-child-total-requires
-child-total-requires c κs = let p = c .before .before .pre in (p .0, p .1)
+child-total-requires c κs = (c .before .pre .0, c .before .pre .1)
 
 slice-aggregate-nodes-right : tie.Need-slice-aggregate-nodes-right
 slice-aggregate-nodes-right c = sym (length-take-le (total (c .before)) _ (long (c .before)))
@@ -48,13 +33,13 @@ slice-aggregate-nodes-right c = sym (length-take-le (total (c .before)) _ (long 
 nodes-right-requires : tie.Need-nodes-right-requires
 nodes-right-requires c κs =
     let p = c .before in
-    (inner-block _ (start p .pre .0) .most, length-take-le (total p) _ (long p) ∙ of-nodes p)
+    (start p .pre .0, start p .pre .1, length-take-le (total p) _ (long p) ∙ p .child-total .ensures)
 
 returns : tie.Need-returns
 returns c =
     let p = c .before .before .before in
     let a = start p .args in
-    all-differ (a .g) (total p) (all p) (a .kinds .now) (long p) (sym (c .before .nodes-right .ensures) ∙ not-true _ (c .if1 .taken))
+    all-differ (a .g) (total p) (p .child-total .ensures) (a .kinds .now) (long p) (sym (c .before .nodes-right .ensures) ∙ not-true _ (c .if1 .taken))
 
 sub-all-zero : tie.Need-sub-all-zero
 sub-all-zero c = let within = long (c .before .before .before) in search needs
@@ -74,13 +59,13 @@ returns-2 c =
     let p = tested .before .before .before in
     let a = start p .args in
     c .all-zero .ensures
-    ∙ all-agree (a .g) (total p) (all p) (a .kinds .now) (long p) (sym (tested .before .nodes-right .ensures) ∙ not-false _ (tested .if1 .left))
+    ∙ all-agree (a .g) (total p) (p .child-total .ensures) (a .kinds .now) (long p)
+    (sym (tested .before .nodes-right .ensures) ∙ not-false _ (tested .if1 .left))
 
 pub kinds-right-spec : {M : Type 1} → statement M
 kinds-right-spec =
     tie.close
     (tie.spec
-    node-total-requires
     child-total-requires
     slice-aggregate-nodes-right
     nodes-right-requires

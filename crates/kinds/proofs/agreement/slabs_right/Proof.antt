@@ -1,15 +1,16 @@
 -- `slabs_right` meets its contract: the slabs passed so far are right.
 use mathlib.Core.Path.{_≡_, sym, _∙_}
-use mathlib.Core.Bool.{Bool, true, _&&_}
+use mathlib.Core.Bool.{Bool, true}
 use Prim.Native.Nat.{ℕ, _+_, _*_, _-_, _≤_}
-use native.Mathlib.Nat.{zero-mul, mul-assoc, mul-le-mul-right}
+use native.Mathlib.Nat.{zero-mul}
 use native.Mathlib.Omega.{arith}
-use lib.ListN.{take, length-take, length-drop}
+use lib.ListN.{length, take}
 use borrow.Author.Tests.{not-true, not-false}
 use Rattle.grid.proofs.BlockLaws.{square-le}
 use Rattle.lists.specs.Flags.{agreesFrom}
-use Rattle.kinds.specs.Inner.Tables.{tableTest, slabTest, nodeTest}
-use Rattle.lists.proofs.Flags.{agrees-none, agrees-all, row-below, rows-agree, rows-differ}
+use Rattle.kinds.specs.Inner.Tables.{slabsTest, nodeTest}
+use Rattle.lists.proofs.Flags.{agrees-none}
+use Rattle.kinds.proofs.Parts.{of-slabs, part-inside, part-long, part-right, part-wrong, parts-right}
 use borrow.Author.Needs.{needs}
 use Rattle.kinds.proofs.agreement.slabs_right.Statement.{statement}
 use Rattle.kinds.proofs.agreement.slabs_right.Tie as tie
@@ -20,6 +21,28 @@ Inv-loop n xs ys zs part area k₀ k = (k ≤ n) × (agreesFrom (nodeTest n xs y
 abbrev μ-loop : tie.MeasureT-loop
 μ-loop n xs ys zs part area k₀ k = n - k
 
+-- ---- in the loop
+
+abbrev start : tie.At-loop Inv-loop μ-loop → tie.Start Inv-loop μ-loop
+start l = l .before .before
+
+-- the node's part is n slabs
+whole : (s : tie.Start Inv-loop μ-loop) → length (s .args .part .now) ≡ s .args .n * (s .args .n * s .args .n)
+whole s = of-slabs (s .args .n) (s .args .part .now) (s .pre .1)
+
+-- the slab ends inside it
+inside : (t : tie.In-loop Inv-loop μ-loop) → let n = start (t .before) .args .n in
+    t .before .loop .k * (n * n) + n * n ≤ length (start (t .before) .args .part .now)
+inside t =
+    let s = start (t .before) in
+    part-inside (s .args .n * s .args .n) (s .args .n) (t .before .loop .k) (s .args .part .now) (whole s) (omega arith)
+
+-- the test of a slab's children
+abbrev test : tie.Start Inv-loop μ-loop → ℕ → ℕ → Bool
+test s = slabsTest (s .args .n) (s .args .xs .now) (s .args .ys .now) (s .args .zs .now)
+
+-- ---- what is left
+
 mul-area : tie.Need-mul-area Inv-loop μ-loop
 mul-area c = let a = c .before .args in omega (arith, square-le 64 (a .n) (c .before .pre .0))
 
@@ -29,22 +52,10 @@ loop-holds c =
     (search needs, rw (zero-mul (a .n * a .n)) (agrees-none (nodeTest (a .n) (a .xs .now) (a .ys .now) (a .zs .now)) (a .part .now)))
 
 mul-from : tie.Need-mul-from Inv-loop μ-loop
-mul-from c =
-    let b = c .before in
-    let a = b .before .before .args in
-    let area = a .n * a .n in
-    let below : b .loop .k * area + area ≤ a .n * area = row-below area (b .loop .k) (a .n) (omega arith) in
-    let whole : a .n * area ≡ a .n * a .n * a .n = sym (mul-assoc (a .n) (a .n) (a .n)) in
-    omega arith
+mul-from c = omega (arith, inside c)
 
 add-to : tie.Need-add-to Inv-loop μ-loop
-add-to c =
-    let b = c .before in
-    let a = b .before .before .args in
-    let area = a .n * a .n in
-    let below : b .loop .k * area + area ≤ a .n * area = row-below area (b .loop .k) (a .n) (omega arith) in
-    let whole : a .n * area ≡ a .n * a .n * a .n = sym (mul-assoc (a .n) (a .n) (a .n)) in
-    omega arith
+add-to c = omega (arith, inside c)
 
 element-copy-out-slab-right : tie.Need-element-copy-out-slab-right Inv-loop μ-loop
 element-copy-out-slab-right c = search needs
@@ -56,36 +67,20 @@ part-slab-right-start : tie.Need-part-slab-right-start Inv-loop μ-loop
 part-slab-right-start c = search needs
 
 part-slab-right-end : tie.Need-part-slab-right-end Inv-loop μ-loop
-part-slab-right-end c =
-    let b = c .before .before in
-    let a = b .before .before .args in
-    let area = a .n * a .n in
-    let below : b .loop .k * area + area ≤ a .n * area = row-below area (b .loop .k) (a .n) (omega arith) in
-    let whole : a .n * area ≡ a .n * a .n * a .n = sym (mul-assoc (a .n) (a .n) (a .n)) in
-    let size : b .loop .k * area + area - b .loop .k * area ≡ area = omega arith in
-    search needs
+part-slab-right-end c = omega (arith, inside (c .before))
 
 slab-right-requires : tie.Need-slab-right-requires Inv-loop μ-loop
 slab-right-requires c κs =
-    let b = c .before .before .before in
-    let a = b .before .before .args in
-    let area = a .n * a .n in
-    let below : b .loop .k * area + area ≤ a .n * area = row-below area (b .loop .k) (a .n) (omega arith) in
-    let whole : a .n * area ≡ a .n * a .n * a .n = sym (mul-assoc (a .n) (a .n) (a .n)) in
-    let size : b .loop .k * area + area - b .loop .k * area ≡ area = omega arith in
-    (omega arith, simp (length-take, length-drop) (omega arith))
+    let l = c .before .before .before in
+    let s = start l in
+    (omega arith, part-long (s .args .n * s .args .n) (s .args .n) (l .loop .k) (s .args .part .now) (whole s) (omega arith))
 
 returns : tie.Need-returns Inv-loop μ-loop
 returns c =
-    let b = c .before .before .before .before .before in
-    let a = b .before .before .args in
-    let area = a .n * a .n in
-    let f : ℕ → ℕ → Bool = λ k p. tableTest (a .zs .now) k && slabTest (a .n) (a .xs .now) (a .ys .now) p in
-    let below : b .loop .k * area + area ≤ a .n * area = row-below area (b .loop .k) (a .n) (omega arith) in
-    let whole : a .n * area ≡ a .n * a .n * a .n = sym (mul-assoc (a .n) (a .n) (a .n)) in
-    let size : b .loop .k * area + area - b .loop .k * area ≡ area = omega arith in
+    let l = c .before .before .before .before .before in
+    let s = start l in
     let here = sym (c .before .slab-right .ensures) ∙ not-true _ (c .if1 .taken) in
-    rows-differ area f (a .part .now) (b .loop .k) (omega arith) size here
+    part-wrong (s .args .n * s .args .n) (s .args .n) (l .loop .k) (s .args .part .now) (whole s) (test s) (omega arith) here
 
 add-k : tie.Need-add-k Inv-loop μ-loop
 add-k c = search needs
@@ -95,23 +90,16 @@ loop-less c = search needs
 
 loop-again : tie.Need-loop-again Inv-loop μ-loop
 loop-again c =
-    let b = c .before .before .before .before .before in
-    let a = b .before .before .args in
-    let area = a .n * a .n in
-    let f : ℕ → ℕ → Bool = λ k p. tableTest (a .zs .now) k && slabTest (a .n) (a .xs .now) (a .ys .now) p in
-    let below : b .loop .k * area + area ≤ a .n * area = row-below area (b .loop .k) (a .n) (omega arith) in
-    let whole : a .n * area ≡ a .n * a .n * a .n = sym (mul-assoc (a .n) (a .n) (a .n)) in
-    let size : b .loop .k * area + area - b .loop .k * area ≡ area = omega arith in
+    let l = c .before .before .before .before .before in
+    let s = start l in
     let here = sym (c .before .slab-right .ensures) ∙ not-false _ (c .if1 .left) in
-    (omega arith, rows-agree area f (a .part .now) (b .loop .k) (omega arith) size (b .loop .inv .1) here)
+    (omega arith, part-right (s .args .n * s .args .n) (s .args .n) (l .loop .k) (s .args .part .now) (whole s) (test s) (omega arith) (l .loop .inv .1) here)
 
 returns-2 : tie.Need-returns-2 Inv-loop μ-loop
 returns-2 c =
-    let b = c .before in
-    let a = b .before .before .args in
-    let all : a .n * (a .n * a .n) ≤ b .loop .k * (a .n * a .n) = mul-le-mul-right (a .n * a .n) (omega arith) in
-    agrees-all (nodeTest (a .n) (a .xs .now) (a .ys .now) (a .zs .now)) (a .part .now) (b .loop .k * (a .n * a .n))
-    (omega (arith, mul-assoc (a .n) (a .n) (a .n))) (b .loop .inv .1)
+    let l = c .before in
+    let s = start l in
+    parts-right (s .args .n * s .args .n) (s .args .n) (l .loop .k) (s .args .part .now) (whole s) (test s) (omega arith) (l .loop .inv .1)
 
 pub slabs-right-spec : {M : Type 1} → statement M
 slabs-right-spec =

@@ -1,13 +1,9 @@
 -- `set_kinds` meets its contract: the kinds of all nodes, and zeros past them.
-use mathlib.Core.Path.{_≡_, refl, sym, ap, _∙_}
-use Prim.Native.Nat.{ℕ, _*_, _≤_}
+use mathlib.Core.Path.{refl, sym, _∙_}
+use Prim.Native.Nat.{ℕ, _≤_}
 use native.Mathlib.Omega.{arith}
 use lib.ListN.{length}
 use lib.Seq.{length-take-le}
-use Rattle.grid.specs.Blocks.{cube}
-use Rattle.grid.specs.Nodes.{nodesOf}
-use Rattle.grid.specs.Limits.{childrenOf}
-use Rattle.grid.proofs.LimitLaws.{inner-block, few-nodes, nodes-few}
 use Rattle.kinds.proofs.NodeKinds.{all-set}
 use borrow.Author.Needs.{needs}
 use Rattle.kinds.proofs.flags.set_kinds.Statement.{statement}
@@ -16,18 +12,10 @@ use Rattle.kinds.proofs.flags.set_kinds.Tie as tie
 -- ---- where the number of all children is known
 
 abbrev start : tie.After-child-total → tie.Start
-start p = p .before .before .before
+start p = p .before .before
 
 abbrev total : tie.After-child-total → ℕ
 total p = p .child-total .result
-
--- all children are those of the nodes
-all : (p : tie.After-child-total) → total p ≡ nodesOf (start p .args .g) * cube (start p .args .g .inner)
-unfolding childrenOf
-all p = p .child-total .ensures
-
-of-nodes : (p : tie.After-child-total) → total p ≡ p .before .node-total .result * cube (start p .args .g .inner)
-of-nodes p = all p ∙ ap (λ (n : ℕ). n * cube (start p .args .g .inner)) (sym (p .before .node-total .ensures))
 
 -- they are inside the slice
 long : (p : tie.After-child-total) → total p ≤ length (start p .args .kinds .now)
@@ -35,11 +23,8 @@ long p = omega (arith, p .child-total .ensures, start p .pre .2)
 
 -- ---- what is left
 
-node-total-requires : tie.Need-node-total-requires
-node-total-requires c κs = omega (arith, nodes-few _ (few-nodes _ (c .before .pre .1)))
-
 child-total-requires : tie.Need-child-total-requires
-child-total-requires c κs = let p = c .before .before .pre in (p .0, p .1)
+child-total-requires c κs = (c .before .pre .0, c .before .pre .1)
 
 slice-relend-prefix-set-nodes : tie.Need-slice-relend-prefix-set-nodes
 slice-relend-prefix-set-nodes c = omega (arith, long c)
@@ -50,7 +35,7 @@ slice-aggregate-set-nodes c = sym (length-take-le (total (c .before)) _ (long (c
 set-nodes-requires : tie.Need-set-nodes-requires
 set-nodes-requires c κs =
     let p = c .before in
-    (inner-block _ (start p .pre .0) .most, length-take-le (total p) _ (long p) ∙ of-nodes p)
+    (start p .pre .0, start p .pre .1, length-take-le (total p) _ (long p) ∙ p .child-total .ensures)
 
 sub-zero-bytes : tie.Need-sub-zero-bytes
 sub-zero-bytes c = let within = long (c .before .before .before .before) in search needs
@@ -73,14 +58,13 @@ returns c =
     let set = zeroed .before .before .before .before in
     let p = set .before .before in
     let a = start p .args in
-    all-set (a .g) (total p) (all p) (a .kinds .now) (set .set-nodes .last .1 .1 .0) (zeroed .zero-bytes .last .0) (long p) (sym (of-nodes p))
+    all-set (a .g) (total p) (p .child-total .ensures) (a .kinds .now) (set .set-nodes .last .1 .0) (zeroed .zero-bytes .last .0) (long p)
     (set .set-nodes .ensures) refl (zeroed .zero-bytes .ensures)
 
 pub set-kinds-spec : {M : Type 1} → statement M
 set-kinds-spec =
     tie.close
     (tie.spec
-    node-total-requires
     child-total-requires
     slice-relend-prefix-set-nodes
     slice-aggregate-set-nodes

@@ -2,13 +2,14 @@
 use mathlib.Core.Path.{_≡_, sym, ap, _∙_}
 use mathlib.Core.Bool.{Bool, false, _&&_}
 use Prim.Native.Nat.{ℕ, _+_, _*_, _-_, _≤_}
-use native.Mathlib.Nat.{zero-mul, mul-le-mul-right}
+use native.Mathlib.Nat.{zero-mul}
 use native.Mathlib.Omega.{arith}
 use lib.ListN.{length}
 use borrow.Author.Tests.{not-true, not-false}
-use Rattle.lists.specs.Flags.{flagsFrom, inRows}
-use Rattle.kinds.specs.Inner.Tables.{tableTest, slabTest}
-use Rattle.lists.proofs.Flags.{flagged, flagged-none, flagged-length, flagged-all, flags-none, row-below, row-length, rows-more}
+use Rattle.lists.specs.Flags.{flagsFrom}
+use Rattle.kinds.specs.Inner.Tables.{rowTest, slabTest}
+use Rattle.lists.proofs.Flags.{flagged, flagged-none, flags-none}
+use Rattle.kinds.proofs.Parts.{part-inside, kept-length, next-long, part-set, parts-set}
 use borrow.Author.Needs.{needs}
 use Rattle.kinds.proofs.flags.set_slab.Statement.{statement}
 use Rattle.kinds.proofs.flags.set_slab.Tie as tie
@@ -18,6 +19,25 @@ Inv-loop n xs ys met slab₀ j₀ slab j = (j ≤ n) × (slab ≡ flagged (slabT
 
 abbrev μ-loop : tie.MeasureT-loop
 μ-loop n xs ys met slab₀ j₀ slab j = n - j
+
+-- ---- in the loop
+
+abbrev start : tie.At-loop Inv-loop μ-loop → tie.Start Inv-loop μ-loop
+start l = l .before .before .before
+
+-- the slab keeps its length
+kept : (l : tie.At-loop Inv-loop μ-loop) → length (l .loop .slab) ≡ length (start l .args .slab .now)
+kept l =
+    let s = start l in
+    kept-length (s .args .n) (s .args .n) (l .loop .j) (s .args .slab .now) (s .pre .1)
+    (rowTest (s .args .xs .now) (s .args .ys .now)) (l .loop .inv .1) (l .loop .inv .0)
+
+-- the row ends inside the slab
+inside : (t : tie.In-loop Inv-loop μ-loop) →
+    t .before .loop .j * start (t .before) .args .n + start (t .before) .args .n ≤ length (start (t .before) .args .slab .now)
+inside t = let s = start (t .before) in part-inside (s .args .n) (s .args .n) (t .before .loop .j) (s .args .slab .now) (s .pre .1) (omega arith)
+
+-- ---- what is left
 
 zero-bytes-requires : tie.Need-zero-bytes-requires Inv-loop μ-loop
 zero-bytes-requires c κs = search needs
@@ -40,22 +60,10 @@ loop-holds c =
     (search needs, rw (zero-mul (a .n)) (flagged-none (slabTest (a .n) (a .xs .now) (a .ys .now)) (a .slab .now)))
 
 mul-from : tie.Need-mul-from Inv-loop μ-loop
-mul-from c =
-    let b = c .before in
-    let a = b .before .before .before .args in
-    let l = b .loop in
-    let n = a .n in
-    let below : l .j * n + n ≤ a .n * n = row-below n (l .j) (a .n) (omega arith) in
-    omega arith
+mul-from c = omega (arith, inside c)
 
 add-to : tie.Need-add-to Inv-loop μ-loop
-add-to c =
-    let b = c .before in
-    let a = b .before .before .before .args in
-    let l = b .loop in
-    let n = a .n in
-    let below : l .j * n + n ≤ a .n * n = row-below n (l .j) (a .n) (omega arith) in
-    omega arith
+add-to c = omega (arith, inside c)
 
 element-copy-out-set-row : tie.Need-element-copy-out-set-row Inv-loop μ-loop
 element-copy-out-set-row c = search needs
@@ -67,27 +75,17 @@ part-set-row-start : tie.Need-part-set-row-start Inv-loop μ-loop
 part-set-row-start c = search needs
 
 part-set-row-end : tie.Need-part-set-row-end Inv-loop μ-loop
-part-set-row-end c =
-    let b = c .before .before in
-    let a = b .before .before .before .args in
-    let l = b .loop in
-    let n = a .n in
-    let f : ℕ → ℕ → Bool = λ j i. tableTest (a .ys .now) j && tableTest (a .xs .now) i in
-    let below : l .j * n + n ≤ a .n * n = row-below n (l .j) (a .n) (omega arith) in
-    let size : l .j * n + n - l .j * n ≡ n = omega arith in
-    let long : length (l .slab) ≡ length (a .slab .now) = ap length (l .inv .1) ∙ flagged-length (inRows n f) (a .slab .now) (l .j * n) (omega arith) in
-    search needs
+part-set-row-end c = omega (arith, inside (c .before), kept (c .before .before))
 
 set-row-requires : tie.Need-set-row-requires Inv-loop μ-loop
 set-row-requires c κs =
-    let b = c .before .before .before in
-    let a = b .before .before .before .args in
-    let l = b .loop in
-    let n = a .n in
-    let f : ℕ → ℕ → Bool = λ j i. tableTest (a .ys .now) j && tableTest (a .xs .now) i in
-    let below : l .j * n + n ≤ a .n * n = row-below n (l .j) (a .n) (omega arith) in
-    let size : l .j * n + n - l .j * n ≡ n = omega arith in
-    omega (arith, row-length n f (a .slab .now) (l .j) (omega arith) size (l .inv .1))
+    let l = c .before .before .before in
+    let s = start l in
+    omega (
+      arith,
+      next-long (s .args .n) (s .args .n) (l .loop .j) (s .args .slab .now) (s .pre .1)
+          (rowTest (s .args .xs .now) (s .args .ys .now)) (l .loop .inv .1) (omega arith),
+    )
 
 add-j : tie.Need-add-j Inv-loop μ-loop
 add-j c = search needs
@@ -97,42 +95,27 @@ loop-less c = search needs
 
 loop-again : tie.Need-loop-again Inv-loop μ-loop
 loop-again c =
-    let b = c .before .before .before .before .before .before in
-    let a = b .before .before .before .args in
-    let l = b .loop in
-    let n = a .n in
-    let f : ℕ → ℕ → Bool = λ j i. tableTest (a .ys .now) j && tableTest (a .xs .now) i in
-    let below : l .j * n + n ≤ a .n * n = row-below n (l .j) (a .n) (omega arith) in
-    let size : l .j * n + n - l .j * n ≡ n = omega arith in (
+    let l = c .before .before .before .before .before .before in
+    let s = start l in
+    let long = next-long (s .args .n) (s .args .n) (l .loop .j) (s .args .slab .now) (s .pre .1)
+    (rowTest (s .args .xs .now) (s .args .ys .now)) (l .loop .inv .1) (omega arith) in (
       omega arith,
-      rows-more n f (a .slab .now) (l .j) (omega arith) size
-          (row-length n f (a .slab .now) (l .j) (omega arith) size (l .inv .1)) (l .inv .1) (c .before .before .set-row .ensures),
+      part-set (s .args .n) (s .args .n) (l .loop .j) (s .args .slab .now) (s .pre .1)
+          (rowTest (s .args .xs .now) (s .args .ys .now)) (l .loop .inv .1) (omega arith) long
+          (c .before .before .set-row .ensures),
     )
 
 same-length-2 : tie.Need-same-length-2 Inv-loop μ-loop
-same-length-2 c =
-    let b = c .before in
-    let a = b .before .before .before .args in
-    let l = b .loop in
-    let n = a .n in
-    let f : ℕ → ℕ → Bool = λ j i. tableTest (a .ys .now) j && tableTest (a .xs .now) i in
-    let all : a .n * n ≤ l .j * n = mul-le-mul-right n (omega arith) in
-    let most : l .j * n ≤ a .n * n = mul-le-mul-right n (omega arith) in
-    let long : length (l .slab) ≡ length (a .slab .now) = ap length (l .inv .1) ∙ flagged-length (inRows n f) (a .slab .now) (l .j * n) (omega arith) in
-    omega arith
+same-length-2 c = kept (c .before)
 
 returns-2 : tie.Need-returns-2 Inv-loop μ-loop
 returns-2 c =
-    let b = c .before in
-    let a = b .before .before .before .args in
-    let l = b .loop in
-    let n = a .n in
-    let f : ℕ → ℕ → Bool = λ j i. tableTest (a .ys .now) j && tableTest (a .xs .now) i in
-    let all : a .n * n ≤ l .j * n = mul-le-mul-right n (omega arith) in
-    let most : l .j * n ≤ a .n * n = mul-le-mul-right n (omega arith) in
-    l .inv .1
-    ∙ flagged-all (inRows n f) (a .slab .now) (l .j * n) (n * n) all (b .before .before .before .pre .1) (omega arith)
-    ∙ ap (λ (b : Bool). flagsFrom (λ i. b && slabTest (a .n) (a .xs .now) (a .ys .now) i) (a .n * a .n) 0) (sym (not-false (a .met) (b .before .if1 .left)))
+    let l = c .before in
+    let s = start l in
+    let a = s .args in
+    parts-set (a .n) (a .n) (l .loop .j) (a .slab .now) (s .pre .1)
+    (rowTest (s .args .xs .now) (s .args .ys .now)) (l .loop .inv .1) (l .loop .inv .0) (omega arith)
+    ∙ ap (λ (b : Bool). flagsFrom (λ i. b && slabTest (a .n) (a .xs .now) (a .ys .now) i) (a .n * a .n) 0) (sym (not-false (a .met) (l .before .if1 .left)))
 
 pub set-slab-spec : {M : Type 1} → statement M
 set-slab-spec =

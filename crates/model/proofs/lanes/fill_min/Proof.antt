@@ -64,9 +64,8 @@ loop-less c = search needs
 
 loop-again : tie.Need-loop-again Inv-loop μ-loop
 loop-again c =
-    let s = c .before .before .before .before in
-    let a = s .before .args in
-    (omega arith, pair-more minOf (a .values .now) (a .p) (a .a) (a .b) (s .loop .i) (omega arith) (omega arith) (omega arith) (s .loop .inv .1) (c .min .ensures))
+    let l = c .before .before .before .before in
+    (omega arith, pair-more minOf _ _ _ _ (l .loop .i) (omega arith) (omega arith) (omega arith) (l .loop .inv .1) (c .min .ensures))
 
 returns : tie.Need-returns Inv-loop μ-loop
 returns c =

@@ -4,7 +4,6 @@ use Prim.Native.Nat.{ℕ}
 use lib.ListN.{getD}
 use lib.Ieee.{Float, binary64, sub}
 use Rattle.root.specs.Root.{squareRoot}
-use Rattle.geometry.specs.Values.{vec3}
 use Rattle.geometry.specs.Distance.{distanceSquaredOf, distanceOf}
 use Rattle.model.specs.Part.{past, sphereValue}
 use Rattle.model.proofs.Rows.{filled-then}
@@ -24,7 +23,7 @@ returns : tie.Need-returns
 unfolding sphereValue distanceOf
 returns c =
     let a = c .before .before .before .before .before .before .args in
-    let squares : ℕ → Float = λ k. distanceSquaredOf (vec3 (a .cx) (a .cy) (a .cz)) (getD (a .px .now) k past) (getD (a .py .now) k past) (getD (a .pz .now) k past) in
+    let squares : ℕ → Float = λ k. distanceSquaredOf (a .c) (getD (a .px .now) k past) (getD (a .py .now) k past) (getD (a .pz .now) k past) in
     filled-then (a .values .now) (a .p) (a .n) (λ k. squareRoot (squares k)) (λ v. sub binary64 v (a .r))
     (filled-then (a .values .now) (a .p) (a .n) squares squareRoot (c .before .before .before .before .fill-squares .ensures) (c .before .before .take-roots .ensures))
     (c .take-radius .ensures)

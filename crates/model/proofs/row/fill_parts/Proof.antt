@@ -3,6 +3,9 @@ use borrow.Author.Needs.{needs}
 use mathlib.Core.Path.{_≡_, refl, ap, _∙_}
 use Prim.Native.Nat.{_-_, _≤_}
 use denote.Ref.{now}
+use lib.ListN.{getD}
+use Rattle.model.specs.Part.{past, partValue}
+use Rattle.model.specs.Inner.Lanes.{filledRow, lane}
 use Rattle.model.specs.Flat.{Flat, flatOf}
 use Rattle.model.proofs.AllRows.{rowsTo, rows-more, all-rows}
 use native.Mathlib.Omega.{arith}
@@ -24,8 +27,11 @@ loop-holds : tie.Need-loop-holds Inv-loop μ-loop
 unfolding rowsTo
 loop-holds c = (omega arith, refl)
 
-fill-part-requires : tie.Need-fill-part-requires Inv-loop μ-loop
-fill-part-requires c κs = search needs
+entry-at-requires : tie.Need-entry-at-requires Inv-loop μ-loop
+entry-at-requires c κs = search needs
+
+fill-entry-requires : tie.Need-fill-entry-requires Inv-loop μ-loop
+fill-entry-requires c κs = search needs
 
 add-p : tie.Need-add-p Inv-loop μ-loop
 add-p c = search needs
@@ -35,10 +41,13 @@ loop-less c = search needs
 
 loop-again : tie.Need-loop-again Inv-loop μ-loop
 loop-again c =
-    let s = c .before .before .before in
-    let a = s .before .args in (
+    let l = c .before .before .before .before in
+    let a = l .before .args in
+    let part = ap (λ q. filledRow (l .loop .values) (l .loop .p) (a .n)
+    (λ k. partValue q (getD (now (a .px)) k past) (getD (now (a .py)) k past) (getD (now (a .pz)) k past) (lane (l .loop .values) k (l .loop .p))))
+    (c .before .before .entry-at .ensures) in (
       omega arith,
-      rows-more (layout s) (a .n) (now (a .px)) (now (a .py)) (now (a .pz)) (now (a .values)) (s .loop .p) (s .loop .inv .1) (c .fill-part .ensures),
+      rows-more (layout l) (a .n) (now (a .px)) (now (a .py)) (now (a .pz)) (now (a .values)) (l .loop .p) (l .loop .inv .1) (c .fill-entry .ensures ∙ part),
     )
 
 returns : tie.Need-returns Inv-loop μ-loop
@@ -53,4 +62,4 @@ returns c =
 pub fill-parts-spec : {M : Type 1} → statement M
 fill-parts-spec =
     tie.close
-    (tie.spec Inv-loop μ-loop loop-holds fill-part-requires add-p loop-less loop-again returns)
+    (tie.spec Inv-loop μ-loop loop-holds entry-at-requires fill-entry-requires add-p loop-less loop-again returns)

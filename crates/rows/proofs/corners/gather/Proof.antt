@@ -8,7 +8,7 @@ use lib.ListN.{length, length-set}
 use Rattle.geometry.specs.Index.{indicesOf, nextIndices}
 use Rattle.grid.specs.Blocks.{cube}
 use Rattle.grid.specs.Corners.{needed}
-use Rattle.grid.specs.CornerList.{nonzero}
+use Rattle.grid.specs.CornerList.{nonzeroAt}
 use Rattle.geometry.proofs.Next.{next-of}
 use Rattle.grid.proofs.Octets.{Within, within}
 use Rattle.rows.specs.Inner.Around.{around}
@@ -25,7 +25,7 @@ Inv-loop n kinds i most list₀ side total at₀ corner₀ count₀ list at corn
     × (count ≤ most)
     × (length list ≡ length list₀)
     × (at ≡ indicesOf corner side side)
-    × Gathering (needed n (nonzero kinds)) i corner count list
+    × Gathering (needed n (nonzeroAt kinds)) i corner count list
 
 abbrev μ-loop : tie.MeasureT-loop
 μ-loop n kinds i most list₀ side total at₀ corner₀ count₀ list at corner count = total - corner
@@ -45,14 +45,14 @@ inside c =
 
 -- what the code tells of a corner is whether it is needed
 tells : (c : tie.After-has-child Inv-loop μ-loop)
-    → c .has-child .result ≡ needed (start (c .before) .args .n) (nonzero (start (c .before) .args .kinds .now)) (c .before .before .loop .corner)
+    → c .has-child .result ≡ needed (start (c .before) .args .n) (nonzeroAt (start (c .before) .args .kinds .now)) (c .before .before .loop .corner)
 tells c =
     let l = c .before .before .loop in
     let s = start (c .before) in
     let a = s .args in
     c .has-child .ensures
-    ∙ ap (around (a .n) (nonzero (a .kinds .now))) (l .inv .3)
-    ∙ needed-is (a .n) (nonzero (a .kinds .now)) (s .pre .0) (l .corner) (below (c .before))
+    ∙ ap (around (a .n) (nonzeroAt (a .kinds .now))) (l .inv .3)
+    ∙ needed-is (a .n) (nonzeroAt (a .kinds .now)) (s .pre .0) (l .corner) (below (c .before))
 
 add-side : tie.Need-add-side Inv-loop μ-loop
 add-side c = search needs

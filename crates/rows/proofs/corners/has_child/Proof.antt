@@ -4,7 +4,7 @@ use mathlib.Core.Bool.{Bool, false}
 use mathlib.Core.Logic.{⊎-elim}
 use Prim.Native.Nat.{ℕ, _*_, _-_, _<_}
 use native.Mathlib.Omega.{arith}
-use Rattle.grid.specs.CornerList.{nonzero}
+use Rattle.grid.specs.CornerList.{nonzeroAt}
 use Rattle.rows.specs.Inner.Around.{slabHas}
 use Rattle.rows.proofs.AroundLaws.{either-before, either-here, either-none, slab-within, rows-small}
 use borrow.Author.Needs.{needs}
@@ -58,7 +58,7 @@ slab-has-requires-2 c κs =
 returns-2 : tie.Need-returns-2
 returns-2 c =
     let a = c .before .before .before .before .args in
-    let test : ℕ → Bool = λ m. slabHas (a .n) (nonzero (a .kinds .now)) (m * a .n * a .n) (a .i) (a .j) in
+    let test : ℕ → Bool = λ m. slabHas (a .n) (nonzeroAt (a .kinds .now)) (m * a .n * a .n) (a .i) (a .j) in
     let before : 0 < a .k → test (a .k - 1) ≡ false =
     λ h. ⊎-elim (λ w. sym (w .1 .ensures) ∙ w .2 .left) (λ w. absurd (omega arith)) (c .before .before .if1 .came) in
     c .slab-has2 .ensures ∙ sym (either-here (a .n) test (a .k) before (c .before .if3 .taken))
@@ -66,7 +66,7 @@ returns-2 c =
 returns-3 : tie.Need-returns-3
 returns-3 c =
     let a = c .before .before .before .args in
-    let test : ℕ → Bool = λ m. slabHas (a .n) (nonzero (a .kinds .now)) (m * a .n * a .n) (a .i) (a .j) in
+    let test : ℕ → Bool = λ m. slabHas (a .n) (nonzeroAt (a .kinds .now)) (m * a .n * a .n) (a .i) (a .j) in
     let before : 0 < a .k → test (a .k - 1) ≡ false =
     λ h. ⊎-elim (λ w. sym (w .1 .ensures) ∙ w .2 .left) (λ w. absurd (omega arith)) (c .before .if1 .came) in
     sym (either-none (a .n) test (a .k) before (c .if3 .left))

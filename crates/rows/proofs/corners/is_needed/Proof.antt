@@ -2,7 +2,7 @@
 use mathlib.Core.Path.{sym, ap, _∙_, subst}
 use native.Mathlib.Omega.{arith}
 use Prim.Native.Nat.{_+_, _≤_}
-use Rattle.grid.specs.CornerList.{nonzero}
+use Rattle.grid.specs.CornerList.{nonzeroAt}
 use Rattle.grid.proofs.Octets.{within}
 use Rattle.rows.specs.Inner.Around.{around}
 use Rattle.rows.proofs.AroundLaws.{needed-is}
@@ -36,8 +36,8 @@ returns c =
     let start = c .before .before .before in
     let a = start .args in
     c .has-child .ensures
-    ∙ ap (around (a .n) (nonzero (a .kinds .now))) (c .before .indices .ensures)
-    ∙ needed-is (a .n) (nonzero (a .kinds .now)) (start .pre .0) (a .corner) (start .pre .3)
+    ∙ ap (around (a .n) (nonzeroAt (a .kinds .now))) (c .before .indices .ensures)
+    ∙ needed-is (a .n) (nonzeroAt (a .kinds .now)) (start .pre .0) (a .corner) (start .pre .3)
 
 pub is-needed-spec : {M : Type 1} → statement M
 is-needed-spec =

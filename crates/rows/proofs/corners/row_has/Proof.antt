@@ -4,7 +4,7 @@ use mathlib.Core.Bool.{false}
 use mathlib.Core.Logic.{⊎-elim}
 use Prim.Native.Nat.{_+_, _-_, _<_}
 use native.Mathlib.Omega.{arith}
-use Rattle.grid.specs.CornerList.{nonzero}
+use Rattle.grid.specs.CornerList.{nonzeroAt}
 use Rattle.grid.proofs.MarkLaws.{is-nonzero, is-zero}
 use Rattle.rows.proofs.AroundLaws.{either-before, either-here, either-none}
 use borrow.Author.Needs.{needs}
@@ -32,19 +32,19 @@ shared-slice-read-result : tie.Need-shared-slice-read-result
 shared-slice-read-result c = search needs
 
 returns-2 : tie.Need-returns-2
-unfolding nonzero
+unfolding nonzeroAt
 returns-2 c =
     let a = c .before .before .before .args in
-    let before : 0 < a .i → nonzero (a .kinds .now) (a .first + (a .i - 1)) ≡ false =
+    let before : 0 < a .i → nonzeroAt (a .kinds .now) (a .first + (a .i - 1)) ≡ false =
     λ h. ⊎-elim (λ w. is-zero (a .kinds .now) _ (w .2 .left)) (λ w. absurd (omega arith)) (c .before .before .if1 .came) in
-    sym (either-here (a .n) (λ m. nonzero (a .kinds .now) (a .first + m)) (a .i) before (c .before .if3 .taken))
+    sym (either-here (a .n) (λ m. nonzeroAt (a .kinds .now) (a .first + m)) (a .i) before (c .before .if3 .taken))
 
 returns-3 : tie.Need-returns-3
 returns-3 c =
     let a = c .before .before .args in
-    let before : 0 < a .i → nonzero (a .kinds .now) (a .first + (a .i - 1)) ≡ false =
+    let before : 0 < a .i → nonzeroAt (a .kinds .now) (a .first + (a .i - 1)) ≡ false =
     λ h. ⊎-elim (λ w. is-zero (a .kinds .now) _ (w .2 .left)) (λ w. absurd (omega arith)) (c .before .if1 .came) in
-    sym (either-none (a .n) (λ m. nonzero (a .kinds .now) (a .first + m)) (a .i) before (c .if3 .left))
+    sym (either-none (a .n) (λ m. nonzeroAt (a .kinds .now) (a .first + m)) (a .i) before (c .if3 .left))
 
 pub row-has-spec : {M : Type 1} → statement M
 row-has-spec =

@@ -11,7 +11,7 @@ use Rattle.lists.proofs.Filling.{filled-done}
 use Rattle.geometry.specs.declared.Vec3.{Vec3}
 use Rattle.geometry.specs.Values.{at}
 use Rattle.grid.specs.Corners.{needed, cornerPoint}
-use Rattle.grid.specs.CornerList.{nonzero}
+use Rattle.grid.specs.CornerList.{nonzeroAt}
 use Rattle.rows.specs.Inner.FlatValue.{flatValue}
 use Rattle.rows.specs.Inner.Written.{written}
 use Rattle.rows.proofs.RowValues.{Row, row-new, RowMade, row-value, row-kept}
@@ -28,7 +28,7 @@ Inv-loop words reals parts b n kinds i budget scratch₀ corners₀ side total l
     × (length list ≡ 64)
     × Row xs ys zs values
     × (length corners ≡ length corners₀)
-    × Ran (needed n (nonzero kinds)) (λ p. at (flatValue words reals parts) (cornerPoint b n p)) i budget next left corners₀ corners
+    × Ran (needed n (nonzeroAt kinds)) (λ p. at (flatValue words reals parts) (cornerPoint b n p)) i budget next left corners₀ corners
 
 abbrev μ-loop : tie.MeasureT-loop
 μ-loop words reals parts b n kinds i budget scratch₀ corners₀ side total list₀ xs₀ ys₀ zs₀ values₀ next₀ left₀

@@ -4,7 +4,7 @@ use mathlib.Core.Bool.{Bool, false}
 use mathlib.Core.Logic.{⊎-elim}
 use Prim.Native.Nat.{ℕ, _+_, _*_, _-_, _<_}
 use native.Mathlib.Omega.{arith}
-use Rattle.grid.specs.CornerList.{nonzero}
+use Rattle.grid.specs.CornerList.{nonzeroAt}
 use Rattle.rows.specs.Inner.Around.{rowHas}
 use Rattle.rows.proofs.AroundLaws.{either-before, either-here, either-none, row-within}
 use borrow.Author.Needs.{needs}
@@ -58,7 +58,7 @@ row-has-requires-2 c κs =
 returns-2 : tie.Need-returns-2
 returns-2 c =
     let a = c .before .before .before .before .args in
-    let test : ℕ → Bool = λ m. rowHas (a .n) (nonzero (a .kinds .now)) (a .first + m * a .n) (a .i) in
+    let test : ℕ → Bool = λ m. rowHas (a .n) (nonzeroAt (a .kinds .now)) (a .first + m * a .n) (a .i) in
     let before : 0 < a .j → test (a .j - 1) ≡ false =
     λ h. ⊎-elim (λ w. sym (w .1 .ensures) ∙ w .2 .left) (λ w. absurd (omega arith)) (c .before .before .if1 .came) in
     c .row-has2 .ensures ∙ sym (either-here (a .n) test (a .j) before (c .before .if3 .taken))
@@ -66,7 +66,7 @@ returns-2 c =
 returns-3 : tie.Need-returns-3
 returns-3 c =
     let a = c .before .before .before .args in
-    let test : ℕ → Bool = λ m. rowHas (a .n) (nonzero (a .kinds .now)) (a .first + m * a .n) (a .i) in
+    let test : ℕ → Bool = λ m. rowHas (a .n) (nonzeroAt (a .kinds .now)) (a .first + m * a .n) (a .i) in
     let before : 0 < a .j → test (a .j - 1) ≡ false =
     λ h. ⊎-elim (λ w. sym (w .1 .ensures) ∙ w .2 .left) (λ w. absurd (omega arith)) (c .before .if1 .came) in
     sym (either-none (a .n) test (a .j) before (c .if3 .left))

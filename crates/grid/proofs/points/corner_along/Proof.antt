@@ -1,0 +1,16 @@
+-- `corner_along` meets its contract.
+use borrow.Author.Needs.{needs}
+use Rattle.grid.proofs.points.corner_along.Statement.{statement}
+use Rattle.grid.proofs.points.corner_along.Tie as tie
+
+from-count-requires : tie.Need-from-count-requires
+from-count-requires c κs = search needs
+
+computed-requires : tie.Need-computed-requires
+computed-requires c κs = search needs
+
+returns : tie.Need-returns
+returns c = cc
+
+pub corner-along-spec : {M : Type 1} → statement M
+corner-along-spec = tie.close (tie.spec from-count-requires computed-requires returns)
