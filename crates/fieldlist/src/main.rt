@@ -15,6 +15,6 @@ fn main() {
     let mut text = text_room();
     let mut out = listing_room();
     let n = io::read_full(0, &mut text);
-    let end = job_text::list_whole(&text[..n], &mut out);
+    let end = listing::list_whole(&text[..n], &mut out);
     io::write_all(1, &out[..end]);
 }
