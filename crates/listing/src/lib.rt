@@ -1,4 +1,6 @@
 // The listing of a finished job, written over lent bytes; and what `fieldlist` prints for a job's text.
+use schedule::Counts;
+
 mod lines; // lines.rt: one line of a listing
 mod list; // list.rt: what `fieldlist` prints
 mod nan; // nan.rt: the bits of a NaN leaf value
@@ -17,4 +19,14 @@ pub enum Listing {
     Bytes(usize),
     Refused(u32),
     NotPrintable,
+}
+
+// How a listing is laid out: its counts, how many children it has in all, how many to a node, how many
+// points to a leaf, and the bits of a NaN leaf value.
+pub struct Sheet {
+    pub counts: Counts,
+    pub total: usize,
+    pub children: usize,
+    pub points: usize,
+    pub nan: u64,
 }

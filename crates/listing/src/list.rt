@@ -4,11 +4,11 @@ ghost use Prim.Native.Nat.{_≤_};
 ghost use lib.ListN.{length};
 ghost use Rattle.listing.specs.Listed.{jobListed, listed};
 ghost use Rattle.listing.specs.Written.{putAnswer, putBytes};
-use job_text::Job;
-use job_text::Judgement;
 use crate::Listing;
 use crate::nan;
 use crate::writing;
+use job_text::Job;
+use job_text::Judgement;
 use schedule::Answer;
 
 // More evaluations than any job has.

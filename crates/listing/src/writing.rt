@@ -13,10 +13,12 @@ ghost use Rattle.plans.specs.Sparse.{sparse};
 ghost use Rattle.sparse_field.specs.Records.{jobIn};
 ghost use Rattle.forms.specs.Forms.{pieceOf, spell};
 ghost use Rattle.listing.specs.Inner.Lengths.{lengthAt, Sizes};
+ghost use Rattle.listing.specs.Inner.Sheets.{listedNow, listedThen, sheetListing, Laid};
 ghost use Rattle.listing.specs.Lines.{refusedForm, offForm};
-ghost use Rattle.listing.specs.Listing.{doneLine, linesFrom, lineAt, listingTo};
+ghost use Rattle.listing.specs.Listing.{doneLine, linesFrom, lineAt};
 ghost use Rattle.listing.specs.Written.{allPlaced, putAnswer, putBytes, possibleWritten, written};
 use crate::Listing;
+use crate::Sheet;
 use crate::lines::child_length;
 use crate::lines::is_placed;
 use crate::lines::put_child;
@@ -126,51 +128,36 @@ fn done_numbers(counts: Counts) -> [u64; 5]
 }
 
 // How many bytes a listing has.
-fn listing_length(
-    counts: Counts,
-    total: usize,
-    children: usize,
-    points: usize,
-    kinds: &[u8],
-) -> usize
-    requires { ⌜ Sizes total children points × (total ≤ length (now kinds)) ⌝ }
-    ensures { λ r. ⌜ r ≡ length (doneLine counts) + sumBelow (lengthAt children points (now (kinds .entry))) total ⌝ }
+fn listing_length(sheet: Sheet, kinds: &[u8]) -> usize
+    requires { ⌜ Sizes (sheet .total) (sheet .children) (sheet .points) × (sheet .total ≤ length (now kinds)) ⌝ }
+    ensures { λ r. ⌜ r
+        ≡ length (doneLine (sheet .counts)) + sumBelow (lengthAt (sheet .children) (sheet .points) (now (kinds .entry))) (sheet .total) ⌝ }
 {
-    let numbers = done_numbers(counts);
+    let numbers = done_numbers(sheet.counts);
     forms::form_length(b"(done D D D D D)\n", &numbers)
-        + lines_length(total, children, points, kinds)
+        + lines_length(sheet.total, sheet.children, sheet.points, kinds)
 }
 
 // Puts a listing at the front of bytes that it fits, and 0 after it.
 fn put_listing(
-    counts: Counts,
-    total: usize,
-    children: usize,
-    points: usize,
-    nan: u64,
+    sheet: Sheet,
     kinds: &[u8],
     numbers: &[f64],
     places: &[u32],
     store: &[f64],
     out: &mut [u8],
 )
-    requires { ⌜ Sizes total children points × (total ≤ length (now kinds)) × (total ≤ length (now numbers)) × (total ≤ length (now places)) ⌝ }
-    requires { ⌜ allPlaced points (length (now store)) (now kinds) (now places) total 0 ≡ true ⌝ }
-    requires { ⌜ length (listingTo total children points nan counts (memoryOf (now kinds) (now numbers) (now places) (now store) [])) ≤ length
-        (now out) ⌝ }
-    ensures { λ _. ⌜ now (out .exit)
-        ≡ putBytes
-        (listingTo total children points nan counts
-        (memoryOf (now (kinds .entry)) (now (numbers .entry)) (now (places .entry)) (now (store .entry)) []))
-        (now (out .entry)) ⌝ }
+    requires { ⌜ Laid sheet (listedNow kinds numbers places store) ⌝ }
+    requires { ⌜ length (sheetListing sheet (listedNow kinds numbers places store)) ≤ length (now out) ⌝ }
+    ensures { λ _. ⌜ now (out .exit) ≡ putBytes (sheetListing sheet (listedThen kinds numbers places store)) (now (out .entry)) ⌝ }
 {
-    let done = done_numbers(counts);
+    let done = done_numbers(sheet.counts);
     let first = forms::put_form(b"(done D D D D D)\n", &done, 0, out);
     let last = put_lines(
-        total,
-        children,
-        points,
-        nan,
+        sheet.total,
+        sheet.children,
+        sheet.points,
+        sheet.nan,
         kinds,
         numbers,
         places,
@@ -183,46 +170,22 @@ fn put_listing(
 
 // Writes the listing of children that are placed, if the bytes lent are enough.
 fn write_placed(
-    counts: Counts,
-    total: usize,
-    children: usize,
-    points: usize,
-    nan: u64,
+    sheet: Sheet,
     kinds: &[u8],
     numbers: &[f64],
     places: &[u32],
     store: &[f64],
     out: &mut [u8],
 ) -> Listing
-    requires { ⌜ Sizes total children points × (total ≤ length (now kinds)) × (total ≤ length (now numbers)) × (total ≤ length (now places)) ⌝ }
-    requires { ⌜ allPlaced points (length (now store)) (now kinds) (now places) total 0 ≡ true ⌝ }
-    ensures answer { λ r. ⌜ r
-        ≡ putAnswer
-        (listingTo total children points nan counts
-        (memoryOf (now (kinds .entry)) (now (numbers .entry)) (now (places .entry)) (now (store .entry)) []))
-        (now (out .entry)) ⌝ }
-    ensures out { λ _. ⌜ now (out .exit)
-        ≡ putBytes
-        (listingTo total children points nan counts
-        (memoryOf (now (kinds .entry)) (now (numbers .entry)) (now (places .entry)) (now (store .entry)) []))
-        (now (out .entry)) ⌝ }
+    requires { ⌜ Laid sheet (listedNow kinds numbers places store) ⌝ }
+    ensures answer { λ r. ⌜ r ≡ putAnswer (sheetListing sheet (listedThen kinds numbers places store)) (now (out .entry)) ⌝ }
+    ensures out { λ _. ⌜ now (out .exit) ≡ putBytes (sheetListing sheet (listedThen kinds numbers places store)) (now (out .entry)) ⌝ }
 {
-    let length = listing_length(counts, total, children, points, kinds);
+    let length = listing_length(sheet, kinds);
     if length > out.len() {
         return Listing::Refused(6);
     }
-    put_listing(
-        counts,
-        total,
-        children,
-        points,
-        nan,
-        kinds,
-        numbers,
-        places,
-        store,
-        out,
-    );
+    put_listing(sheet, kinds, numbers, places, store, out);
     Listing::Bytes(length)
 }
 
@@ -264,18 +227,14 @@ fn write_possible(
         return Listing::NotPrintable;
     }
     let counts = record.counts;
-    write_placed(
+    let sheet = Sheet {
         counts,
         total,
         children,
         points,
         nan,
-        kinds,
-        numbers,
-        places,
-        store,
-        out,
-    )
+    };
+    write_placed(sheet, kinds, numbers, places, store, out)
 }
 
 // Writes the listing of a record's job, in which a NaN leaf value has the given bits. Refused by 7

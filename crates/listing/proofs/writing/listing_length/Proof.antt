@@ -24,20 +24,20 @@ add-result : tie.Need-add-result
 add-result c =
     let s = c .before .before .before .before .before .before in
     let a = s .args in
-    let done = done-length (a .counts) (c .before .before .before .before .done-numbers .ensures) in
+    let done = done-length (a .sheet .counts) (c .before .before .before .before .done-numbers .ensures) in
     omega (
       arith,
       c .before .form-length .ensures,
       done,
-      done-most (a .counts),
+      done-most (a .sheet .counts),
       c .lines-length .ensures,
-      lengths-most (a .total) (a .children) (a .points) (a .kinds .now) (s .pre .0),
+      lengths-most (a .sheet .total) (a .sheet .children) (a .sheet .points) (a .kinds .now) (s .pre .0),
     )
 
 returns : tie.Need-returns
 returns c =
     let a = c .before .before .before .before .before .before .args in
-    let done = done-length (a .counts) (c .before .before .before .before .done-numbers .ensures) in
+    let done = done-length (a .sheet .counts) (c .before .before .before .before .done-numbers .ensures) in
     omega (arith, c .before .form-length .ensures, done, c .lines-length .ensures)
 
 pub listing-length-spec : {M : Type 1} → statement M

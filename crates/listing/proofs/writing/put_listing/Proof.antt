@@ -29,20 +29,20 @@ begun p = p .before .before .before .before
 abbrev linesOf : tie.Start → List ℕ
 linesOf s =
     let a = s .args in
-    linesFrom (lineAt (a .children) (a .points) (a .nan) (memoryOf (a .kinds .now) (a .numbers .now) (a .places .now) (a .store .now) [])) (a .total) 0
+    linesFrom (lineAt (a .sheet .children) (a .sheet .points) (a .sheet .nan) (memoryOf (a .kinds .now) (a .numbers .now) (a .places .now) (a .store .now) [])) (a .sheet .total) 0
 
 -- the listing
 abbrev bytesOf : tie.Start → List ℕ
-bytesOf s = doneLine (s .args .counts) ++ linesOf s
+bytesOf s = doneLine (s .args .sheet .counts) ++ linesOf s
 
 -- what is put, line by line, is the listing
 put-whole : (s : tie.Start) {xs l₁ l₂ : List ℕ} {r₁ r₂ : ℕ}
-    → xs ≡ s .args .counts .grid .nodes ∷ s .args .counts .grid .active ∷ s .args .counts .leaves ∷ s .args .counts .sampled ∷ s .args .counts .evaluations ∷ []
+    → xs ≡ s .args .sheet .counts .grid .nodes ∷ s .args .sheet .counts .grid .active ∷ s .args .sheet .counts .leaves ∷ s .args .sheet .counts .sampled ∷ s .args .sheet .counts .evaluations ∷ []
     → r₁ ≡ 0 + length (spell doneForm xs) → l₁ ≡ sets (s .args .out .now) 0 (spell doneForm xs)
     → r₂ ≡ r₁ + length (linesOf s) → l₂ ≡ sets l₁ r₁ (linesOf s) → (r₂ ≡ 0 + length (bytesOf s)) × (l₂ ≡ sets (s .args .out .now) 0 (bytesOf s))
 put-whole s numbers end₁ put₁ end₂ put₂ =
     let out = s .args .out .now in
-    let k = (s .args .counts) in
+    let k = (s .args .sheet .counts) in
     let done = done-spelling k numbers in
     let first = end₁ ∙ ap (λ (t : List ℕ). 0 + length t) done in
     let front = put₁ ∙ ap (sets out 0) done in
@@ -61,18 +61,19 @@ put-form-requires : tie.Need-put-form-requires
 put-form-requires c κs =
     let s = start (c .before .before .before) in
     let a = s .args in
-    let done = done-length (a .counts) (c .before .before .before .done-numbers .ensures) in
-    omega (arith, done, length-append (doneLine (a .counts)) (linesOf s), s .pre .1 .1)
+    let done = done-length (a .sheet .counts) (c .before .before .before .done-numbers .ensures) in
+    omega (arith, done, length-append (doneLine (a .sheet .counts)) (linesOf s), s .pre .1)
 
 put-lines-requires : tie.Need-put-lines-requires
 put-lines-requires c κs =
     let p = numbered (c .before .before .before) in
     let s = start p in
     let a = s .args in
-    let done = done-length (a .counts) (p .done-numbers .ensures) in
+    let done = done-length (a .sheet .counts) (p .done-numbers .ensures) in
     let put = c .before .before .before .put-form .ensures in
+    let laid = s .pre .0 in
     let long = put-long (a .out .now) 0 (spell doneForm (p .done-numbers .result)) (put .1) in
-    (s .pre .0, (s .pre .1 .0, omega (arith, put .0, long, done, length-append (doneLine (a .counts)) (linesOf s), s .pre .1 .1)))
+    ((laid .sizes, laid .kinds, laid .numbers, laid .places), (laid .placed, omega (arith, put .0, long, done, length-append (doneLine (a .sheet .counts)) (linesOf s), s .pre .1)))
 
 zero-rest-requires : tie.Need-zero-rest-requires
 zero-rest-requires c κs =
@@ -82,7 +83,7 @@ zero-rest-requires c κs =
     let first = p .put-form .ensures in
     let lines = c .before .before .before .put-lines .ensures in
     let whole = put-whole s (numbered p .done-numbers .ensures) (first .0) (first .1) (lines .0) (lines .1) in
-    omega (arith, whole .0, put-long (a .out .now) 0 (bytesOf s) (whole .1), s .pre .1 .1)
+    omega (arith, whole .0, put-long (a .out .now) 0 (bytesOf s) (whole .1), s .pre .1)
 
 same-length : tie.Need-same-length
 same-length c = search needs
@@ -95,7 +96,7 @@ returns c =
     let first = p .put-form .ensures in
     let lines = c .before .before .before .before .before .before .put-lines .ensures in
     let whole = put-whole s (numbered p .done-numbers .ensures) (first .0) (first .1) (lines .0) (lines .1) in
-    accepted-bytes (bytesOf s) (a .out .now) (s .pre .1 .1) (whole .0 ∙ zero-add (length (bytesOf s))) (whole .1) (c .before .before .zero-rest .ensures)
+    accepted-bytes (bytesOf s) (a .out .now) (s .pre .1) (whole .0 ∙ zero-add (length (bytesOf s))) (whole .1) (c .before .before .zero-rest .ensures)
 
 pub put-listing-spec : {M : Type 1} → statement M
 put-listing-spec =

@@ -22,11 +22,11 @@ memory s = let a = s .args in memoryOf (a .kinds .now) (a .numbers .now) (a .pla
 abbrev bytesOf : tie.Start → List ℕ
 bytesOf s =
     let a = s .args in
-    listingTo (a .total) (a .children) (a .points) (a .nan) (a .counts) (memory s)
+    listingTo (a .sheet .total) (a .sheet .children) (a .sheet .points) (a .sheet .nan) (a .sheet .counts) (memory s)
 
 measured : (s : tie.Start) → length (bytesOf s)
-    ≡ length (doneLine (s .args .counts)) + sumBelow (lengthAt (s .args .children) (s .args .points) (s .args .kinds .now)) (s .args .total)
-measured s = let a = s .args in listing-measured (a .total) (a .children) (a .points) (a .nan) (a .counts) (memory s)
+    ≡ length (doneLine (s .args .sheet .counts)) + sumBelow (lengthAt (s .args .sheet .children) (s .args .sheet .points) (s .args .kinds .now)) (s .args .sheet .total)
+measured s = let a = s .args in listing-measured (a .sheet .total) (a .sheet .children) (a .sheet .points) (a .sheet .nan) (a .sheet .counts) (memory s)
 
 listing-length-requires : tie.Need-listing-length-requires
 listing-length-requires c κs = search needs
@@ -41,7 +41,7 @@ returns c =
 put-listing-requires : tie.Need-put-listing-requires
 put-listing-requires c κs =
     let s = c .before .before .before .before .before .before .before .before in
-    (s .pre .0, (s .pre .1, omega (arith, c .before .if1 .left, c .before .before .listing-length .ensures, measured s)))
+    (s .pre, omega (arith, c .before .if1 .left, c .before .before .listing-length .ensures, measured s))
 
 same-length : tie.Need-same-length
 same-length c = search needs

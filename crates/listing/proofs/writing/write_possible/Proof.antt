@@ -91,19 +91,18 @@ write-placed-requires c κs =
     let total =
     total-is s (c .before .before .before .before .node-total .ensures)
     (c .before .before .before .before .before .before .before .cube-of .ensures) in
-    let sizes = sized s .sizes in (
-      (
-        record {
-          some = omega (arith, c .before .before .before .before .before .before .before .cube-of .ensures, sizes .some);
-          size = omega (arith, c .before .before .before .before .before .cube-of2 .ensures, sizes .size);
-          few = omega (arith, total, sizes .few);
-        },
-        omega (arith, total, sized s .enoughKinds),
-        omega (arith, total, sized s .enoughNumbers),
-        omega (arith, total, sized s .enoughPlaces),
-      ),
-      sym (c .before .before .before .all-placed .ensures) ∙ not-false _ (c .before .before .if2 .left),
-    )
+    let sizes = sized s .sizes in
+    record {
+      sizes = record {
+        some = omega (arith, c .before .before .before .before .before .before .before .cube-of .ensures, sizes .some);
+        size = omega (arith, c .before .before .before .before .before .cube-of2 .ensures, sizes .size);
+        few = omega (arith, total, sizes .few);
+      };
+      kinds = omega (arith, total, sized s .enoughKinds);
+      numbers = omega (arith, total, sized s .enoughNumbers);
+      places = omega (arith, total, sized s .enoughPlaces);
+      placed = sym (c .before .before .before .all-placed .ensures) ∙ not-false _ (c .before .before .if2 .left);
+    }
 
 same-length : tie.Need-same-length
 same-length c = search needs
