@@ -3,7 +3,8 @@ use mathlib.Core.Path.{_≡_, sym, ap, _∙_}
 use Prim.Native.Nat.{_+_, _*_, _^_, _≤_, _<_}
 use native.Mathlib.Omega.{arith}
 use borrow.Author.Needs.{needs}
-use Rattle.vectors.specs.Text.{digitOf, hexFrom}
+use Rattle.forms.specs.Digits.{digitOf}
+use Rattle.vectors.specs.Text.{hexFrom}
 use Rattle.vectors.proofs.Reading.{digit-inside, hex-step, hex-stop, hex-done, room-one, room-step}
 use Rattle.vectors.proofs.numbers.hex16.Statement.{statement}
 use Rattle.vectors.proofs.numbers.hex16.Tie as tie
