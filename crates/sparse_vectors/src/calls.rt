@@ -27,15 +27,15 @@ fn open(
     store: &mut [f64],
     corners: &mut [f64],
 ) -> u64 {
-    let found = sparse_cases::record_in(held);
     let input = sparse_cases::next_input(held);
+    let found = sparse_cases::record_in(held);
     let outcome = sparse_field::open(found, input, kinds, numbers, places, store, corners);
     kept(outcome, held)
 }
 
 fn step(
-    budget: u64,
     held: &mut [u64; 686],
+    budget: u64,
     kinds: &mut [u8],
     numbers: &mut [f64],
     places: &mut [u32],
@@ -62,9 +62,9 @@ fn drop(
 
 // Makes the call that a word names.
 fn called(
+    held: &mut [u64; 686],
     word: u64,
     budget: u64,
-    held: &mut [u64; 686],
     kinds: &mut [u8],
     numbers: &mut [f64],
     places: &mut [u32],
@@ -72,7 +72,7 @@ fn called(
     corners: &mut [f64],
 ) -> u64 {
     if word == sparse_cases::STEP {
-        return step(budget, held, kinds, numbers, places, store, corners);
+        return step(held, budget, kinds, numbers, places, store, corners);
     }
     if word == sparse_cases::DROP {
         return drop(held, kinds, numbers, places, store, corners);
@@ -80,35 +80,7 @@ fn called(
     open(held, kinds, numbers, places, store, corners)
 }
 
-// The same on so much of each slice as the list lends.
-fn lend(
-    word: u64,
-    budget: u64,
-    held: &mut [u64; 686],
-    kinds: &mut [u8],
-    numbers: &mut [f64],
-    places: &mut [u32],
-    store: &mut [f64],
-    corners: &mut [f64],
-) -> u64 {
-    let k = sparse_cases::lent(held, 0, kinds.len());
-    let n = sparse_cases::lent(held, 1, numbers.len());
-    let p = sparse_cases::lent(held, 2, places.len());
-    let s = sparse_cases::lent(held, 3, store.len());
-    let c = sparse_cases::lent(held, 4, corners.len());
-    called(
-        word,
-        budget,
-        held,
-        &mut kinds[..k],
-        &mut numbers[..n],
-        &mut places[..p],
-        &mut store[..s],
-        &mut corners[..c],
-    )
-}
-
-// Makes the call that a word names, if it names one, and answers it.
+// Makes the call that a word names, on so much of each slice as the list lends, and answers it.
 pub fn call(
     word: u64,
     budget: u64,
@@ -119,9 +91,20 @@ pub fn call(
     store: &mut [f64],
     corners: &mut [f64],
 ) {
-    if !sparse_cases::is_call(word) {
-        return;
-    }
-    let refusal = lend(word, budget, held, kinds, numbers, places, store, corners);
+    let k = sparse_cases::lent(held, 0, kinds.len());
+    let n = sparse_cases::lent(held, 1, numbers.len());
+    let p = sparse_cases::lent(held, 2, places.len());
+    let s = sparse_cases::lent(held, 3, store.len());
+    let c = sparse_cases::lent(held, 4, corners.len());
+    let refusal = called(
+        held,
+        word,
+        budget,
+        &mut kinds[..k],
+        &mut numbers[..n],
+        &mut places[..p],
+        &mut store[..s],
+        &mut corners[..c],
+    );
     sparse_cases::answer_call(refusal, held);
 }

@@ -33,16 +33,18 @@ fn take_line(
     let mut fields = vectors::zeros();
     let word = sparse_cases::begin(line, &mut fields, held);
     touch(word, &fields, held, kinds, numbers, places, store, corners);
-    calls::call(
-        word,
-        fields[0],
-        held,
-        kinds,
-        numbers,
-        places,
-        store,
-        corners,
-    );
+    if sparse_cases::is_call(word) {
+        calls::call(
+            word,
+            fields[0],
+            held,
+            kinds,
+            numbers,
+            places,
+            store,
+            corners,
+        );
+    }
 }
 
 fn take_lines(

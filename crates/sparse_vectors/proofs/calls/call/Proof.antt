@@ -1,10 +1,10 @@
--- `lend` lends no more than there is of each slice.
+-- `call` lends no more than there is of each slice.
 use mathlib.Core.Path.{sym}
 use native.Mathlib.Omega.{arith}
 use lib.Seq.{length-take-le}
 use borrow.Author.Needs.{needs}
-use Rattle.sparse_vectors.proofs.calls.lend.Statement.{statement}
-use Rattle.sparse_vectors.proofs.calls.lend.Tie as tie
+use Rattle.sparse_vectors.proofs.calls.call.Statement.{statement}
+use Rattle.sparse_vectors.proofs.calls.call.Tie as tie
 
 lent-requires : tie.Need-lent-requires
 lent-requires c κs = search needs
@@ -54,6 +54,9 @@ slice-aggregate-called-5 c = sym (length-take-le _ _ (omega arith))
 called-requires : tie.Need-called-requires
 called-requires c κs = search needs
 
+answer-call-requires : tie.Need-answer-call-requires
+answer-call-requires c κs = search needs
+
 same-length : tie.Need-same-length
 same-length c = search needs
 
@@ -72,8 +75,8 @@ same-length-5 c = search needs
 returns : tie.Need-returns
 returns c = search needs
 
-pub lend-spec : {M : Type 1} → statement M
-lend-spec =
+pub call-spec : {M : Type 1} → statement M
+call-spec =
     tie.close
     (tie.spec
     lent-requires
@@ -92,6 +95,7 @@ lend-spec =
     slice-relend-prefix-called-5
     slice-aggregate-called-5
     called-requires
+    answer-call-requires
     same-length
     same-length-2
     same-length-3
