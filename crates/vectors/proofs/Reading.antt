@@ -51,7 +51,8 @@ digit-small b small = by (ltb b 256) refl
 
 -- ---- one digit of a number
 
-hex-next : (s : List ℕ) (at n k : ℕ) → 0 < k → hexFrom k s at n ≡ pickHex (ltb (digitOf (byteAt s at)) 16) (hexFrom (k - 1) s (at + 1) (n * 16 + digitOf (byteAt s at))) NoNumber
+hex-next : (s : List ℕ) (at n k : ℕ) → 0 < k
+    → hexFrom k s at n ≡ pickHex (ltb (digitOf (byteAt s at)) 16) (hexFrom (k - 1) s (at + 1) (n * 16 + digitOf (byteAt s at))) NoNumber
 unfolding hexFrom
 hex-next s at n zero some = absurd (omega arith)
 hex-next s at n (suc k) some = let less : suc k - 1 ≡ k = omega arith in rw (less, add-one at)
@@ -117,7 +118,8 @@ module _ (s : List ℕ) (at : ℕ) where
   unfolding rowAt
   row-third other = rw (ne-eqb (byteAt s (at + 50)) 10 other, and-false)
 
-  pub row-whole : byteAt s (at + 16) ≡ 32 → byteAt s (at + 33) ≡ 32 → byteAt s (at + 50) ≡ 10 → rowAt s at ≡ joined (hexAt s at) (hexAt s (at + 17)) (hexAt s (at + 34))
+  pub row-whole : byteAt s (at + 16) ≡ 32 → byteAt s (at + 33) ≡ 32 → byteAt s (at + 50) ≡ 10
+      → rowAt s at ≡ joined (hexAt s at) (hexAt s (at + 17)) (hexAt s (at + 34))
   unfolding rowAt
   row-whole first second third = rw (first, second, third)
 

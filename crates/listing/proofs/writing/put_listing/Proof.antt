@@ -6,6 +6,7 @@ use native.Mathlib.Nat.{zero-add}
 use native.Mathlib.Omega.{arith}
 use lib.ListN.{length, length-append}
 use lib.Seq.{sets}
+use Rattle.schedule.specs.declared.Counts.{Counts}
 use Rattle.schedule.specs.Lent.{memoryOf}
 use Rattle.forms.specs.Forms.{spell}
 use Rattle.listing.specs.Lines.{doneForm}
@@ -25,11 +26,15 @@ numbered p = p .before .before .before .before
 abbrev begun : tie.After-put-lines → tie.After-put-form
 begun p = p .before .before .before .before
 
+abbrev counts : tie.Start → Counts
+counts s = s .args .sheet .counts
+
 -- the children's lines
 abbrev linesOf : tie.Start → List ℕ
 linesOf s =
     let a = s .args in
-    linesFrom (lineAt (a .sheet .children) (a .sheet .points) (a .sheet .nan) (memoryOf (a .kinds .now) (a .numbers .now) (a .places .now) (a .store .now) [])) (a .sheet .total) 0
+    let m = memoryOf (a .kinds .now) (a .numbers .now) (a .places .now) (a .store .now) [] in
+    linesFrom (lineAt (a .sheet .children) (a .sheet .points) (a .sheet .nan) m) (a .sheet .total) 0
 
 -- the listing
 abbrev bytesOf : tie.Start → List ℕ
@@ -37,7 +42,7 @@ bytesOf s = doneLine (s .args .sheet .counts) ++ linesOf s
 
 -- what is put, line by line, is the listing
 put-whole : (s : tie.Start) {xs l₁ l₂ : List ℕ} {r₁ r₂ : ℕ}
-    → xs ≡ s .args .sheet .counts .grid .nodes ∷ s .args .sheet .counts .grid .active ∷ s .args .sheet .counts .leaves ∷ s .args .sheet .counts .sampled ∷ s .args .sheet .counts .evaluations ∷ []
+    → xs ≡ counts s .grid .nodes ∷ counts s .grid .active ∷ counts s .leaves ∷ counts s .sampled ∷ counts s .evaluations ∷ []
     → r₁ ≡ 0 + length (spell doneForm xs) → l₁ ≡ sets (s .args .out .now) 0 (spell doneForm xs)
     → r₂ ≡ r₁ + length (linesOf s) → l₂ ≡ sets l₁ r₁ (linesOf s) → (r₂ ≡ 0 + length (bytesOf s)) × (l₂ ≡ sets (s .args .out .now) 0 (bytesOf s))
 put-whole s numbers end₁ put₁ end₂ put₂ =
@@ -73,7 +78,8 @@ put-lines-requires c κs =
     let put = c .before .before .before .put-form .ensures in
     let laid = s .pre .0 in
     let long = put-long (a .out .now) 0 (spell doneForm (p .done-numbers .result)) (put .1) in
-    ((laid .sizes, laid .kinds, laid .numbers, laid .places), (laid .placed, omega (arith, put .0, long, done, length-append (doneLine (a .sheet .counts)) (linesOf s), s .pre .1)))
+    let room = length-append (doneLine (counts s)) (linesOf s) in
+    ((laid .sizes, laid .kinds, laid .numbers, laid .places), (laid .placed, omega (arith, put .0, long, done, room, s .pre .1)))
 
 zero-rest-requires : tie.Need-zero-rest-requires
 zero-rest-requires c κs =

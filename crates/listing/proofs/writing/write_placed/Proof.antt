@@ -7,6 +7,7 @@ use lib.ListN.{length}
 use Rattle.schedule.specs.Memory.{Memory}
 use Rattle.lists.specs.Sums.{sumBelow}
 use Rattle.schedule.specs.Lent.{memoryOf}
+use Rattle.listing.specs.declared.Sheet.{Sheet}
 use Rattle.listing.specs.Inner.Lengths.{lengthAt}
 use Rattle.listing.specs.Listing.{doneLine, listingTo}
 use Rattle.listing.proofs.ListingLaws.{listing-measured, refused-answer, refused-bytes, accepted-answer}
@@ -18,6 +19,9 @@ use Rattle.listing.proofs.writing.write_placed.Tie as tie
 abbrev memory : tie.Start → Memory
 memory s = let a = s .args in memoryOf (a .kinds .now) (a .numbers .now) (a .places .now) (a .store .now) []
 
+abbrev sheet : tie.Start → Sheet
+sheet s = s .args .sheet
+
 -- the listing
 abbrev bytesOf : tie.Start → List ℕ
 bytesOf s =
@@ -25,7 +29,7 @@ bytesOf s =
     listingTo (a .sheet .total) (a .sheet .children) (a .sheet .points) (a .sheet .nan) (a .sheet .counts) (memory s)
 
 measured : (s : tie.Start) → length (bytesOf s)
-    ≡ length (doneLine (s .args .sheet .counts)) + sumBelow (lengthAt (s .args .sheet .children) (s .args .sheet .points) (s .args .kinds .now)) (s .args .sheet .total)
+    ≡ length (doneLine (sheet s .counts)) + sumBelow (lengthAt (sheet s .children) (sheet s .points) (s .args .kinds .now)) (sheet s .total)
 measured s = let a = s .args in listing-measured (a .sheet .total) (a .sheet .children) (a .sheet .points) (a .sheet .nan) (a .sheet .counts) (memory s)
 
 listing-length-requires : tie.Need-listing-length-requires
