@@ -18,8 +18,8 @@ fn put_points(answers: &mut [u64; 160], points: [Vec3; 8]) {
 pub fn corners(fields: &[u64; 160], answers: &mut [u64; 160]) -> usize
     ensures { λ r. ⌜ (0 < r) × (r ≤ 160) ⌝ }
 {
-    let origin = numbers::point_at(fields, 0);
-    let cell = numbers::float_at(fields, 3);
+    let origin = cases::vector_at(fields, 0);
+    let cell = cases::float_at(fields, 3);
     let n = numbers::counts_at(fields, 4);
     let c = numbers::counts_at(fields, 7);
     let found = dense_field::cell_corners(origin, cell, n, c);

@@ -7,8 +7,8 @@ use dense_field::PointCount;
 pub fn count(fields: &[u64; 160], answers: &mut [u64; 160]) -> usize
     ensures { λ r. ⌜ (0 < r) × (r ≤ 160) ⌝ }
 {
-    let bounds = numbers::box_at(fields, 0);
-    let cell = numbers::float_at(fields, 6);
+    let bounds = cases::box_at(fields, 0);
+    let cell = cases::float_at(fields, 6);
     match dense_field::point_count(bounds, cell) {
         PointCount::Points(n) => {
             answers[0] = 0;

@@ -1,22 +1,13 @@
 // What the numbers of a case stand for, and the numbers of an answer.
-ghost use Prim.Native.Nat.{_+_, _≤_};
+ghost use Prim.Native.Nat.{_+_, _<_, _≤_};
 ghost use lib.ListN.{length};
 use dense_field::Outcome;
-use geometry::BoundingBox;
 use geometry::Vec3;
 use geometry::Vec3i;
 
 // Room for values.
 pub fn floats() -> [f64; 150] {
     [0.0; 150]
-}
-
-fn place(n: u64) -> usize {
-    n as usize
-}
-
-fn number(n: usize) -> u64 {
-    n as u64
 }
 
 // A cause's number.
@@ -35,7 +26,7 @@ pub fn small(n: usize) -> usize
 pub fn count_at(fields: &[u64; 160], at: usize) -> usize
     requires { ⌜ at + 1 ≤ 160 ⌝ }
 {
-    place(fields[at])
+    cases::place(fields[at])
 }
 
 pub fn counts_at(fields: &[u64; 160], at: usize) -> Vec3i
@@ -46,39 +37,6 @@ pub fn counts_at(fields: &[u64; 160], at: usize) -> Vec3i
         count_at(fields, at + 1),
         count_at(fields, at + 2),
     )
-}
-
-// A number of 32 bits, and the largest of them for one above.
-pub fn short_at(fields: &[u64; 160], at: usize) -> u32
-    requires { ⌜ at + 1 ≤ 160 ⌝ }
-{
-    short(fields[at])
-}
-
-fn short(n: u64) -> u32 {
-    if n < 4294967296 { n as u32 } else { 4294967295 }
-}
-
-pub fn float_at(fields: &[u64; 160], at: usize) -> f64
-    requires { ⌜ at + 1 ≤ 160 ⌝ }
-{
-    float::from_bits(fields[at])
-}
-
-pub fn point_at(fields: &[u64; 160], at: usize) -> Vec3
-    requires { ⌜ at + 3 ≤ 160 ⌝ }
-{
-    Vec3::new(
-        float_at(fields, at),
-        float_at(fields, at + 1),
-        float_at(fields, at + 2),
-    )
-}
-
-pub fn box_at(fields: &[u64; 160], at: usize) -> BoundingBox
-    requires { ⌜ at + 6 ≤ 160 ⌝ }
-{
-    BoundingBox::new(point_at(fields, at), point_at(fields, at + 3))
 }
 
 // Sets a slice to the floats from a place on.
@@ -95,15 +53,15 @@ pub fn values_at(fields: &[u64; 160], at: usize, values: &mut [f64])
 pub fn put_count(answers: &mut [u64; 160], at: usize, n: usize)
     requires { ⌜ at + 1 ≤ 160 ⌝ }
 {
-    answers[at] = number(n);
+    answers[at] = cases::wide(n);
 }
 
 pub fn put_counts(answers: &mut [u64; 160], at: usize, n: Vec3i)
     requires { ⌜ at + 3 ≤ 160 ⌝ }
 {
-    answers[at] = number(n.i);
-    answers[at + 1] = number(n.j);
-    answers[at + 2] = number(n.k);
+    answers[at] = cases::wide(n.i);
+    answers[at + 1] = cases::wide(n.j);
+    answers[at + 2] = cases::wide(n.k);
 }
 
 pub fn put_point(answers: &mut [u64; 160], at: usize, p: Vec3)
@@ -151,4 +109,14 @@ pub fn outcome(done: Outcome) -> u64 {
         Outcome::Done => 0,
         Outcome::Refused(n) => cause(n),
     }
+}
+
+// Puts the number of an outcome, and so many values after it.
+pub fn put_outcome(done: Outcome, values: &[f64], len: usize, answers: &mut [u64; 160]) -> usize
+    requires { ⌜ len ≤ 150 ⌝ }
+    ensures { λ r. ⌜ (0 < r) × (r ≤ 160) ⌝ }
+{
+    answers[0] = outcome(done);
+    put_values(answers, 1, values, len);
+    1 + len
 }

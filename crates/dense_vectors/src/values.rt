@@ -14,12 +14,10 @@ pub fn pad(fields: &[u64; 160], values: &mut [f64], answers: &mut [u64; 160]) ->
 {
     let len = values.len();
     let n = numbers::counts_at(fields, 0);
-    let value = numbers::float_at(fields, 3);
+    let value = cases::float_at(fields, 3);
     numbers::values_at(fields, 4, values);
     let done = dense_field::padding(n, value, values);
-    answers[0] = numbers::outcome(done);
-    numbers::put_values(answers, 1, values, len);
-    1 + len
+    numbers::put_outcome(done, values, len, answers)
 }
 
 // `threshold`: the dimensions, the limit, the values.
@@ -29,12 +27,10 @@ pub fn threshold(fields: &[u64; 160], values: &mut [f64], answers: &mut [u64; 16
 {
     let len = values.len();
     let n = numbers::counts_at(fields, 0);
-    let limit = numbers::float_at(fields, 3);
+    let limit = cases::float_at(fields, 3);
     numbers::values_at(fields, 4, values);
     let done = dense_field::threshold(n, limit, values);
-    answers[0] = numbers::outcome(done);
-    numbers::put_values(answers, 1, values, len);
-    1 + len
+    numbers::put_outcome(done, values, len, answers)
 }
 
 // Whether every value has these bits.
@@ -69,8 +65,8 @@ pub fn smooth(
 {
     let len = values.len();
     let n = numbers::counts_at(fields, 0);
-    let factor = numbers::float_at(fields, 3);
-    let rounds = numbers::short_at(fields, 4);
+    let factor = cases::float_at(fields, 3);
+    let rounds = cases::short(fields[4]);
     numbers::values_at(fields, 6, values);
     let room = scratch.len();
     slices::fill_floats(BEFORE, scratch, 0, room);

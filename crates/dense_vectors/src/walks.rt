@@ -27,7 +27,7 @@ fn stepped(answers: &mut [u64; 160], found: u64, cursor: Vec3i) {
 pub fn points(fields: &[u64; 160], answers: &mut [u64; 160]) -> usize
     ensures { λ r. ⌜ (0 < r) × (r ≤ 160) ⌝ }
 {
-    let bounds = numbers::box_at(fields, 0);
+    let bounds = cases::box_at(fields, 0);
     let n = numbers::counts_at(fields, 6);
     let cursor = numbers::counts_at(fields, 9);
     match dense_field::point_step(bounds, n, cursor) {
@@ -48,7 +48,7 @@ pub fn points(fields: &[u64; 160], answers: &mut [u64; 160]) -> usize
 pub fn cells(fields: &[u64; 160], answers: &mut [u64; 160]) -> usize
     ensures { λ r. ⌜ (0 < r) × (r ≤ 160) ⌝ }
 {
-    let bounds = numbers::box_at(fields, 0);
+    let bounds = cases::box_at(fields, 0);
     let n = numbers::counts_at(fields, 6);
     let cursor = numbers::counts_at(fields, 9);
     match dense_field::cell_step(bounds, n, cursor) {

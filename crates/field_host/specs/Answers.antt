@@ -19,8 +19,8 @@ use Rattle.dense_field.specs.declared.OctetStep.the-variants as octet
 use Rattle.dense_field.specs.declared.OctetWalk.{OctetWalk}
 use Rattle.grid.specs.declared.CornerList.{CornerList}
 use Rattle.grid.specs.declared.CornerList.the-variants as corners
-use Rattle.job_text.specs.declared.Listing.{Listing}
-use Rattle.job_text.specs.declared.Listing.the-variants as listing
+use Rattle.listing.specs.declared.Listing.{Listing}
+use Rattle.listing.specs.declared.Listing.the-variants as listing
 
 abbrev pub coordinates : Vec3 → List Float
 coordinates p = p .x ∷ p .y ∷ p .z ∷ []

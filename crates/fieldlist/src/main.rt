@@ -59,7 +59,7 @@ fn main() {
         return;
     }
     let n = read.count;
-    let end = job_text::list_whole(&text[..n], &mut out);
+    let end = listing::list_whole(&text[..n], &mut out);
     if !io::write_all(STDOUT_FILENO, &out[..end]) {
         os::fail(b"fieldlist: writing the listing");
     }

@@ -5,14 +5,6 @@ use geometry::BoundingBox;
 use geometry::Vec3;
 use grid::Grid;
 
-// A number of 32 bits; a larger one counts as the largest.
-pub fn small(n: u64) -> u32 {
-    if n > 4294967295 {
-        return 4294967295;
-    }
-    n as u32
-}
-
 pub fn wide(n: u32) -> usize {
     n as usize
 }
@@ -32,30 +24,14 @@ pub fn number(fields: &[u64; 160], at: usize) -> f64
     float::from_bits(fields[at])
 }
 
-pub fn vector(fields: &[u64; 160], at: usize) -> Vec3
-    requires { ⌜ at + 3 ≤ 160 ⌝ }
-{
-    Vec3::new(
-        number(fields, at),
-        number(fields, at + 1),
-        number(fields, at + 2),
-    )
+// The box of a case's first six numbers.
+pub fn box_of(fields: &[u64; 160]) -> BoundingBox {
+    cases::box_at(fields, 0)
 }
 
-pub fn bounds(fields: &[u64; 160], at: usize) -> BoundingBox
-    requires { ⌜ at + 6 ≤ 160 ⌝ }
-{
-    BoundingBox::new(vector(fields, at), vector(fields, at + 3))
-}
-
-// The grid of a case's first nine numbers.
+// The grid of its first nine.
 pub fn grid_of(fields: &[u64; 160]) -> Grid {
-    Grid {
-        bounds: bounds(fields, 0),
-        cell: number(fields, 6),
-        inner: small(fields[7]),
-        leaf: small(fields[8]),
-    }
+    cases::grid_at(fields, 0)
 }
 
 pub fn octet(fields: &[u64; 160], at: usize) -> [f64; 8]

@@ -3,7 +3,6 @@ ghost use Prim.Native.Nat.{_<_, _≤_};
 use crate::case::flag;
 use crate::case::has_bit;
 use crate::case::put_bit;
-use crate::case::small;
 use crate::case::wide;
 use crate::words;
 use grid::CornerList;
@@ -120,7 +119,7 @@ fn call(n: u32, kinds: [u8; 513], most: usize, end: usize, answers: &mut [u64; 1
 fn list(fields: &[u64; 160], answers: &mut [u64; 160]) -> usize
     ensures { λ r. ⌜ (0 < r) × (r ≤ 160) ⌝ }
 {
-    let n = small(fields[0]);
+    let n = cases::short(fields[0]);
     if fields[1] > MOST_KINDS {
         return put_off(answers);
     }

@@ -2,7 +2,6 @@
 ghost use Prim.Native.Nat.{_<_, _≤_};
 use crate::case::grid_of;
 use crate::case::number;
-use crate::case::small;
 use crate::words;
 use input::Band;
 use input::Input;
@@ -46,9 +45,13 @@ fn model_of(count: u32, place: usize, part: Part) -> ImplicitModel {
 
 // The model of a case: COUNT PLACE KIND A B.
 fn case_model(fields: &[u64; 160]) -> ImplicitModel {
-    let part = part_of(fields[13], small(fields[14]), small(fields[15]));
+    let part = part_of(
+        fields[13],
+        cases::short(fields[14]),
+        cases::short(fields[15]),
+    );
     let place = fields[12] as usize;
-    model_of(small(fields[11]), place, part)
+    model_of(cases::short(fields[11]), place, part)
 }
 
 // The slices' lengths: KINDS NUMBERS PLACES STORE CORNERS.

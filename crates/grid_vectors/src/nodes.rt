@@ -6,14 +6,17 @@ use crate::case::grid_of;
 use crate::case::number;
 use crate::case::put_bit;
 use crate::case::put_box;
-use crate::case::small;
 use crate::words;
 use grid::Grid;
 use vectors::put_off;
 
 // `size CELL N L`: a node's size.
 fn size(fields: &[u64; 160], answers: &mut [u64; 160]) {
-    let s = grid::node_size(number(fields, 0), small(fields[1]), small(fields[2]));
+    let s = grid::node_size(
+        number(fields, 0),
+        cases::short(fields[1]),
+        cases::short(fields[2]),
+    );
     answers[1] = float::to_bits(s);
 }
 
@@ -43,7 +46,7 @@ fn axis(fields: &[u64; 160], answers: &mut [u64; 160]) {
     let least = number(fields, 0);
     let most = number(fields, 1);
     let s = number(fields, 2);
-    let n = small(fields[3]);
+    let n = cases::short(fields[3]);
     let i = fields[4] as usize;
     let child = fields[5] as usize;
     answers[1] = float::to_bits(grid::node_least(least, s, i));
@@ -127,7 +130,7 @@ pub fn answer(word: u64, fields: &[u64; 160], answers: &mut [u64; 160]) -> usize
     ensures { λ r. ⌜ r ≤ 160 ⌝ }
 {
     if word == words::BLOCK {
-        answers[1] = flag(grid::is_block(small(fields[0])));
+        answers[1] = flag(grid::is_block(cases::short(fields[0])));
         return 2;
     }
     if word == words::SIZE {

@@ -1,9 +1,8 @@
 // Corner points, leaf points, and the places of a child's corners.
 ghost use Prim.Native.Nat.{_+_, _<_, _≤_};
-use crate::case::bounds;
+use crate::case::box_of;
 use crate::case::cube;
 use crate::case::put_vector;
-use crate::case::small;
 use crate::words;
 use vectors::put_off;
 
@@ -14,7 +13,7 @@ const MOST_POINTS: u64 = 50;
 fn corner(fields: &[u64; 160], answers: &mut [u64; 160]) {
     let c = fields[7] as usize;
     put_vector(
-        grid::corner_point(bounds(fields, 0), small(fields[6]), c),
+        grid::corner_point(box_of(fields), cases::short(fields[6]), c),
         1,
         answers,
     );
@@ -24,12 +23,12 @@ fn corner(fields: &[u64; 160], answers: &mut [u64; 160]) {
 fn leaf(fields: &[u64; 160], answers: &mut [u64; 160]) -> usize
     ensures { λ r. ⌜ (0 < r) × (r ≤ 160) ⌝ }
 {
-    let l = small(fields[6]);
+    let l = cases::short(fields[6]);
     let p = fields[7] as usize;
     if l == 0 {
         return put_off(answers);
     }
-    put_vector(grid::leaf_point(bounds(fields, 0), l, p), 1, answers);
+    put_vector(grid::leaf_point(box_of(fields), l, p), 1, answers);
     4
 }
 
@@ -71,7 +70,7 @@ fn numbers_from(first: u32) -> [u32; 64]
 fn corners(fields: &[u64; 160], answers: &mut [u64; 160]) -> usize
     ensures { λ r. ⌜ (0 < r) × (r ≤ 160) ⌝ }
 {
-    let first = small(fields[7]);
+    let first = cases::short(fields[7]);
     if first > 1000000 {
         return put_off(answers);
     }
@@ -84,8 +83,8 @@ fn corners(fields: &[u64; 160], answers: &mut [u64; 160]) -> usize
     let mut ys = row();
     let mut zs = row();
     grid::corner_points(
-        bounds(fields, 0),
-        small(fields[6]),
+        box_of(fields),
+        cases::short(fields[6]),
         &list[..count],
         &mut xs,
         &mut ys,
@@ -99,7 +98,7 @@ fn corners(fields: &[u64; 160], answers: &mut [u64; 160]) -> usize
 fn leaves(fields: &[u64; 160], answers: &mut [u64; 160]) -> usize
     ensures { λ r. ⌜ (0 < r) × (r ≤ 160) ⌝ }
 {
-    let l = small(fields[6]);
+    let l = cases::short(fields[6]);
     if l == 0 {
         return put_off(answers);
     }
@@ -114,15 +113,7 @@ fn leaves(fields: &[u64; 160], answers: &mut [u64; 160]) -> usize
     let mut xs = row();
     let mut ys = row();
     let mut zs = row();
-    grid::leaf_points(
-        bounds(fields, 0),
-        l,
-        first,
-        count,
-        &mut xs,
-        &mut ys,
-        &mut zs,
-    );
+    grid::leaf_points(box_of(fields), l, first, count, &mut xs, &mut ys, &mut zs);
     put_row(&xs, &ys, &zs, count, answers);
     1 + count * 3
 }
@@ -143,7 +134,7 @@ fn put_eight(places: [usize; 8], answers: &mut [u64; 160]) {
 fn places(fields: &[u64; 160], answers: &mut [u64; 160]) -> usize
     ensures { λ r. ⌜ (0 < r) × (r ≤ 160) ⌝ }
 {
-    let n = small(fields[0]);
+    let n = cases::short(fields[0]);
     let c = fields[1] as usize;
     if n == 0 {
         return put_off(answers);

@@ -1,6 +1,6 @@
 // Half diagonals, the extremes and the mean of an octet, and which children are pruned.
 ghost use Prim.Native.Nat.{_≤_};
-use crate::case::bounds;
+use crate::case::box_of;
 use crate::case::flag;
 use crate::case::number;
 use crate::case::octet;
@@ -27,7 +27,7 @@ pub fn answer(word: u64, fields: &[u64; 160], answers: &mut [u64; 160]) -> usize
     ensures { λ r. ⌜ r ≤ 160 ⌝ }
 {
     if word == words::HALF {
-        answers[1] = float::to_bits(grid::half_diagonal(bounds(fields, 0)));
+        answers[1] = float::to_bits(grid::half_diagonal(box_of(fields)));
         return 2;
     }
     if word == words::EXTREMES {

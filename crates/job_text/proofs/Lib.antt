@@ -1,4 +1,4 @@
--- Laws of reading a text, of NaN bits, and of listings.
+-- Laws of reading a text.
 pub mod PartLaws
 pub mod PartTurns
 pub mod Gathering
@@ -10,13 +10,4 @@ pub mod Cut
 pub mod OffLine
 pub mod OffBack
 pub mod InputBack
-pub mod NanLaws
-pub mod NanValues
-pub mod NanRead
 pub mod Worked
-pub mod LineLaws
-pub mod ListingLaws
-pub mod WrittenLaws
-pub mod PlanListing
-pub mod ListingFits
-pub mod ListedLaws

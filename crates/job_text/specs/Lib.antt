@@ -3,9 +3,4 @@ pub mod Parts
 pub mod Reading
 pub mod Texts
 pub mod OnForm
-pub mod NanBits
-pub mod Values
-pub mod Listing
-pub mod Written
-pub mod Listed
 pub mod Inner

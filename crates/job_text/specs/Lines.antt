@@ -1,4 +1,4 @@
--- The lines of a job's text (rules T4 and T5), and those of a listing (rules T10 to T13). H stands for a float's bits, D for a decimal number.
+-- The lines of a job's text (rules T4 and T5). H stands for a float's bits, D for a decimal number.
 use Prim.Native.Nat.{ℕ}
 use Prim.Native.String.{String}
 use mathlib.Core.List.{List, [], _∷_, map}
@@ -13,7 +13,7 @@ form s = map pieceOf (bytes s)
 abbrev pub limit : ℕ
 limit = 4294967295
 
--- ---- a job's text: four lines, then its parts (rules T4 and T5)
+-- ---- four lines, then the parts (rules T4 and T5)
 
 -- the least point of the bounds, then the most (rule T4)
 abbrev pub boundsForm : List Piece
@@ -56,28 +56,3 @@ partForm neg = form "(neg D)\n"
 -- in the order of their numbers in the code
 abbrev pub partKinds : List PartKind
 partKinds = const ∷ sphere ∷ plane ∷ min ∷ max ∷ add ∷ sub ∷ neg ∷ []
-
--- ---- a listing
-
--- the five counts (rule T10)
-abbrev pub doneForm : List Piece
-doneForm = form "(done D D D D D)\n"
-
--- node, child, then the values, each after a space, and the end of the line (rule T11)
-abbrev pub leafForm : List Piece
-leafForm = form "(leaf D D"
-
-abbrev pub leafEnd : List ℕ
-leafEnd = bytes ")\n"
-
--- node, child, number (rule T12)
-abbrev pub constantForm : List Piece
-constantForm = form "(constant D D H)\n"
-
--- the number of a cause (rule T13)
-abbrev pub refusedForm : List Piece
-refusedForm = form "(refused D)\n"
-
--- the line of a text that is off its form (rule T13)
-abbrev pub offForm : List Piece
-offForm = form "(refused 12 D)\n"

@@ -20,7 +20,7 @@ fn write_digest(listing: &[u8]) {
 // Writes the answer to one text, or its digest.
 fn list_text(text: &[u8], whole: bool) {
     let mut out = [0u8; 88176];
-    let end = job_text::list_whole(text, &mut out);
+    let end = listing::list_whole(text, &mut out);
     if whole {
         write_whole(&out[..end]);
     } else {

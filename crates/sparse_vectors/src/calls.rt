@@ -1,81 +1,8 @@
-// The calls on the job.
-ghost use Prim.Native.Nat.{_+_, _≤_};
-use crate::answers;
-use crate::held::COUNTS;
-use crate::held::CURSOR;
-use crate::held::JOB;
-use crate::held::NEXT;
-use crate::records;
-use crate::words;
-use input::Input;
+// The calls on the job. Each keeps the record that is handed back, and returns the number of the
+// refusal, or 0.
 use schedule::Answer;
 use schedule::Record;
 use sparse_field::Outcome;
-
-// The three calls, without what is proved of them.
-fn opened(
-    found: Record,
-    input: Input,
-    kinds: &mut [u8],
-    numbers: &mut [f64],
-    places: &mut [u32],
-    store: &mut [f64],
-    corners: &mut [f64],
-) -> Outcome {
-    sparse_field::open(found, input, kinds, numbers, places, store, corners)
-}
-
-fn stepped(
-    found: Record,
-    budget: u64,
-    kinds: &mut [u8],
-    numbers: &mut [f64],
-    places: &mut [u32],
-    store: &mut [f64],
-    corners: &mut [f64],
-) -> Outcome {
-    sparse_field::step(found, budget, kinds, numbers, places, store, corners)
-}
-
-fn dropped(
-    found: Record,
-    kinds: &mut [u8],
-    numbers: &mut [f64],
-    places: &mut [u32],
-    store: &mut [f64],
-    corners: &mut [f64],
-) -> Outcome {
-    sparse_field::drop(found, kinds, numbers, places, store, corners)
-}
-
-// Makes the call that a word names.
-fn called(
-    word: u64,
-    budget: u64,
-    held: &[u64; 686],
-    kinds: &mut [u8],
-    numbers: &mut [f64],
-    places: &mut [u32],
-    store: &mut [f64],
-    corners: &mut [f64],
-) -> Outcome {
-    let found = records::record_in(held);
-    if word == words::STEP {
-        return stepped(found, budget, kinds, numbers, places, store, corners);
-    }
-    if word == words::DROP {
-        return dropped(found, kinds, numbers, places, store, corners);
-    }
-    opened(
-        found,
-        records::input_at(held, NEXT),
-        kinds,
-        numbers,
-        places,
-        store,
-        corners,
-    )
-}
 
 // The number of a refusal, or 0.
 fn refusal_of(answer: Answer) -> u64 {
@@ -85,37 +12,76 @@ fn refusal_of(answer: Answer) -> u64 {
     }
 }
 
-// Keeps what a call hands back. Returns the number of its refusal, or 0.
+// Keeps what a call hands back.
 fn kept(outcome: Outcome, held: &mut [u64; 686]) -> u64 {
     let answer = outcome.answer;
     let next = outcome.next;
-    records::put_record(next, held);
+    sparse_cases::put_record(next, held);
     refusal_of(answer)
 }
 
-// Copies so many of the numbers held to a place of the answers.
-pub fn put_held(held: &[u64; 686], from: usize, count: usize, answers: &mut [u64; 160], at: usize)
-    requires { ⌜ (from + count ≤ 686) × (at + count ≤ 160) ⌝ }
-{
-    let mut i: usize = 0;
-    while i < count {
-        answers[at + i] = held[from + i];
-        i += 1;
+fn open(
+    held: &mut [u64; 686],
+    kinds: &mut [u8],
+    numbers: &mut [f64],
+    places: &mut [u32],
+    store: &mut [f64],
+    corners: &mut [f64],
+) -> u64 {
+    let input = sparse_cases::next_input(held);
+    let found = sparse_cases::record_in(held);
+    let outcome = sparse_field::open(found, input, kinds, numbers, places, store, corners);
+    kept(outcome, held)
+}
+
+fn step(
+    held: &mut [u64; 686],
+    budget: u64,
+    kinds: &mut [u8],
+    numbers: &mut [f64],
+    places: &mut [u32],
+    store: &mut [f64],
+    corners: &mut [f64],
+) -> u64 {
+    let found = sparse_cases::record_in(held);
+    let outcome = sparse_field::step(found, budget, kinds, numbers, places, store, corners);
+    kept(outcome, held)
+}
+
+fn drop(
+    held: &mut [u64; 686],
+    kinds: &mut [u8],
+    numbers: &mut [f64],
+    places: &mut [u32],
+    store: &mut [f64],
+    corners: &mut [f64],
+) -> u64 {
+    let found = sparse_cases::record_in(held);
+    let outcome = sparse_field::drop(found, kinds, numbers, places, store, corners);
+    kept(outcome, held)
+}
+
+// Makes the call that a word names.
+fn called(
+    held: &mut [u64; 686],
+    word: u64,
+    budget: u64,
+    kinds: &mut [u8],
+    numbers: &mut [f64],
+    places: &mut [u32],
+    store: &mut [f64],
+    corners: &mut [f64],
+) -> u64 {
+    if word == sparse_cases::STEP {
+        return step(held, budget, kinds, numbers, places, store, corners);
     }
+    if word == sparse_cases::DROP {
+        return drop(held, kinds, numbers, places, store, corners);
+    }
+    open(held, kinds, numbers, places, store, corners)
 }
 
-// Answers the refusal's number, the flag, the counts, whether the cursor is at the end, and the cursor.
-fn answer(refusal: u64, held: &mut [u64; 686]) {
-    let mut answers = vectors::zeros();
-    answers[0] = refusal;
-    answers[1] = held[JOB];
-    put_held(held, COUNTS, 5, &mut answers, 2);
-    answers[7] = if held[CURSOR] == 0 { 1 } else { 0 };
-    put_held(held, CURSOR, 4, &mut answers, 8);
-    answers::take(&answers, 12, held);
-}
-
-// Makes the call that a word names, keeps the record that it hands back, and answers it.
+// Makes the call that a word names, on so much of each slice as the list lends, and answers it.
 pub fn call(
     word: u64,
     budget: u64,
@@ -126,7 +92,20 @@ pub fn call(
     store: &mut [f64],
     corners: &mut [f64],
 ) {
-    let outcome = called(word, budget, held, kinds, numbers, places, store, corners);
-    let refusal = kept(outcome, held);
-    answer(refusal, held);
+    let k = sparse_cases::lent(held, 0, kinds.len());
+    let n = sparse_cases::lent(held, 1, numbers.len());
+    let p = sparse_cases::lent(held, 2, places.len());
+    let s = sparse_cases::lent(held, 3, store.len());
+    let c = sparse_cases::lent(held, 4, corners.len());
+    let refusal = called(
+        held,
+        word,
+        budget,
+        &mut kinds[..k],
+        &mut numbers[..n],
+        &mut places[..p],
+        &mut store[..s],
+        &mut corners[..c],
+    );
+    sparse_cases::answer_call(refusal, held);
 }

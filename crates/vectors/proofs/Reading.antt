@@ -6,13 +6,15 @@ use native.Mathlib.Numerals.{add-one}
 use native.Mathlib.Omega.{arith}
 use mathlib.Core.List.{List, [], _∷_}
 use mathlib.Core.Bool.{Bool, true, false, _&&_, and-false}
-use borrow.Author.Tests.{ltb-true, ltb-false, lt-ltb, le-ltb, le-leb, lt-leb, eq-eqb, ne-eqb}
+use borrow.Author.Tests.{ltb-true, ltb-false, lt-ltb, le-ltb, eq-eqb, ne-eqb}
 use lib.Dec.{ltb}
 use lib.ListN.{length, getD, drop, List·getD-eq-default}
 use lib.Seq.{drop-cons, drop-length}
+use Rattle.forms.specs.Digits.{digitOf}
+use Rattle.forms.proofs.DigitLaws.{digit-above}
 use Rattle.vectors.specs.declared.Hex.the-variants.{Number, NoNumber}
 use Rattle.vectors.specs.declared.Row.the-variants.{NoRow}
-use Rattle.vectors.specs.Text.{byteAt, digitOf, pickHex, hexFrom, hexAt, hasWord, joined, rowAt}
+use Rattle.vectors.specs.Text.{byteAt, pickHex, hexFrom, hexAt, hasWord, joined, rowAt}
 
 -- ---- bytes
 
@@ -39,26 +41,6 @@ same-inside s at b same small = inside s at (omega arith)
 
 -- ---- digits
 
-pub digit-below : (b : ℕ) → b < 48 → digitOf b ≡ 16
-unfolding digitOf
-digit-below b low = simp (lt-leb 48 b low, lt-leb 97 b (omega arith))
-
-pub digit-number : (b : ℕ) → 48 ≤ b → b ≤ 57 → digitOf b ≡ b - 48
-unfolding digitOf
-digit-number b low high = simp (le-leb 48 b low, le-leb b 57 high)
-
-pub digit-between : (b : ℕ) → 57 < b → b < 97 → digitOf b ≡ 16
-unfolding digitOf
-digit-between b low high = simp (le-leb 48 b (omega arith), lt-leb b 57 low, lt-leb 97 b high)
-
-pub digit-letter : (b : ℕ) → 97 ≤ b → b ≤ 102 → digitOf b ≡ b - 87
-unfolding digitOf
-digit-letter b low high = simp (le-leb 48 b (omega arith), lt-leb b 57 (omega arith), le-leb 97 b low, le-leb b 102 high)
-
-pub digit-above : (b : ℕ) → 102 < b → digitOf b ≡ 16
-unfolding digitOf
-digit-above b low = simp (le-leb 48 b (omega arith), lt-leb b 57 (omega arith), le-leb 97 b (omega arith), lt-leb b 102 low)
-
 -- a digit is a byte
 pub digit-small : (b : ℕ) → digitOf b < 16 → b < 256
 digit-small b small = by (ltb b 256) refl
@@ -69,7 +51,8 @@ digit-small b small = by (ltb b 256) refl
 
 -- ---- one digit of a number
 
-hex-next : (s : List ℕ) (at n k : ℕ) → 0 < k → hexFrom k s at n ≡ pickHex (ltb (digitOf (byteAt s at)) 16) (hexFrom (k - 1) s (at + 1) (n * 16 + digitOf (byteAt s at))) NoNumber
+hex-next : (s : List ℕ) (at n k : ℕ) → 0 < k
+    → hexFrom k s at n ≡ pickHex (ltb (digitOf (byteAt s at)) 16) (hexFrom (k - 1) s (at + 1) (n * 16 + digitOf (byteAt s at))) NoNumber
 unfolding hexFrom
 hex-next s at n zero some = absurd (omega arith)
 hex-next s at n (suc k) some = let less : suc k - 1 ≡ k = omega arith in rw (less, add-one at)
@@ -135,7 +118,8 @@ module _ (s : List ℕ) (at : ℕ) where
   unfolding rowAt
   row-third other = rw (ne-eqb (byteAt s (at + 50)) 10 other, and-false)
 
-  pub row-whole : byteAt s (at + 16) ≡ 32 → byteAt s (at + 33) ≡ 32 → byteAt s (at + 50) ≡ 10 → rowAt s at ≡ joined (hexAt s at) (hexAt s (at + 17)) (hexAt s (at + 34))
+  pub row-whole : byteAt s (at + 16) ≡ 32 → byteAt s (at + 33) ≡ 32 → byteAt s (at + 50) ≡ 10
+      → rowAt s at ≡ joined (hexAt s at) (hexAt s (at + 17)) (hexAt s (at + 34))
   unfolding rowAt
   row-whole first second third = rw (first, second, third)
 

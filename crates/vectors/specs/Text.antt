@@ -1,9 +1,10 @@
 -- A list of cases as text: a word, then numbers of 16 lowercase hexadecimal digits, single spaces between them, byte 10 at a line's end.
-use Prim.Native.Nat.{ℕ, zero, suc, _+_, _-_, _*_}
+use Prim.Native.Nat.{ℕ, zero, suc, _+_, _*_}
 use mathlib.Core.List.{List, [], _∷_}
-use mathlib.Core.Bool.{Bool, true, false, _&&_, cond}
-use lib.Dec.{leb, ltb, eqb}
+use mathlib.Core.Bool.{Bool, true, false, _&&_}
+use lib.Dec.{ltb, eqb}
 use lib.ListN.{getD}
+use Rattle.forms.specs.Digits.{digitOf}
 use Rattle.vectors.specs.declared.Hex.{Hex}
 use Rattle.vectors.specs.declared.Hex.the-variants.{Number, NoNumber}
 use Rattle.vectors.specs.declared.Row.{Row}
@@ -12,10 +13,6 @@ use Rattle.vectors.specs.declared.Row.the-variants.{Numbers, NoRow}
 -- the byte at a place, and 256 past the end
 unfoldable pub byteAt : List ℕ → ℕ → ℕ
 byteAt s at = getD s at 256
-
--- what a byte counts as a hexadecimal digit, and 16 if it is none
-unfoldable pub digitOf : ℕ → ℕ
-digitOf b = cond (leb 48 b && leb b 57) (b - 48) (cond (leb 97 b && leb b 102) (b - 87) 16)
 
 abbrev pub pickHex : Bool → Hex → Hex → Hex
 pickHex true a b = a

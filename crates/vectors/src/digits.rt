@@ -2,7 +2,8 @@
 ghost use mathlib.Core.Path.{_≡_};
 ghost use Prim.Native.Nat.{_≤_};
 ghost use lib.ListN.{length};
-ghost use Rattle.vectors.specs.Text.{byteAt, digitOf};
+ghost use Rattle.forms.specs.Digits.{digitOf};
+ghost use Rattle.vectors.specs.Text.{byteAt};
 
 // A byte as a number.
 pub fn wide(b: u8) -> u64

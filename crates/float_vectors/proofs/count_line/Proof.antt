@@ -57,27 +57,28 @@ returns c =
 returns-2 : tie.Need-returns-2
 unfolding casesAfter wrongAfter
 returns-2 c =
-    rw (sym (c .before .before .before .before .before .before .before .before .before .before .before .check-line .ensures) ∙ c .before .before .before .before .before .before .before .before .before .given .given .1) (
-      c .before .before .before .before .before .before .add2 .ensures
-          ∙ counted-same _ (c .before .before .before .before .before .before .before .before .before .before .before .before .named-operation .ensures),
-      c .before .before .before .before .add3 .ensures
-          ∙ counted-same _ (c .before .before .before .before .before .before .before .before .before .before .before .before .named-operation .ensures),
+    let p = c .before .before .before .before .before .before .before .before .before in
+    let named = p .before .before .before .named-operation .ensures in
+    rw (sym (p .before .before .check-line .ensures) ∙ p .given .given .1) (
+      c .before .before .before .before .before .before .add2 .ensures ∙ counted-same _ named,
+      c .before .before .before .before .add3 .ensures ∙ counted-same _ named,
     )
 
 returns-3 : tie.Need-returns-3
 unfolding casesAfter wrongAfter
 returns-3 c =
-    rw (sym (c .before .before .before .before .before .before .before .before .before .before .check-line .ensures) ∙ c .before .before .before .before .before .before .before .before .given .given .1) (
-      c .before .before .before .before .before .add2 .ensures
-          ∙ counted-same _ (c .before .before .before .before .before .before .before .before .before .before .before .named-operation .ensures),
-      c .before .before .before .add3 .ensures
-          ∙ counted-same _ (c .before .before .before .before .before .before .before .before .before .before .before .named-operation .ensures),
+    let p = c .before .before .before .before .before .before .before .before in
+    let named = p .before .before .before .named-operation .ensures in
+    rw (sym (p .before .before .check-line .ensures) ∙ p .given .given .1) (
+      c .before .before .before .before .before .add2 .ensures ∙ counted-same _ named,
+      c .before .before .before .add3 .ensures ∙ counted-same _ named,
     )
 
 returns-4 : tie.Need-returns-4
 unfolding casesAfter wrongAfter
 returns-4 c =
-    rw (sym (c .before .before .before .before .before .before .before .check-line .ensures) ∙ c .before .before .before .before .before .enum-told2 .given .1) (
+    let p = c .before .before .before .before .before in
+    rw (sym (p .before .before .check-line .ensures) ∙ p .enum-told2 .given .1) (
       c .before .before .before .add4 .ensures,
       refl,
     )

@@ -32,8 +32,9 @@ judge-requires c κs = search needs
 returns-2 : tie.Need-returns-2
 unfolding verdictOf
 returns-2 c =
-    let named : isNamed (operationOf (c .before .before .before .before .before .before .before .args .line .now)) ≡ true =
-    sym (c .before .before .before .before .is-named .ensures ∙ ap isNamed (c .before .before .before .before .before .named-operation .ensures)) ∙ not-false _ (c .before .before .before .if1 .left) in
+    let p = c .before .before .before .before in
+    let named : isNamed (operationOf (p .before .before .before .args .line .now)) ≡ true =
+    sym (p .is-named .ensures ∙ ap isNamed (p .before .named-operation .ensures)) ∙ not-false _ (c .before .before .before .if1 .left) in
     rw named (cc)
 
 pub check-line-spec : {M : Type 1} → statement M

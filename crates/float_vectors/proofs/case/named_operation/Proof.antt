@@ -53,10 +53,13 @@ has-word-requires-4 c κs = search needs
 returns-4 : tie.Need-returns-4
 unfolding operationOf
 returns-4 c =
+    let third = c .before .before .before in
+    let second = third .before .before .before in
+    let first = second .before .before .before in
     simp (
-      sym (c .before .before .before .before .before .before .before .before .before .before .has-word .ensures) ∙ c .before .before .before .before .before .before .before .before .before .if1 .left,
-      sym (c .before .before .before .before .before .before .before .has-word2 .ensures) ∙ c .before .before .before .before .before .before .if2 .left,
-      sym (c .before .before .before .before .has-word3 .ensures) ∙ c .before .before .before .if3 .left,
+      sym (first .before .has-word .ensures) ∙ first .if1 .left,
+      sym (second .before .has-word2 .ensures) ∙ second .if2 .left,
+      sym (third .before .has-word3 .ensures) ∙ third .if3 .left,
       sym (c .before .has-word4 .ensures) ∙ c .if4 .taken,
     )
 
@@ -69,22 +72,30 @@ has-word-requires-5 c κs = search needs
 returns-5 : tie.Need-returns-5
 unfolding operationOf
 returns-5 c =
+    let fourth = c .before .before .before in
+    let third = fourth .before .before .before in
+    let second = third .before .before .before in
+    let first = second .before .before .before in
     simp (
-      sym (c .before .before .before .before .before .before .before .before .before .before .before .before .before .has-word .ensures) ∙ c .before .before .before .before .before .before .before .before .before .before .before .before .if1 .left,
-      sym (c .before .before .before .before .before .before .before .before .before .before .has-word2 .ensures) ∙ c .before .before .before .before .before .before .before .before .before .if2 .left,
-      sym (c .before .before .before .before .before .before .before .has-word3 .ensures) ∙ c .before .before .before .before .before .before .if3 .left,
-      sym (c .before .before .before .before .has-word4 .ensures) ∙ c .before .before .before .if4 .left,
+      sym (first .before .has-word .ensures) ∙ first .if1 .left,
+      sym (second .before .has-word2 .ensures) ∙ second .if2 .left,
+      sym (third .before .has-word3 .ensures) ∙ third .if3 .left,
+      sym (fourth .before .has-word4 .ensures) ∙ fourth .if4 .left,
       sym (c .before .has-word5 .ensures) ∙ c .if5 .taken,
     )
 
 returns-6 : tie.Need-returns-6
 unfolding operationOf
 returns-6 c =
+    let fourth = c .before .before .before in
+    let third = fourth .before .before .before in
+    let second = third .before .before .before in
+    let first = second .before .before .before in
     simp (
-      sym (c .before .before .before .before .before .before .before .before .before .before .before .before .before .has-word .ensures) ∙ c .before .before .before .before .before .before .before .before .before .before .before .before .if1 .left,
-      sym (c .before .before .before .before .before .before .before .before .before .before .has-word2 .ensures) ∙ c .before .before .before .before .before .before .before .before .before .if2 .left,
-      sym (c .before .before .before .before .before .before .before .has-word3 .ensures) ∙ c .before .before .before .before .before .before .if3 .left,
-      sym (c .before .before .before .before .has-word4 .ensures) ∙ c .before .before .before .if4 .left,
+      sym (first .before .has-word .ensures) ∙ first .if1 .left,
+      sym (second .before .has-word2 .ensures) ∙ second .if2 .left,
+      sym (third .before .has-word3 .ensures) ∙ third .if3 .left,
+      sym (fourth .before .has-word4 .ensures) ∙ fourth .if4 .left,
       sym (c .before .has-word5 .ensures) ∙ c .if5 .left,
     )
 

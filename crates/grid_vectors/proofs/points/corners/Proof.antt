@@ -6,11 +6,11 @@ use borrow.Author.Needs.{needs}
 use Rattle.grid_vectors.proofs.points.corners.Statement.{statement}
 use Rattle.grid_vectors.proofs.points.corners.Tie as tie
 
-element-copy-out-small : tie.Need-element-copy-out-small
-element-copy-out-small c = search needs
+element-copy-out-short : tie.Need-element-copy-out-short
+element-copy-out-short c = search needs
 
-small-requires : tie.Need-small-requires
-small-requires c κs = search needs
+short-requires : tie.Need-short-requires
+short-requires c κs = search needs
 
 put-off-requires : tie.Need-put-off-requires
 put-off-requires c κs = search needs
@@ -42,14 +42,14 @@ row-requires-2 c κs = search needs
 row-requires-3 : tie.Need-row-requires-3
 row-requires-3 c κs = search needs
 
-bounds-requires : tie.Need-bounds-requires
-bounds-requires c κs = search needs
+box-of-requires : tie.Need-box-of-requires
+box-of-requires c κs = search needs
 
-element-copy-out-small-2 : tie.Need-element-copy-out-small-2
-element-copy-out-small-2 c = search needs
+element-copy-out-short-2 : tie.Need-element-copy-out-short-2
+element-copy-out-short-2 c = search needs
 
-small-requires-2 : tie.Need-small-requires-2
-small-requires-2 c κs = search needs
+short-requires-2 : tie.Need-short-requires-2
+short-requires-2 c κs = search needs
 
 array-share-prefix-list : tie.Need-array-share-prefix-list
 array-share-prefix-list c = search needs
@@ -76,8 +76,8 @@ pub corners-spec : {M : Type 1} → statement M
 corners-spec =
     tie.close
     (tie.spec
-    element-copy-out-small
-    small-requires
+    element-copy-out-short
+    short-requires
     put-off-requires
     returns
     element-copy-out-if2
@@ -88,9 +88,9 @@ corners-spec =
     row-requires
     row-requires-2
     row-requires-3
-    bounds-requires
-    element-copy-out-small-2
-    small-requires-2
+    box-of-requires
+    element-copy-out-short-2
+    short-requires-2
     array-share-prefix-list
     slice-aggregate-corner-points
     corner-points-requires

@@ -15,7 +15,9 @@ evaluate-flat-requires : tie.Need-evaluate-flat-requires
 evaluate-flat-requires c κs = search needs
 
 returns : tie.Need-returns
-returns c = c .evaluate-flat .ensures .0 ∙ at-point (c .before .before .before .before .before .before .before .before .args .model) _ (c .before .before .before .before .before .lay-out .ensures .0) _ _ _
+returns c =
+    let laid = c .before .before .before .before .before in
+    c .evaluate-flat .ensures .0 ∙ at-point (laid .before .before .before .args .model) _ (laid .lay-out .ensures .0) _ _ _
 
 pub flat-value-spec : {M : Type 1} → statement M
 flat-value-spec = tie.close (tie.spec lay-out-requires cast-count evaluate-flat-requires returns)

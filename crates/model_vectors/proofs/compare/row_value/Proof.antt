@@ -32,9 +32,11 @@ array-read-result c = search needs
 
 returns : tie.Need-returns
 returns c =
+    let third = c .before .before .before .before .before .before .before .before .before in
+    let laid = third .before .before .before in
     ap (λ (row : List Float). getD row 3 _) (c .evaluate-row-into .ensures .1)
-    ∙ in-row (c .before .before .before .before .before .before .before .before .before .before .before .before .before .before .before .args .model) _ (c .before .before .before .before .before .before .before .before .before .before .before .before .lay-out .ensures .0) _ _ _ _ _ _ _ _ (length-replicate 64 plusZero)
-    (c .before .before .before .before .before .before .before .before .before .before .before .around .ensures) (c .before .before .before .before .before .before .before .before .before .before .around2 .ensures) (c .before .before .before .before .before .before .before .before .before .around3 .ensures)
+    ∙ in-row (laid .before .before .before .args .model) _ (laid .lay-out .ensures .0) _ _ _ _ _ _ _ _
+    (length-replicate 64 plusZero) (third .before .before .around .ensures) (third .before .around2 .ensures) (third .around3 .ensures)
 
 pub row-value-spec : {M : Type 1} → statement M
 row-value-spec =

@@ -25,7 +25,7 @@ show-wrong-requires c κs = search needs
 
 returns-2 : tie.Need-returns-2
 unfolding wrongIf
-returns-2 c = (c .before .before .before .before .before .before .add .ensures, rw (c .before .before .before .before .before .if1 .left) (c .before .before .before .add2 .ensures))
+returns-2 c = let p = c .before .before .before .before .before in (p .before .add .ensures, rw (p .if1 .left) (c .before .before .before .add2 .ensures))
 
 returns-3 : tie.Need-returns-3
 unfolding wrongIf

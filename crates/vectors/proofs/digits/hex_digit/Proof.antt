@@ -1,7 +1,7 @@
 -- `hex_digit` meets its contract: one law for each range of bytes.
 use mathlib.Core.Path.{sym}
 use native.Mathlib.Omega.{arith}
-use Rattle.vectors.proofs.Reading.{digit-below, digit-number, digit-between, digit-letter, digit-above}
+use Rattle.forms.proofs.DigitLaws.{digit-below, digit-number, digit-between, digit-letter, digit-above}
 use Rattle.vectors.proofs.digits.hex_digit.Statement.{statement}
 use Rattle.vectors.proofs.digits.hex_digit.Tie as tie
 

@@ -43,7 +43,12 @@ loop-again : tie.Need-loop-again Inv-loop μ-loop
 loop-again c = (omega arith, omega arith, below-more _ _ (c .before .before .before .loop .inv .2) λ most. c .if1 .left)
 
 returns-2 : tie.Need-returns-2 Inv-loop μ-loop
-returns-2 c = record { after = omega arith; within = omega arith; before = λ j small. c .before .loop .inv .2 j (omega arith); ended = λ more. absurd (omega arith) }
+returns-2 c = record {
+  after = omega arith;
+  within = omega arith;
+  before = λ j small. c .before .loop .inv .2 j (omega arith);
+  ended = λ more. absurd (omega arith);
+}
 
 pub line-end-spec : {M : Type 1} → statement M
 line-end-spec =

@@ -3,7 +3,8 @@ use mathlib.Core.Path.{_≡_, sym, ap, _∙_}
 use Prim.Native.Nat.{_+_, _*_, _^_, _≤_, _<_}
 use native.Mathlib.Omega.{arith}
 use borrow.Author.Needs.{needs}
-use Rattle.vectors.specs.Text.{digitOf, hexFrom}
+use Rattle.forms.specs.Digits.{digitOf}
+use Rattle.vectors.specs.Text.{hexFrom}
 use Rattle.vectors.proofs.Reading.{digit-inside, hex-step, hex-stop, hex-done, room-one, room-step}
 use Rattle.vectors.proofs.numbers.hex16.Statement.{statement}
 use Rattle.vectors.proofs.numbers.hex16.Tie as tie
@@ -25,7 +26,8 @@ hex-digit-requires c κs = search needs
 
 returns : tie.Need-returns Inv-loop μ-loop
 returns c =
-    sym (hex-stop _ _ _ _ _ (c .before .before .before .loop-test .taken) (c .before .hex-digit .ensures ∙ ap digitOf (c .before .before .byte-at .ensures)) (c .if1 .taken))
+    let read = c .before .hex-digit .ensures ∙ ap digitOf (c .before .before .byte-at .ensures) in
+    sym (hex-stop _ _ _ _ _ (c .before .before .before .loop-test .taken) read (c .if1 .taken))
     ∙ c .before .before .before .before .loop .inv .0
 
 mul-n : tie.Need-mul-n Inv-loop μ-loop
@@ -45,8 +47,9 @@ loop-less c = search needs
 
 loop-again : tie.Need-loop-again Inv-loop μ-loop
 loop-again c =
-    let digit : c .before .hex-digit .result < 16 = omega arith in (
-      sym (hex-step _ _ _ _ _ (c .before .before .before .loop-test .taken) (c .before .hex-digit .ensures ∙ ap digitOf (c .before .before .byte-at .ensures)) digit)
+    let digit : c .before .hex-digit .result < 16 = omega arith in
+    let read = c .before .hex-digit .ensures ∙ ap digitOf (c .before .before .byte-at .ensures) in (
+      sym (hex-step _ _ _ _ _ (c .before .before .before .loop-test .taken) read digit)
           ∙ c .before .before .before .before .loop .inv .0,
       room-step _ _ _ (c .before .before .before .loop-test .taken) digit (c .before .before .before .before .loop .inv .1),
     )

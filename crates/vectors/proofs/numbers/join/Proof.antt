@@ -36,7 +36,7 @@ returns-3 c = rw (c .before .before .before .before .before .before .a .given .1
 
 returns-4 : tie.Need-returns-4
 unfolding joined
-returns-4 c = rw (c .before .before .before .before .before .before .before .a .given .1, c .before .before .before .before .b .given .1, c .before .c .given .1)
+returns-4 c = let p = c .before .before .before .before in rw (p .before .before .before .a .given .1, p .b .given .1, c .before .c .given .1)
 
 pub join-spec : {M : Type 1} → statement M
 join-spec =

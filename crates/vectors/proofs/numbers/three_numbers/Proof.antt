@@ -61,11 +61,16 @@ join-requires : tie.Need-join-requires
 join-requires c κs = search needs
 
 returns-6 : tie.Need-returns-6
-returns-6 c = cc
-    (row-whole (c .before .before .before .before .before .before .before .before .before .before .before .before .before .args .s .now) (c .before .before .before .before .before .before .before .before .before .before .before .before .before .args .at)
-    (sym (c .before .before .before .before .before .before .before .before .before .byte-at .ensures) ∙ c .before .before .before .before .before .before .before .before .if3 .left)
-    (sym (c .before .before .before .before .before .before .before .byte-at2 .ensures) ∙ c .before .before .before .before .before .before .if4 .left)
-    (sym (c .before .before .before .before .before .byte-at3 .ensures) ∙ c .before .before .before .before .if5 .left))
+returns-6 c =
+    let third = c .before .before .before .before in
+    let second = third .before .before in
+    let first = second .before .before in
+    let a = first .before .before .before .before .before .args in
+    cc
+    (row-whole (a .s .now) (a .at)
+    (sym (first .before .byte-at .ensures) ∙ first .if3 .left)
+    (sym (second .before .byte-at2 .ensures) ∙ second .if4 .left)
+    (sym (third .before .byte-at3 .ensures) ∙ third .if5 .left))
 
 pub three-numbers-spec : {M : Type 1} → statement M
 three-numbers-spec =

@@ -35,8 +35,9 @@ returns c =
 
 add-place : tie.Need-add-place Inv-loop μ-loop
 add-place c =
-    let small : getD (c .before .before .before .before .before .before .before .before .args .word .now) (c .before .before .before .before .before .loop .i) 0 < 256 =
-    omega (arith, c .before .before .before .before .before .before .shared-slice-known2 .given (c .before .before .before .before .before .loop .i)) in
+    let turn = c .before .before .before .before .before in
+    let small : getD (turn .before .before .before .args .word .now) (turn .loop .i) 0 < 256 =
+    omega (arith, turn .before .shared-slice-known2 .given (turn .loop .i)) in
     omega (arith, same-inside _ _ _ (sym (c .before .before .before .byte-at .ensures) ∙ c .if1 .left ∙ c .before .wide .ensures) small)
 
 add-i : tie.Need-add-i Inv-loop μ-loop
@@ -46,11 +47,12 @@ loop-less : tie.Need-loop-less Inv-loop μ-loop
 loop-less c = search needs
 
 loop-again : tie.Need-loop-again Inv-loop μ-loop
-loop-again c = (
-  sym (word-step _ _ _ _ (c .before .before .before .before .loop-test .taken) (sym (c .before .before .before .byte-at .ensures) ∙ c .if1 .left ∙ c .before .wide .ensures))
-      ∙ c .before .before .before .before .before .loop .inv .0,
-  omega arith,
-)
+loop-again c =
+    let same = sym (c .before .before .before .byte-at .ensures) ∙ c .if1 .left ∙ c .before .wide .ensures in (
+      sym (word-step _ _ _ _ (c .before .before .before .before .loop-test .taken) same)
+          ∙ c .before .before .before .before .before .loop .inv .0,
+      omega arith,
+    )
 
 returns-2 : tie.Need-returns-2 Inv-loop μ-loop
 returns-2 c = sym (word-done _ _ _ _ (c .before .loop .inv .1) (c .loop-test .left)) ∙ c .before .loop .inv .0

@@ -1,0 +1,7 @@
+pub mod Lines
+pub mod NanBits
+pub mod Values
+pub mod Listing
+pub mod Written
+pub mod Listed
+pub mod Inner
