@@ -146,18 +146,16 @@ host-implemented = record {
 
 -- ---- the theorem, and what belongs to it
 
-no-job : (s : Station) → NoJob s → decoded (s .carried) .opened ≡ false
-no-job s none = no-flag (s .carried) none
-
 pub host-demand-three : HostDemandThree
-host-demand-three cs s none = implements-ledger sparse HostCall Station callOf engineAt onStation host-implemented sparse-laws s (no-job s none) cs
+host-demand-three cs s none = implements-ledger sparse HostCall Station callOf engineAt onStation host-implemented sparse-laws s (no-flag (s .carried) none) cs
 
 pub host-dropped : HostDropLeavesZeros
-host-dropped cs s none = implements-drop sparse HostCall Station callOf engineAt onStation host-implemented sparse-laws s (no-job s none) cs dropsAll refl
+host-dropped cs s none =
+    implements-drop sparse HostCall Station callOf engineAt onStation host-implemented sparse-laws s (no-flag (s .carried) none) cs dropsAll refl
 
 elements : (cs : List HostCall) (s : Station) → NoJob s → (i : Input) (n : ℕ) → budgetSum sparse (lengthsOf (s .memory)) (map callOf cs) noEntry ≡ entry i n
     → run onStation cs s .last .memory ≡ stateAt (planOf i) (lengthsOf (s .memory)) n .memory
-elements cs s none = implements-elements sparse HostCall Station callOf engineAt onStation host-implemented sparse-laws s (no-job s none) cs
+elements cs s none = implements-elements sparse HostCall Station callOf engineAt onStation host-implemented sparse-laws s (no-flag (s .carried) none) cs
 
 pub host-equal-elements : HostEqualBudgets
 host-equal-elements cs₁ cs₂ s₁ s₂ none₁ none₂ lengths i₁ i₂ n plans budgets₁ budgets₂ =
@@ -165,10 +163,10 @@ host-equal-elements cs₁ cs₂ s₁ s₂ none₁ none₂ lengths i₁ i₂ n pl
 
 pub host-finished-field : HostFinishedField
 host-finished-field cs s none opened ends = (
-  implements-finished sparse HostCall Station callOf engineAt onStation host-implemented sparse-laws s (no-job s none) long-enough cs opened ends,
+  implements-finished sparse HostCall Station callOf engineAt onStation host-implemented sparse-laws s (no-flag (s .carried) none) long-enough cs opened ends,
   own-corners _,
 )
 
 pub host-leaves-numbered : HostLeavesNumbered
 host-leaves-numbered cs s none opened =
-    implements-numbered sparse HostCall Station callOf engineAt onStation host-implemented sparse-laws s (no-job s none) long-enough constant-not-leaf cs opened
+    implements-numbered sparse HostCall Station callOf engineAt onStation host-implemented sparse-laws s (no-flag (s .carried) none) long-enough constant-not-leaf cs opened
