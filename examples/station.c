@@ -386,6 +386,7 @@ int main(void)
     memset(s.kinds, 7, sizeof s.kinds);
     memset(s.store, 7, sizeof s.store);
 
+    check(jisampode_version() == JISAMPODE_VERSION, "the archive is of the header's version");
     one_job_after_another(&s);
     refusals(&s);
     nan_bits(&s);

@@ -6,3 +6,4 @@ pub mod Answers
 pub mod HostLists
 pub mod Demand
 pub mod Needed
+pub mod Version

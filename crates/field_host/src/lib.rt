@@ -8,6 +8,7 @@ mod needed; // needed.rt: how long the slices of a job have to be
 mod reading; // reading.rt: a record's counts and cursor
 mod record; // record.rt: a record in four arrays
 mod texts; // texts.rt: the listing of a job's text
+mod version; // version.rt: which version this is
 mod walks; // walks.rt: walks over points, cells and octets
 
 pub use given::box_of;

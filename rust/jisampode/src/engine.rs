@@ -37,6 +37,12 @@ pub fn certain<T>(result: Result<T, Refusal>) -> T {
     result.unwrap_or_else(|refusal| panic!("a call that cannot be refused was {refusal}"))
 }
 
+/// The version of the archive.
+pub fn version() -> u32 {
+    // SAFETY: the function takes nothing.
+    unsafe { sys::jisampode_version() }
+}
+
 pub fn lengths(
     settings: &[f64; sys::SETTINGS],
     (inner, leaf): (u32, u32),

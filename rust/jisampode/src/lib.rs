@@ -82,6 +82,16 @@ mod refusal;
 pub mod sys;
 mod walks;
 
+/// The version of the engine's archive: major × 10,000 + minor × 100 + patch.
+///
+/// ```
+/// assert_eq!(jisampode::version(), jisampode::sys::VERSION);
+/// ```
+#[must_use]
+pub fn version() -> u32 {
+    engine::version()
+}
+
 pub use bounds::Bounds;
 pub use builder::{JobBuilder, Refused};
 pub use dense::{point_count, DenseField, Dimensions};

@@ -31,7 +31,12 @@ pub const EMPTY: u8 = 0;
 pub const ACTIVE: u8 = 1;
 pub const LEAF: u8 = 2;
 
+/// The version of include/jisampode.h that these declarations follow.
+pub const VERSION: u32 = 100;
+
 extern "C" {
+    pub fn jisampode_version() -> u32;
+
     pub fn jisampode_open(
         settings: *const f64,
         inner: u32,

@@ -1,7 +1,7 @@
-//! What iterators say of their sizes, and what a field holds.
+//! What iterators say of their sizes, what a field holds, and the version.
 
 use jisampode::{
-    Active, Bounds, Cells, DenseField, Dimensions, Field, Leaves, OwnedMemory, Points,
+    version, Active, Bounds, Cells, DenseField, Dimensions, Field, Leaves, OwnedMemory, Points,
 };
 
 use crate::jobs::{case, large};
@@ -41,6 +41,22 @@ fn a_walk_beyond_a_usize() {
     let bounds = Bounds::new([0.0; 3], [1.0; 3]);
     let walk = Cells::new(bounds, Dimensions::new(most, most, most)).unwrap();
     assert_eq!(walk.size_hint(), (0, None));
+}
+
+#[test]
+fn one_version() {
+    let header = include_str!("../../../include/jisampode.h");
+    let part = |name: &str| -> u32 {
+        let line = format!("#define JISAMPODE_VERSION_{name} ");
+        let rest = header.split(&line).nth(1).unwrap();
+        rest.lines().next().unwrap().parse().unwrap()
+    };
+    let (major, minor, patch) = (part("MAJOR"), part("MINOR"), part("PATCH"));
+    assert_eq!(version(), major * 10_000 + minor * 100 + patch);
+    assert_eq!(
+        env!("CARGO_PKG_VERSION"),
+        format!("{major}.{minor}.{patch}")
+    );
 }
 
 /// A function of one's own can name what it hands back.
