@@ -1,5 +1,4 @@
 -- `children::points_of` meets its contract: a leaf's points, or none.
-use Prim.Native.Nat.{_+_, _*_, _≤_}
 use mathlib.Core.Path.{refl, sym, subst}
 use native.Mathlib.Omega.{arith}
 use lib.Ieee.{Float}
