@@ -87,6 +87,14 @@ leaves-few g decide value v c leaves m sized below ready =
     let P : Plan = planWith g decide value in
     omega (arith, ready .atMost, active-few g decide value sized, before-most P (P .active) v c (ready .node) (omega arith))
 
+-- a child without points: its turn is through, and the store is as it was
+pub without-points : (P : Plan) (v c b leaves : ℕ) {m m₁ : Memory} {after : List Float} {r : Progress}
+    → ChildrenAdvanced P v c (suc c) b leaves m m₁ (progress leaves b Through) → (r ≡ progress leaves b Through) × (after ≡ m₁ .store)
+    → ChildrenAdvanced P v c (suc c) b leaves m (memoryOf (m₁ .kinds) (m₁ .numbers) (m₁ .places) after (m₁ .corners)) r
+without-points P v c b leaves {m} {m₁} {r = r} done none =
+    subst (λ l. ChildrenAdvanced P v c (suc c) b leaves m (memoryOf (m₁ .kinds) (m₁ .numbers) (m₁ .places) l (m₁ .corners)) r) (sym (none .1))
+    (subst (ChildrenAdvanced P v c (suc c) b leaves m m₁) (sym (none .0)) done)
+
 module _ (g : Grid) (decide : BoundingBox → List Float → Verdict) (value : Float → Float → Float → Float) (v c b leaves : ℕ) (m : Memory)
     (box : BoundingBox) (boxed : box ≡ nodeBox g v) (below : c < cube (g .inner)) (ready : Ready (planWith g decide value) v c leaves m)
     (r : ℕ) (cubed : r ≡ cube (g .inner)) where

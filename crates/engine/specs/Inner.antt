@@ -3,3 +3,4 @@ pub mod Runs
 pub mod Progress
 pub mod Startable
 pub mod Turns
+pub mod Children

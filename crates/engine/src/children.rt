@@ -1,16 +1,20 @@
 // A node's children, in order: each active one is decided, and a leaf's points are evaluated into
 // the stretch of the store that is its own (rule S8).
 ghost use mathlib.Core.Path.{_≡_};
-ghost use Prim.Native.Nat.{_+_, _-_, _*_, suc, _≤_, _<_, min};
+ghost use mathlib.Core.List.{List};
+ghost use Prim.Native.Nat.{_+_, _-_, _*_, _≤_, _<_, min};
 ghost use lib.ListN.{length};
+ghost use lib.Ieee.{Float};
 ghost use Rattle.lists.specs.Filled.{filled};
 ghost use Rattle.grid.specs.Blocks.{cube};
 ghost use Rattle.grid.specs.Boxes.{nodeBox};
 ghost use Rattle.grid.specs.Leaves.{leafPoint};
-ghost use Rattle.schedule.specs.Lent.{held, entered, left};
+ghost use Rattle.schedule.specs.Lent.{memoryOf, held, entered, left};
 ghost use Rattle.rows.specs.Inner.FlatValue.{valueIn};
 ghost use Rattle.geometry.specs.Values.{at};
-ghost use Rattle.engine.specs.Inner.Progress.{planIn, planNow, Sized, Ready, ChildrenAdvanced, leafProgress};
+ghost use Rattle.engine.specs.Inner.Progress.{planIn, planNow, planBy, Sized, Ready, ChildrenAdvanced, leafProgress};
+ghost use Rattle.engine.specs.Inner.Children.{Decidable, Decided, Fits, PointsMade};
+use crate::Decision;
 use crate::LeafVisit;
 use crate::Progress;
 use crate::Stop;
@@ -99,37 +103,28 @@ pub fn leaf_from(
     }
 }
 
-// The child at a visit's place. An active child becomes a constant or a leaf, and a leaf's points are
-// evaluated while the budget lasts.
-fn child_turn(
+// The child at a visit's place. An active child becomes a constant or a leaf.
+fn decide_at(
     task: Task,
     visit: Visit,
-    words: &[u32; 192],
-    reals: &[f64; 256],
-    scratch: &mut [f64; 4096],
     kinds: &mut [u8],
     numbers: &mut [f64],
     places: &mut [u32],
-    store: &mut [f64],
     corners: &[f64],
-) -> Progress
-    requires { ⌜ Sized (task .grid) × (visit .bounds ≡ nodeBox (task .grid) (visit .node)) × (visit .place < cube (task .grid .inner)) × (task .parts ≤ 64) ⌝ }
-    requires { ⌜ Ready (planNow task words reals) (visit .node) (visit .place) (visit .leaves) (held kinds numbers places store corners) ⌝ }
-    ensures { λ r. ⌜ ChildrenAdvanced (planIn task words reals) (visit .node) (visit .place) (suc (visit .place)) (visit .left) (visit .leaves)
-        (entered kinds numbers places store corners) (left kinds numbers places store corners) r ⌝ }
+) -> Decision
+    requires { ⌜ Sized (task .grid) × (visit .bounds ≡ nodeBox (task .grid) (visit .node)) × (visit .place < cube (task .grid .inner)) ⌝ }
+    requires { ⌜ Decidable task visit (now kinds) (now numbers) (now places) (now corners) ⌝ }
+    ensures { λ r. ⌜ ((value : Float → Float → Float → Float) (store : List Float)
+        → Ready (planBy task value) (visit .node) (visit .place) (visit .leaves)
+        (memoryOf (now (kinds .entry)) (now (numbers .entry)) (now (places .entry)) store (now (corners .entry)))
+        → Decided task value visit (memoryOf (now (kinds .entry)) (now (numbers .entry)) (now (places .entry)) store (now (corners .entry)))
+        (memoryOf (now (kinds .exit)) (now (numbers .exit)) (now (places .exit)) store (now (corners .entry))) r) ⌝ }
 {
-    let g = task.grid;
-    let n = g.inner;
+    let n = task.grid.inner;
     let c = visit.place;
-    let leaves = visit.leaves;
-    let left = visit.left;
     let j = visit.node * grid::cube_of(n as usize) + c;
     if kinds[j] == grid::EMPTY {
-        return Progress {
-            leaves,
-            left,
-            stop: Stop::Through,
-        };
+        return Decision::Passed;
     }
     let band = task.band;
     let child = grid::child_box(visit.bounds, n, c);
@@ -139,21 +134,44 @@ fn child_turn(
         Verdict::Constant(kind, number) => {
             kinds[j] = kind;
             numbers[j] = number;
-            Progress {
-                leaves,
-                left,
-                stop: Stop::Through,
-            }
+            Decision::Passed
         }
         Verdict::Leaf => {
             kinds[j] = grid::LEAF;
-            places[j] = leaves as u32;
-            let made = leaves + 1;
+            places[j] = visit.leaves as u32;
+            Decision::Leaf(child)
+        }
+    }
+}
+
+// The points of that child, if it has become a leaf, while the budget lasts.
+fn points_of(
+    task: Task,
+    visit: Visit,
+    decision: Decision,
+    words: &[u32; 192],
+    reals: &[f64; 256],
+    scratch: &mut [f64; 4096],
+    store: &mut [f64],
+) -> Progress
+    requires { ⌜ Sized (task .grid) × (task .parts ≤ 64) × (visit .leaves ≤ 16777216) ⌝ }
+    requires { ⌜ Fits (task .grid) visit decision (now store) ⌝ }
+    ensures { λ r. ⌜ PointsMade (task .grid) (valueIn words reals (task .parts)) visit decision (now (store .entry)) (now (store .exit)) r ⌝ }
+{
+    let left = visit.left;
+    match decision {
+        Decision::Passed => {
+            let leaves = visit.leaves;
+            let stop = Stop::Through;
+            Progress { leaves, left, stop }
+        }
+        Decision::Leaf(child) => {
+            let leaves = visit.leaves + 1;
             let leaf = LeafVisit {
                 node: visit.node,
-                child: c,
+                child: visit.place,
                 point: 0,
-                leaves: made,
+                leaves,
                 left,
             };
             leaf_from(
@@ -161,7 +179,7 @@ fn child_turn(
                 reals,
                 task.parts,
                 child,
-                g.leaf,
+                task.grid.leaf,
                 leaf,
                 scratch,
                 store,
@@ -202,18 +220,8 @@ pub fn run_children(
             leaves,
             left,
         };
-        let turn = child_turn(
-            task,
-            child,
-            words,
-            reals,
-            scratch,
-            kinds,
-            numbers,
-            places,
-            store,
-            corners,
-        );
+        let decision = decide_at(task, child, kinds, numbers, places, corners);
+        let turn = points_of(task, child, decision, words, reals, scratch, store);
         leaves = turn.leaves;
         left = turn.left;
         let stop = turn.stop;

@@ -26,8 +26,8 @@ pub struct Standing {
     pub left: u64,
 }
 
-// A node at work: its number and its box, the corner or child that comes next, the leaves so far, and
-// the budget that is left.
+// A node at work: its number and its box, the child that comes next, the leaves so far, and the
+// budget that is left.
 pub struct Visit {
     pub node: usize,
     pub bounds: BoundingBox,
@@ -44,6 +44,12 @@ pub struct LeafVisit {
     pub point: usize,
     pub leaves: u64,
     pub left: u64,
+}
+
+// What a child has become in its turn: nothing or a constant, or a leaf that has a box.
+pub enum Decision {
+    Passed,
+    Leaf(BoundingBox),
 }
 
 // Whether a function came through to its end, or stopped before an evaluation.

@@ -86,10 +86,10 @@ fn node_right(g: Grid, v: usize, part: &[u8]) -> bool
     requires { ⌜ (g .inner ≤ 64) × (length (now part) ≡ cube (g .inner)) ⌝ }
     ensures { λ r. ⌜ r ≡ agreesFrom (active g v) 0 (now (part .entry)) ⌝ }
 {
-    let tables = node_tables(g, v);
-    let xs = tables.xs;
-    let ys = tables.ys;
-    let zs = tables.zs;
+    let mut xs = [false; 64];
+    let mut ys = [false; 64];
+    let mut zs = [false; 64];
+    node_tables(g, v, &mut xs, &mut ys, &mut zs);
     slabs_right(g.inner as usize, &xs, &ys, &zs, part)
 }
 

@@ -76,10 +76,10 @@ fn set_node(g: Grid, v: usize, part: &mut [u8])
     requires { ⌜ (g .inner ≤ 64) × (length (now part) ≡ cube (g .inner)) ⌝ }
     ensures { λ _. ⌜ now (part .exit) ≡ flagsFrom (active g v) (cube (g .inner)) 0 ⌝ }
 {
-    let tables = node_tables(g, v);
-    let xs = tables.xs;
-    let ys = tables.ys;
-    let zs = tables.zs;
+    let mut xs = [false; 64];
+    let mut ys = [false; 64];
+    let mut zs = [false; 64];
+    node_tables(g, v, &mut xs, &mut ys, &mut zs);
     set_slabs(g.inner as usize, &xs, &ys, &zs, part);
 }
 

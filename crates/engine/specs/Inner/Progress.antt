@@ -27,9 +27,12 @@ use Rattle.plans.specs.Plan.{planWith, decideBy}
 use Rattle.rows.specs.Inner.FlatValue.{flatValue}
 use Rattle.engine.specs.Inner.Runs.{Run, runOf}
 
--- the plan that the engine's functions work on: a task, with the flat arrays of its model
+-- the plan that the engine's functions work on: a task, with the value of its model at a point, or with the model's flat arrays
+abbrev pub planBy : Task → (Float → Float → Float → Float) → Plan
+planBy task value = planWith (task .grid) (decideBy (task .band)) value
+
 abbrev pub plan : Task → (words : List ℕ) (reals : List Float) → Plan
-plan task words reals = planWith (task .grid) (decideBy (task .band)) (flatValue words reals (task .parts))
+plan task words reals = planBy task (flatValue words reals (task .parts))
 
 -- the same of arrays that are lent: in what a function requires, and in what it ensures
 abbrev pub planNow : Task → Slice ℕ → Slice Float → Plan

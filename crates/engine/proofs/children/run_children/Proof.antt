@@ -4,11 +4,15 @@ use mathlib.Core.Path.{_≡_, refl, sym, _∙_}
 use native.Mathlib.Numerals.{add-one}
 use native.Mathlib.Omega.{arith}
 use lib.ListN.{length}
+use lib.Ieee.{Float}
 use borrow.Author.Needs.{needs}
 use Rattle.grid.specs.Blocks.{cube}
 use Rattle.engine.specs.declared.Stop.the-variants.{Through}
 use Rattle.schedule.specs.Lent.{memoryOf}
-use Rattle.engine.specs.Inner.Progress.{plan, progress, ChildrenAdvanced}
+use Rattle.plans.specs.Plan.{decideBy}
+use Rattle.rows.specs.Inner.FlatValue.{flatValue}
+use Rattle.engine.specs.Inner.Progress.{plan, progress, Ready, ChildrenAdvanced}
+use Rattle.engine.proofs.ChildLaws.{leaves-few}
 use Rattle.engine.proofs.Turns.{advanced-start, advanced-through, advanced-then, advanced-stopped, children-upto}
 use Rattle.engine.proofs.children.run_children.Statement.{statement}
 use Rattle.engine.proofs.children.run_children.Tie as tie
@@ -26,8 +30,22 @@ abbrev μ-loop : tie.MeasureT-loop
 abbrev start : tie.At-loop Inv-loop μ-loop → tie.Start Inv-loop μ-loop
 start l = l .before .before .before .before .before .before .before .before .before .before
 
-abbrev looped : tie.After-child-turn Inv-loop μ-loop → tie.At-loop Inv-loop μ-loop
-looped t = t .before .before .before .before .before .before .before
+abbrev value : tie.Start Inv-loop μ-loop → Float → Float → Float → Float
+value s = flatValue (s .args .words .now) (s .args .reals .now) (s .args .task .parts)
+
+-- the child is ready
+ready : (l : tie.At-loop Inv-loop μ-loop) → let s = start l in
+    Ready (plan (s .args .task) (s .args .words .now) (s .args .reals .now)) (s .args .visit .node) (l .loop .place) (l .loop .leaves)
+    (memoryOf (l .loop .kinds) (l .loop .numbers) (l .loop .places) (l .loop .store) (s .args .corners .now))
+ready l = let done = l .loop .inv .6 in record { lent = done .lent; node = start l .pre .1 .node; atMost = done .atMost }
+
+-- where it has been decided, and where its points have been made
+
+abbrev looped : tie.After-decide-at Inv-loop μ-loop → tie.At-loop Inv-loop μ-loop
+looped d = d .before .before .before .before .before
+
+abbrev decided : tie.After-points-of Inv-loop μ-loop → tie.After-decide-at Inv-loop μ-loop
+decided t = t .before .before .before .before .before .before .before .before .before
 
 cast-cube-of : tie.Need-cast-cube-of Inv-loop μ-loop
 cast-cube-of c = search needs
@@ -47,14 +65,21 @@ loop-holds c =
       advanced-start _ _ _ _ _ _ (s .pre .1 .lent) (s .pre .1 .atMost),
     )
 
-child-turn-requires : tie.Need-child-turn-requires Inv-loop μ-loop
-child-turn-requires c κs =
-    let l = c .before .before .before .before .before .before in
+decide-at-requires : tie.Need-decide-at-requires Inv-loop μ-loop
+decide-at-requires c κs =
+    let l = c .before .before .before .before in
     let s = start l in
-    let done = l .loop .inv .6 in (
-      (s .pre .0 .0, s .pre .0 .1, omega (arith, l .loop .inv), s .pre .0 .3),
-      record { lent = done .lent; node = s .pre .1 .node; atMost = done .atMost },
-    )
+    ((s .pre .0 .0, s .pre .0 .1, omega (arith, l .loop .inv)), record { value = value s; store = l .loop .store; ready = ready l })
+
+points-of-requires : tie.Need-points-of-requires Inv-loop μ-loop
+points-of-requires c κs =
+    let d = c .before .before .before .before .before .before .before .before in
+    let l = looped d in
+    let s = start l in
+    let a = s .args in
+    let few = leaves-few (a .task .grid) (decideBy (a .task .band)) (value s) (a .visit .node) (l .loop .place) (l .loop .leaves) _ (s .pre .0 .0)
+    (omega (arith, l .loop .inv, d .before .before .before .before .loop-test .taken)) (ready l) in
+    ((s .pre .0 .0, s .pre .0 .3, few), d .decide-at .ensures (value s) (l .loop .store) (ready l) .fits)
 
 enum-told : tie.Need-enum-told Inv-loop μ-loop
 enum-told c = search needs
@@ -73,9 +98,12 @@ same-length-4 c = search needs
 
 returns : tie.Need-returns Inv-loop μ-loop
 returns c =
-    let t = c .before .before .before .before .before .before .before .before .before .before in
-    advanced-stopped _ (c .enum-told .given .0 .0) (advanced-then _ (looped t .loop .inv .6) refl (t .child-turn .ensures))
-    (c .enum-told .given .1)
+    let t = c .before .before .before .before in
+    let d = decided t in
+    let l = looped d in
+    let made = d .decide-at .ensures (value (start l)) (l .loop .store) (ready l) in
+    let turn = made .then (t .points-of .last .1 .1 .1 .1 .1 .1 .0) (t .points-of .result) (t .points-of .ensures) in
+    advanced-stopped _ (c .enum-told .given .0 .0) (advanced-then _ (l .loop .inv .6) refl turn) (c .enum-told .given .1)
 
 enum-told-2 : tie.Need-enum-told-2 Inv-loop μ-loop
 enum-told-2 c = search needs
@@ -84,20 +112,23 @@ add-place : tie.Need-add-place Inv-loop μ-loop
 add-place c = search needs
 
 loop-less : tie.Need-loop-less Inv-loop μ-loop
-loop-less c = omega (arith, looped (c .before .before .before .before .before .before .before .before .before .before) .loop .inv)
+loop-less c = omega (arith, looped (decided (c .before .before .before .before)) .loop .inv)
 
 loop-again : tie.Need-loop-again Inv-loop μ-loop
 loop-again c =
-    let t = c .before .before .before .before .before .before .before .before .before .before in
-    let l = looped t .loop in
-    let done = advanced-through _ (advanced-then _ (l .inv .6) refl (t .child-turn .ensures)) (c .enum-told2 .given .1) in (
-      l .inv .0,
-      omega (arith, l .inv .1, t .before .before .before .before .before .before .loop-test .taken),
-      c .before .before .before .before .before .before .before .before .before .kinds .given ∙ l .inv .2,
-      c .before .before .before .before .before .before .before .numbers .given ∙ l .inv .3,
-      c .before .before .before .before .before .places .given ∙ l .inv .4,
-      c .before .before .before .store .given ∙ l .inv .5,
-      children-upto _ _ _ _ _ _ _ (sym (add-one (l .place))) done,
+    let t = c .before .before .before .before in
+    let d = decided t in
+    let l = looped d in
+    let made = d .decide-at .ensures (value (start l)) (l .loop .store) (ready l) in
+    let turn = made .then (t .points-of .last .1 .1 .1 .1 .1 .1 .0) (t .points-of .result) (t .points-of .ensures) in
+    let done = advanced-through _ (advanced-then _ (l .loop .inv .6) refl turn) (c .enum-told2 .given .1) in (
+      l .loop .inv .0,
+      omega (arith, l .loop .inv .1, d .before .before .before .before .loop-test .taken),
+      c .before .before .before .before .before .before .before .before .before .before .before .before .kinds .given ∙ l .loop .inv .2,
+      c .before .before .before .before .before .before .before .before .before .before .numbers .given ∙ l .loop .inv .3,
+      c .before .before .before .before .before .before .before .before .places .given ∙ l .loop .inv .4,
+      c .before .before .before .store .given ∙ l .loop .inv .5,
+      children-upto _ _ _ _ _ _ _ (sym (add-one (l .loop .place))) done,
     )
 
 same-length-5 : tie.Need-same-length-5 Inv-loop μ-loop
@@ -127,7 +158,8 @@ run-children-spec =
     cast-cube-of
     cube-of-requires
     loop-holds
-    child-turn-requires
+    decide-at-requires
+    points-of-requires
     enum-told
     same-length
     same-length-2

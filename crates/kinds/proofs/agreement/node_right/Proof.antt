@@ -16,10 +16,11 @@ slabs-right-requires c κs = search needs
 
 returns : tie.Need-returns
 returns c =
-    let t = c .before .before .before .before .before .before .before .before in
-    let s = t .before .before in
-    let r = t .node-tables .result in
-    c .slabs-right .ensures ∙ node-agrees (s .args .g) (s .args .v) (r .xs) (r .ys) (r .zs) (t .node-tables .ensures) (s .args .part .now) (s .pre .1)
+    let t = c .before .before .before .before .before in
+    let s = t .before .before .before .before .before in
+    let last = t .node-tables .last .1 .1 in
+    c .slabs-right .ensures
+    ∙ node-agrees (s .args .g) (s .args .v) (last .0) (last .1 .0) (last .1 .1 .0) (t .node-tables .ensures) (s .args .part .now) (s .pre .1)
 
 pub node-right-spec : {M : Type 1} → statement M
 node-right-spec = tie.close (tie.spec node-tables-requires cast-slabs-right slabs-right-requires returns)

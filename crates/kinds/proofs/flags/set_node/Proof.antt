@@ -19,10 +19,10 @@ same-length c = search needs
 
 returns : tie.Need-returns
 returns c =
-    let t = c .before .before .before .before .before .before .before .before .before .before .before in
-    let a = t .before .before .args in
-    let r = t .node-tables .result in
-    c .before .before .set-slabs .ensures ∙ node-flags (a .g) (a .v) (r .xs) (r .ys) (r .zs) (t .node-tables .ensures)
+    let t = c .before .before .before .before .before .before .before .before in
+    let a = t .before .before .before .before .before .args in
+    let last = t .node-tables .last .1 .1 in
+    c .before .before .set-slabs .ensures ∙ node-flags (a .g) (a .v) (last .0) (last .1 .0) (last .1 .1 .0) (t .node-tables .ensures)
 
 pub set-node-spec : {M : Type 1} → statement M
 set-node-spec = tie.close (tie.spec node-tables-requires cast-set-slabs set-slabs-requires same-length returns)

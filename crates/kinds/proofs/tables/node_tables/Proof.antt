@@ -29,12 +29,13 @@ axis-table-requires-3 c κs = search needs
 
 returns : tie.Need-returns
 returns c =
-    let x = c .before .before in
-    let at = x .before in
+    let y = c .before .before in
+    let x = y .before .before in
+    let at = x .before .before in
     let s = at .before .before .before .before .before in
-    by-tables (s .args .g) (s .args .v) (x .axis-table .result) (c .before .axis-table2 .result) (c .axis-table3 .result)
-    (at .before .before .node-size .ensures) (at .before .node-counts .ensures) (at .indices .ensures)
-    (x .axis-table .ensures) (c .before .axis-table2 .ensures) (c .axis-table3 .ensures)
+    by-tables (s .args .g) (s .args .v) (x .axis-table .last .1 .1 .1 .1 .1 .0) (y .axis-table2 .last .1 .1 .1 .1 .1 .0)
+    (c .axis-table3 .last .1 .1 .1 .1 .1 .0) (at .before .before .node-size .ensures) (at .before .node-counts .ensures) (at .indices .ensures)
+    (x .axis-table .ensures) (y .axis-table2 .ensures) (c .axis-table3 .ensures)
 
 pub node-tables-spec : {M : Type 1} → statement M
 node-tables-spec =

@@ -1,4 +1,4 @@
--- `children::child_turn` meets its contract: by its kind and the grid's verdict the child is passed over, becomes a constant or a leaf.
+-- `children::decide_at` meets its contract: by its kind and the grid's verdict the child is passed over, becomes a constant or a leaf.
 use Prim.Native.Nat.{ℕ, _+_, _*_, _≤_, _<_}
 use mathlib.Core.Path.{_≡_, ap, sym, _∙_}
 use native.Mathlib.Omega.{arith}
@@ -13,33 +13,29 @@ use mathlib.Core.List.{List}
 use Rattle.geometry.specs.declared.BoundingBox.{BoundingBox}
 use Rattle.grid.specs.declared.Verdict.{Verdict}
 use Rattle.grid.specs.declared.Verdict.the-variants.{Constant}
-use Rattle.rows.specs.Inner.FlatValue.{flatValue}
 use Rattle.schedule.specs.Lent.{memoryOf}
-use Rattle.engine.proofs.ChildLaws.{place-few, leaves-few, skipped, constant-turn, leaf-inside, leaf-turn}
+use Rattle.engine.proofs.ChildLaws.{place-few, leaves-few, without-points, skipped, constant-turn, leaf-inside, leaf-turn}
 use borrow.Author.Needs.{needs}
-use Rattle.engine.proofs.children.child_turn.Statement.{statement}
-use Rattle.engine.proofs.children.child_turn.Tie as tie
+use Rattle.engine.proofs.children.decide_at.Statement.{statement}
+use Rattle.engine.proofs.children.decide_at.Tie as tie
 
--- what becomes of a child, and the value at a point
+-- what becomes of a child
 abbrev decide : tie.Start → BoundingBox → List Float → Verdict
 decide s = decideBy (s .args .task .band)
 
-abbrev value : tie.Start → Float → Float → Float → Float
-value s = flatValue (s .args .words .now) (s .args .reals .now) (s .args .task .parts)
-
--- the memory at entry
-abbrev memory : tie.Start → Memory
-memory s = memoryOf (s .args .kinds .now) (s .args .numbers .now) (s .args .places .now) (s .args .store .now) (s .args .corners .now)
+-- the memory at entry, beside a store
+abbrev memory : tie.Start → List Float → Memory
+memory s store = memoryOf (s .args .kinds .now) (s .args .numbers .now) (s .args .places .now) store (s .args .corners .now)
 
 -- the corners are all there
 long : (s : tie.Start) → cube (s .args .task .grid .inner + 1) ≤ length (s .args .corners .now)
 unfolding planWith
-long s = s .pre .1 .lent .corners
+long s = s .pre .1 .ready .lent .corners
 
 -- ---- where the number of a node's children is known
 
 abbrev start : tie.After-cube-of → tie.Start
-start p = p .before .before .before .before .before .before .before
+start p = p .before .before .before .before .before
 
 abbrev place : tie.After-cube-of → ℕ
 place p = start p .args .visit .node * p .cube-of .result + start p .args .visit .place
@@ -53,7 +49,8 @@ few : (p : tie.After-cube-of) → place p < 16777216
 unfolding planWith
 few p =
     let s = start p in
-    omega (arith, place-is p, place-few (s .args .task .grid) (s .args .visit .node) (s .args .visit .place) (s .pre .0 .0) (s .pre .1 .node) (s .pre .0 .2))
+    let w = s .args .visit in
+    omega (arith, place-is p, place-few (s .args .task .grid) (w .node) (w .place) (s .pre .0 .0) (s .pre .1 .ready .node) (s .pre .0 .2))
 
 -- and inside the slices
 inside : (p : tie.After-cube-of) →
@@ -61,8 +58,8 @@ inside : (p : tie.After-cube-of) →
 unfolding planWith
 inside p =
     let s = start p in
-    let lent = s .pre .1 .lent in
-    let slab = mul-le-mul-right (cube (s .args .task .grid .inner)) (s .pre .1 .node) in (
+    let lent = s .pre .1 .ready .lent in
+    let slab = mul-le-mul-right (cube (s .args .task .grid .inner)) (s .pre .1 .ready .node) in (
       omega (arith, place-is p, slab, lent .kinds, s .pre .0 .2),
       omega (arith, place-is p, slab, lent .numbers, s .pre .0 .2),
       omega (arith, place-is p, slab, lent .places, s .pre .0 .2),
@@ -78,7 +75,7 @@ few-leaves : (d : tie.After-decide-child) → start (counted d) .args .visit .le
 few-leaves d =
     let s = start (counted d) in
     let a = s .args in
-    leaves-few (a .task .grid) (decide s) (value s) (a .visit .node) (a .visit .place) (a .visit .leaves) (memory s) (s .pre .0 .0) (s .pre .0 .2) (s .pre .1)
+    leaves-few (a .task .grid) (decide s) _ (a .visit .node) (a .visit .place) (a .visit .leaves) _ (s .pre .0 .0) (s .pre .0 .2) (s .pre .1 .ready)
 
 -- ---- what is left
 
@@ -102,16 +99,19 @@ returns c =
     let p = c .before .before .before in
     let s = start p in
     let a = s .args in
-    skipped (a .task .grid) (decide s) (value s) (a .visit .node) (a .visit .place) (a .visit .left) (a .visit .leaves)
-    (memory s) (a .visit .bounds)
-    (s .pre .0 .1) (s .pre .0 .2) (s .pre .1) (p .cube-of .result) (p .cube-of .ensures) (c .if1 .taken)
+    let w = a .visit in
+    λ value store ready.
+    let done = skipped (a .task .grid) (decide s) value (w .node) (w .place) (w .left) (w .leaves) (memory s store) (w .bounds)
+    (s .pre .0 .1) (s .pre .0 .2) ready (p .cube-of .result) (p .cube-of .ensures) (c .if1 .taken) in
+    record { fits = tt; then = λ after r points. without-points _ _ _ _ _ done points }
 
 child-box-requires : tie.Need-child-box-requires
 child-box-requires c κs = search needs
 
 octet-values-requires : tie.Need-octet-values-requires
 octet-values-requires c κs =
-    let s = start (c .before .before .before .before .before) in (s .pre .0 .0 .innerLeast, s .pre .0 .0 .innerMost, s .pre .0 .2, long s)
+    let s = start (c .before .before .before .before .before) in
+    (s .pre .0 .0 .innerLeast, s .pre .0 .0 .innerMost, s .pre .0 .2, long s)
 
 decide-child-requires : tie.Need-decide-child-requires
 decide-child-requires c κs = search needs
@@ -135,35 +135,13 @@ slice-write-kinds-2 : tie.Need-slice-write-kinds-2
 slice-write-kinds-2 c = omega (arith, inside (counted (c .before .before)))
 
 cast-places : tie.Need-cast-places
-cast-places c = omega (arith, few-leaves (c .before .before))
+cast-places c = omega (arith, few-leaves (c .before .before .before))
 
 mul-places : tie.Need-mul-places
-mul-places c = omega (arith, few (counted (c .before .before)))
+mul-places c = omega (arith, few (counted (c .before .before .before)))
 
 slice-write-places : tie.Need-slice-write-places
-slice-write-places c = omega (arith, inside (counted (c .before .before)))
-
-add-made : tie.Need-add-made
-add-made c = omega (arith, few-leaves (c .before .before))
-
--- a leaf more has its stretch in the store
-stretch : (d : tie.After-decide-child) →
-    (start (counted d) .args .visit .leaves + 1) * cube (start (counted d) .args .task .grid .leaf) ≤ length (start (counted d) .args .store .now)
-stretch d =
-    let p = counted d in
-    let s = start p in
-    let a = s .args in
-    leaf-inside (a .task .grid) (decide s) (value s) (a .visit .node) (a .visit .place) (a .visit .left) (a .visit .leaves)
-    (memory s) (a .visit .bounds)
-    (s .pre .0 .1) (s .pre .0 .2) (s .pre .1) (p .cube-of .result) (p .cube-of .ensures)
-    (d .before .octet-values .ensures) (d .before .before .child-box .ensures) (d .decide-child .ensures)
-    (d .before .before .before .before .if1 .left)
-
-leaf-from-requires : tie.Need-leaf-from-requires
-leaf-from-requires c κs =
-    let d = c .before .before .before .before in
-    let s = start (counted d) in
-    (s .pre .0 .0 .leafLeast, s .pre .0 .0 .leafMost, omega arith, omega arith, stretch d, s .pre .0 .3)
+slice-write-places c = omega (arith, inside (counted (c .before .before .before)))
 
 same-length : tie.Need-same-length
 same-length c = search needs
@@ -183,11 +161,13 @@ returns-2 c =
     let p = counted d in
     let s = start p in
     let a = s .args in
-    constant-turn (a .task .grid) (decide s) (value s) (a .visit .node) (a .visit .place) (a .visit .left) (a .visit .leaves)
-    (memory s) (a .visit .bounds)
-    (s .pre .0 .1) (s .pre .0 .2) (s .pre .1) (p .cube-of .result) (p .cube-of .ensures)
+    let w = a .visit in
+    λ value store ready.
+    let done = constant-turn (a .task .grid) (decide s) value (w .node) (w .place) (w .left) (w .leaves) (memory s store) (w .bounds)
+    (s .pre .0 .1) (s .pre .0 .2) ready (p .cube-of .result) (p .cube-of .ensures)
     (d .before .octet-values .ensures) (d .before .before .child-box .ensures) (d .decide-child .ensures)
-    (d .before .before .before .before .if1 .left) (c .before .verdict .given .1) (kind-above d (c .before .verdict .given .1))
+    (d .before .before .before .before .if1 .left) (c .before .verdict .given .1) (kind-above d (c .before .verdict .given .1)) in
+    record { fits = tt; then = λ after r points. without-points _ _ _ _ _ done points }
 
 same-length-3 : tie.Need-same-length-3
 same-length-3 c = search needs
@@ -195,24 +175,27 @@ same-length-3 c = search needs
 same-length-4 : tie.Need-same-length-4
 same-length-4 c = search needs
 
-same-length-5 : tie.Need-same-length-5
-same-length-5 c = search needs
-
 returns-3 : tie.Need-returns-3
 returns-3 c =
-    let d = c .before .before .before .before .before .before .before in
+    let d = c .before .before .before in
     let p = counted d in
     let s = start p in
     let a = s .args in
-    leaf-turn (a .task .grid) (decide s) (value s) (a .visit .node) (a .visit .place) (a .visit .left) (a .visit .leaves)
-    (memory s) (a .visit .bounds)
-    (s .pre .0 .1) (s .pre .0 .2) (s .pre .1) (p .cube-of .result) (p .cube-of .ensures)
-    (d .before .octet-values .ensures) (d .before .before .child-box .ensures) (d .decide-child .ensures)
-    (d .before .before .before .before .if1 .left) (c .before .before .before .before .before .enum-told .given .1)
-    (c .before .before .leaf-from .ensures .0) (c .before .before .leaf-from .ensures .1)
+    let w = a .visit in
+    λ value store ready.
+    record {
+      fits = leaf-inside (a .task .grid) (decide s) value (w .node) (w .place) (w .left) (w .leaves) (memory s store) (w .bounds)
+          (s .pre .0 .1) (s .pre .0 .2) ready (p .cube-of .result) (p .cube-of .ensures)
+          (d .before .octet-values .ensures) (d .before .before .child-box .ensures) (d .decide-child .ensures)
+          (d .before .before .before .before .if1 .left);
+      then = λ after r points. leaf-turn (a .task .grid) (decide s) value (w .node) (w .place) (w .left) (w .leaves) (memory s store) (w .bounds)
+          (s .pre .0 .1) (s .pre .0 .2) ready (p .cube-of .result) (p .cube-of .ensures)
+          (d .before .octet-values .ensures) (d .before .before .child-box .ensures) (d .decide-child .ensures)
+          (d .before .before .before .before .if1 .left) (c .before .enum-told .given .1) (points .0) (points .1);
+    }
 
-pub child-turn-spec : {M : Type 1} → statement M
-child-turn-spec =
+pub decide-at-spec : {M : Type 1} → statement M
+decide-at-spec =
     tie.close
     (tie.spec
     cast-cube-of
@@ -233,12 +216,9 @@ child-turn-spec =
     cast-places
     mul-places
     slice-write-places
-    add-made
-    leaf-from-requires
     same-length
     same-length-2
     returns-2
     same-length-3
     same-length-4
-    same-length-5
     returns-3)
