@@ -3,13 +3,8 @@
 ghost use Prim.Native.Nat.{_+_, _<_, _≤_};
 ghost use lib.ListN.{length};
 
-mod cells;
-mod counts;
-mod indices;
-mod numbers;
-mod sampling;
-mod values;
-mod walks;
+mod sampling; // sampling.rt: a model, sampled
+mod values; // values.rt: calls that change values
 
 // Which of the words, each ended by byte 10, begins a line and has this length: 0 is the first.
 // Their number where none does.
@@ -45,8 +40,8 @@ fn answer_lent(
         6 => values::pad(fields, values, answers),
         7 => values::threshold(fields, values, answers),
         8 => values::smooth(fields, values, scratch, answers),
-        9 => cells::octet(fields, values, answers),
-        10 => walks::octets(fields, values, answers),
+        9 => dense_cases::octet(fields, values, answers),
+        10 => dense_cases::octets(fields, values, answers),
         _ => sampling::sample(fields, values, answers),
     }
 }
@@ -63,7 +58,7 @@ fn lend(
     requires { ⌜ (len ≤ 150) × (150 ≤ length (now values)) × (150 ≤ length (now scratch)) ⌝ }
     ensures { λ r. ⌜ (0 < r) × (r ≤ 160) ⌝ }
 {
-    let more = numbers::small(numbers::count_at(fields, 5));
+    let more = dense_cases::small(dense_cases::count_at(fields, 5));
     answer_lent(
         kind,
         fields,
@@ -79,21 +74,21 @@ fn lent_by(kind: u64, fields: &[u64; 160], count: usize) -> usize
     ensures { λ r. ⌜ r ≤ 150 ⌝ }
 {
     if kind > 10 {
-        return numbers::small(numbers::count_at(fields, 7));
+        return dense_cases::small(dense_cases::count_at(fields, 7));
     }
     let head: usize = if kind < 8 { 4 } else { 6 };
     if count < head {
         return 0;
     }
-    numbers::small(count - head)
+    dense_cases::small(count - head)
 }
 
 // The answer of a call that is lent values.
 fn answer_values(kind: u64, fields: &[u64; 160], count: usize, answers: &mut [u64; 160]) -> usize
     ensures { λ r. ⌜ (0 < r) × (r ≤ 160) ⌝ }
 {
-    let mut values = numbers::floats();
-    let mut scratch = numbers::floats();
+    let mut values = dense_cases::floats();
+    let mut scratch = dense_cases::floats();
     let len = lent_by(kind, fields, count);
     lend(kind, fields, len, &mut values, &mut scratch, answers)
 }
@@ -106,12 +101,12 @@ fn answer(kind: u64, fields: &[u64; 160], count: usize, answers: &mut [u64; 160]
         return vectors::put_off(answers);
     }
     match kind {
-        0 => counts::count(fields, answers),
-        1 => indices::place(fields, answers),
-        2 => indices::indices(fields, answers),
-        3 => cells::corners(fields, answers),
-        4 => walks::points(fields, answers),
-        5 => walks::cells(fields, answers),
+        0 => dense_cases::count(fields, answers),
+        1 => dense_cases::place(fields, answers),
+        2 => dense_cases::indices(fields, answers),
+        3 => dense_cases::corners(fields, answers),
+        4 => dense_cases::points(fields, answers),
+        5 => dense_cases::cells(fields, answers),
         12 => vectors::put_off(answers),
         _ => answer_values(kind, fields, count, answers),
     }

@@ -1,7 +1,6 @@
 // Sampling of a model that a case holds part by part.
 ghost use Prim.Native.Nat.{_<_, _≤_};
 ghost use lib.ListN.{length};
-use crate::numbers;
 use dense_field::Outcome;
 use model::ImplicitModel;
 
@@ -25,7 +24,7 @@ fn model_of(fields: &[u64; 160]) -> ImplicitModel {
 fn sampled(fields: &[u64; 160], values: &mut [f64]) -> Outcome {
     let origin = cases::vector_at(fields, 0);
     let cell = cases::float_at(fields, 3);
-    let n = numbers::counts_at(fields, 4);
+    let n = dense_cases::counts_at(fields, 4);
     dense_field::sample(model_of(fields), origin, cell, n, values)
 }
 
@@ -38,5 +37,5 @@ pub fn sample(fields: &[u64; 160], values: &mut [f64], answers: &mut [u64; 160])
     let len = values.len();
     slices::fill_floats(BEFORE, values, 0, len);
     let done = sampled(fields, values);
-    numbers::put_outcome(done, values, len, answers)
+    dense_cases::put_outcome(done, values, len, answers)
 }

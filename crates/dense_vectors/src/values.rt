@@ -2,7 +2,7 @@
 // answer.
 ghost use Prim.Native.Nat.{_<_, _≤_};
 ghost use lib.ListN.{length};
-use crate::numbers;
+use dense_field::Outcome;
 
 // What each value of the scratch is before a call.
 const BEFORE: f64 = 100.0;
@@ -13,11 +13,11 @@ pub fn pad(fields: &[u64; 160], values: &mut [f64], answers: &mut [u64; 160]) ->
     ensures { λ r. ⌜ (0 < r) × (r ≤ 160) ⌝ }
 {
     let len = values.len();
-    let n = numbers::counts_at(fields, 0);
+    let n = dense_cases::counts_at(fields, 0);
     let value = cases::float_at(fields, 3);
-    numbers::values_at(fields, 4, values);
+    dense_cases::values_at(fields, 4, values);
     let done = dense_field::padding(n, value, values);
-    numbers::put_outcome(done, values, len, answers)
+    dense_cases::put_outcome(done, values, len, answers)
 }
 
 // `threshold`: the dimensions, the limit, the values.
@@ -26,11 +26,11 @@ pub fn threshold(fields: &[u64; 160], values: &mut [f64], answers: &mut [u64; 16
     ensures { λ r. ⌜ (0 < r) × (r ≤ 160) ⌝ }
 {
     let len = values.len();
-    let n = numbers::counts_at(fields, 0);
+    let n = dense_cases::counts_at(fields, 0);
     let limit = cases::float_at(fields, 3);
-    numbers::values_at(fields, 4, values);
+    dense_cases::values_at(fields, 4, values);
     let done = dense_field::threshold(n, limit, values);
-    numbers::put_outcome(done, values, len, answers)
+    dense_cases::put_outcome(done, values, len, answers)
 }
 
 // Whether every value has these bits.
@@ -53,6 +53,19 @@ fn scratch_after(scratch: &[f64]) -> u64 {
     if all_have(scratch, 0) { 0 } else { 2 }
 }
 
+// Smooths the values of a case, with a scratch that is set before the call.
+fn smoothed(fields: &[u64; 160], values: &mut [f64], scratch: &mut [f64]) -> Outcome
+    requires { ⌜ length (now values) ≤ 150 ⌝ }
+{
+    let n = dense_cases::counts_at(fields, 0);
+    let factor = cases::float_at(fields, 3);
+    let rounds = cases::short(fields[4]);
+    let room = scratch.len();
+    dense_cases::values_at(fields, 6, values);
+    slices::fill_floats(BEFORE, scratch, 0, room);
+    dense_field::smooth(n, factor, rounds, values, scratch)
+}
+
 // `smooth`: the dimensions, the factor, the rounds, the scratch's length, the values.
 pub fn smooth(
     fields: &[u64; 160],
@@ -64,15 +77,9 @@ pub fn smooth(
     ensures { λ r. ⌜ (0 < r) × (r ≤ 160) ⌝ }
 {
     let len = values.len();
-    let n = numbers::counts_at(fields, 0);
-    let factor = cases::float_at(fields, 3);
-    let rounds = cases::short(fields[4]);
-    numbers::values_at(fields, 6, values);
-    let room = scratch.len();
-    slices::fill_floats(BEFORE, scratch, 0, room);
-    let done = dense_field::smooth(n, factor, rounds, values, scratch);
-    answers[0] = numbers::outcome(done);
+    let done = smoothed(fields, values, scratch);
+    answers[0] = dense_cases::outcome(done);
     answers[1] = scratch_after(scratch);
-    numbers::put_values(answers, 2, values, len);
+    dense_cases::put_values(answers, 2, values, len);
     2 + len
 }

@@ -1,11 +1,10 @@
 // The list of the corners that a node's active children need.
 ghost use Prim.Native.Nat.{_<_, _≤_};
-use crate::case::flag;
-use crate::case::has_bit;
-use crate::case::put_bit;
-use crate::case::wide;
-use crate::words;
 use grid::CornerList;
+use grid_cases::flag;
+use grid_cases::has_bit;
+use grid_cases::put_bit;
+use grid_cases::wide;
 use vectors::put_off;
 
 // What the lent list holds before the call.
@@ -144,10 +143,10 @@ fn list(fields: &[u64; 160], answers: &mut [u64; 160]) -> usize
 pub fn answer(word: u64, fields: &[u64; 160], answers: &mut [u64; 160]) -> usize
     ensures { λ r. ⌜ r ≤ 160 ⌝ }
 {
-    if word == words::LIST {
+    if word == grid_cases::LIST {
         return list(fields, answers);
     }
-    if word == words::LONGLIST {
+    if word == grid_cases::LONGLIST {
         return list(fields, answers);
     }
     0

@@ -1,8 +1,7 @@
 // The causes by which open refuses a job, and what is known of an accepted one.
 ghost use Prim.Native.Nat.{_<_, _≤_};
-use crate::case::grid_of;
-use crate::case::number;
-use crate::words;
+use grid_cases::grid_of;
+use grid_cases::number;
 use input::Band;
 use input::Input;
 use input::Lengths;
@@ -96,7 +95,7 @@ fn open(fields: &[u64; 160], answers: &mut [u64; 160]) -> usize
 pub fn answer(word: u64, fields: &[u64; 160], answers: &mut [u64; 160]) -> usize
     ensures { λ r. ⌜ r ≤ 160 ⌝ }
 {
-    if word == words::OPEN {
+    if word == grid_cases::OPEN {
         return open(fields, answers);
     }
     0

@@ -1,37 +1,24 @@
 // Answers the stored cases of the grid that standard input holds: a line each, and a line for each.
 ghost use Prim.Native.Nat.{_<_, _≤_};
 
-mod case; // case.rt: what a case's numbers stand for, and those of an answer
 mod corners; // corners.rt: the corner list
 mod jobs; // jobs.rt: the causes of open
-mod nodes; // nodes.rt: nodes, children, activity
-mod points; // points.rt: corner and leaf points
-mod pruning; // pruning.rt: the pruning rule
-mod words; // words.rt: the words of the cases
 
 // The answer to a case with this word.
 fn answer(word: u64, fields: &[u64; 160], answers: &mut [u64; 160]) -> usize
     ensures { λ r. ⌜ (0 < r) × (r ≤ 160) ⌝ }
 {
-    let a = nodes::answer(word, fields, answers);
+    let a = grid_cases::answer(word, fields, answers);
     if a > 0 {
         return a;
     }
-    let b = points::answer(word, fields, answers);
+    let b = corners::answer(word, fields, answers);
     if b > 0 {
         return b;
     }
-    let c = pruning::answer(word, fields, answers);
+    let c = jobs::answer(word, fields, answers);
     if c > 0 {
         return c;
-    }
-    let d = corners::answer(word, fields, answers);
-    if d > 0 {
-        return d;
-    }
-    let e = jobs::answer(word, fields, answers);
-    if e > 0 {
-        return e;
     }
     vectors::put_off(answers)
 }
@@ -42,7 +29,9 @@ fn answer_to(line: &[u8], answers: &mut [u64; 160]) -> usize
 {
     let word = vectors::word_of(line);
     let mut fields = vectors::zeros();
-    if vectors::read_fields(line, vectors::word_end(line), &mut fields) != words::numbers_of(word) {
+    if vectors::read_fields(line, vectors::word_end(line), &mut fields)
+        != grid_cases::numbers_of(word)
+    {
         return vectors::put_off(answers);
     }
     answer(word, &fields, answers)

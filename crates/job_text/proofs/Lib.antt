@@ -1,4 +1,4 @@
--- Laws of reading a text.
+-- Laws of reading a text, and of NaN bits.
 pub mod PartLaws
 pub mod PartTurns
 pub mod Gathering
@@ -10,4 +10,5 @@ pub mod Cut
 pub mod OffLine
 pub mod OffBack
 pub mod InputBack
+pub mod NanLaws
 pub mod Worked

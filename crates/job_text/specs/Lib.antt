@@ -3,4 +3,5 @@ pub mod Parts
 pub mod Reading
 pub mod Texts
 pub mod OnForm
+pub mod NanBits
 pub mod Inner

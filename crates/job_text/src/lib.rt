@@ -1,11 +1,13 @@
-// The text of a job, read into an input.
+// The text of a job, read into an input with the bits of its constants.
 use forms::End;
 use input::Input;
 use model::Part;
 
+mod nan; // nan.rt: the bits of a NaN leaf value
 mod parts; // parts.rt: a part line
 mod reader; // reader.rt: a job's text, line by line
 
+pub use nan::nan_pattern;
 pub use reader::read_job;
 
 // The most that a decimal number of a text may be.

@@ -1,5 +1,4 @@
 -- Laws of NaN bits and of listings.
-pub mod NanLaws
 pub mod NanValues
 pub mod NanRead
 pub mod LineLaws

@@ -39,7 +39,7 @@ use Rattle.job_text.specs.declared.Reading.{Reading}
 use Rattle.job_text.specs.declared.Judgement.the-variants.{OnForm, OffAt}
 use Rattle.listing.specs.Lines.{refusedForm, offForm}
 use Rattle.job_text.specs.Reading.{Read, offAt, written, readText, jobOf, readingOf}
-use Rattle.listing.specs.NanBits.{jobNan}
+use Rattle.job_text.specs.NanBits.{jobNan}
 use Rattle.listing.specs.Listing.{planListing}
 use Rattle.listing.specs.Written.{written as writtenOf, atEnd, putAnswer, putListing}
 use Rattle.listing.proofs.ListingFits.{listing-fits, refused-fits, off-fits}

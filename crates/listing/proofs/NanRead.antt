@@ -17,7 +17,7 @@ use Rattle.model.specs.Part.{partIn}
 use Rattle.job_text.specs.Lines.{limit, PartKind, const, sphere, plane, min, max, add, sub, neg, partForm}
 use Rattle.job_text.specs.Parts.{partFrom, patternFrom, Spelt}
 use Rattle.job_text.specs.Reading.{Written, written, componentOf, componentsOf, patternsOf, jobOf, readText}
-use Rattle.listing.specs.NanBits.{jobNan}
+use Rattle.job_text.specs.NanBits.{jobNan}
 use Rattle.listing.specs.Values.{modelBits, OwnPattern, OwnPatterns}
 use Rattle.listing.specs.Listing.{bitsIn}
 use Rattle.job_text.specs.OnForm.{OnForm, OnParts}

@@ -18,10 +18,10 @@ use Rattle.model.specs.declared.Part.{Part}
 use Rattle.model.specs.declared.Part.the-variants.{Constant, Sphere, Plane, Min, Max, Add, Sub, Neg}
 use Rattle.model.specs.Model.{partOf, valuesTo, modelValue}
 use Rattle.model.specs.Part.{past, partValue, sphereValue, planeValue}
-use Rattle.listing.specs.NanBits.{computedNan, nanOf, nansTo, nanPattern}
+use Rattle.job_text.specs.NanBits.{computedNan, nanOf, nansTo, nanPattern}
 use Rattle.listing.specs.Values.{floatOf, minBits, maxBits, computedBits, partBits, bitsTo, modelBits, OwnPattern, OwnPatterns}
 use Rattle.listing.specs.Listing.{bitsIn}
-use Rattle.listing.proofs.NanLaws.{nans-length}
+use Rattle.job_text.proofs.NanLaws.{nans-length}
 
 -- ---- one part
 

@@ -1,5 +1,4 @@
 pub mod Lines
-pub mod NanBits
 pub mod Values
 pub mod Listing
 pub mod Written

@@ -8,7 +8,7 @@ use Rattle.forms.specs.Forms.{spell}
 use Rattle.job_text.specs.declared.Job.{Job}
 use Rattle.listing.specs.Lines.{refusedForm, offForm}
 use Rattle.job_text.specs.Reading.{Read, offAt, written, readText, jobOf}
-use Rattle.listing.specs.NanBits.{jobNan}
+use Rattle.job_text.specs.NanBits.{jobNan}
 use Rattle.listing.specs.Listing.{planListing}
 
 -- the lengths of the memory that the program lends (rule T9)

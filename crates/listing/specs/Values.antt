@@ -9,7 +9,7 @@ use Rattle.model.specs.declared.Part.{Part}
 use Rattle.model.specs.declared.Part.the-variants.{Constant, Sphere, Plane, Min, Max, Add, Sub, Neg}
 use Rattle.model.specs.Model.{partOf}
 use Rattle.model.specs.Part.{partValue}
-use Rattle.listing.specs.NanBits.{computedNan}
+use Rattle.job_text.specs.NanBits.{computedNan}
 
 -- the value of a pattern (rule F14)
 abbrev pub floatOf : ℕ → Float

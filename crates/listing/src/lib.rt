@@ -3,12 +3,10 @@ use schedule::Counts;
 
 mod lines; // lines.rt: one line of a listing
 mod list; // list.rt: what `fieldlist` prints
-mod nan; // nan.rt: the bits of a NaN leaf value
 mod writing; // writing.rt: a job's whole listing
 
 pub use list::list_job;
 pub use list::list_whole;
-pub use nan::nan_pattern;
 pub use writing::write_listing;
 pub use writing::write_off;
 pub use writing::write_refusal;

@@ -5,7 +5,6 @@ ghost use lib.ListN.{length};
 ghost use Rattle.listing.specs.Listed.{jobListed, listed};
 ghost use Rattle.listing.specs.Written.{putAnswer, putBytes};
 use crate::Listing;
-use crate::nan;
 use crate::writing;
 use job_text::Job;
 use job_text::Judgement;
@@ -48,7 +47,7 @@ fn list_read(job: Job, out: &mut [u8]) -> Listing
     );
     writing::write_listing(
         done.next,
-        nan::nan_pattern(job),
+        job_text::nan_pattern(job),
         &kinds,
         &numbers,
         &places,

@@ -72,10 +72,8 @@ has-word-requires-5 c κs = search needs
 returns-5 : tie.Need-returns-5
 unfolding operationOf
 returns-5 c =
-    let fourth = c .before .before .before in
-    let third = fourth .before .before .before in
-    let second = third .before .before .before in
-    let first = second .before .before .before in
+    let fourth = c .before .before .before in let third = fourth .before .before .before in
+    let second = third .before .before .before in let first = second .before .before .before in
     simp (
       sym (first .before .has-word .ensures) ∙ first .if1 .left,
       sym (second .before .has-word2 .ensures) ∙ second .if2 .left,
@@ -87,10 +85,8 @@ returns-5 c =
 returns-6 : tie.Need-returns-6
 unfolding operationOf
 returns-6 c =
-    let fourth = c .before .before .before in
-    let third = fourth .before .before .before in
-    let second = third .before .before .before in
-    let first = second .before .before .before in
+    let fourth = c .before .before .before in let third = fourth .before .before .before in
+    let second = third .before .before .before in let first = second .before .before .before in
     simp (
       sym (first .before .has-word .ensures) ∙ first .if1 .left,
       sym (second .before .has-word2 .ensures) ∙ second .if2 .left,
