@@ -16,11 +16,12 @@ use Rattle.geometry.specs.declared.Vec3i.{Vec3i}
 use Rattle.geometry.specs.Causes.{firstOf}
 use Rattle.geometry.specs.Index.{placeOf, nextIndices}
 use Rattle.geometry.specs.Octet.{octetOrder, octetPlaces}
+use Rattle.geometry.specs.Values.{vec3i}
 use Rattle.dense_field.specs.Field.{valuesRefused, pointsOf}
 use Rattle.dense_field.specs.Inner.Lent.{Lent}
 use Rattle.dense_field.specs.Octets.{cellInside, octetOf}
 use Rattle.dense_field.specs.Cells.{octetCause}
-use Rattle.dense_field.specs.Walks.{octetStep}
+use Rattle.dense_field.specs.Walks.{noCells, octetStep}
 use Rattle.dense_field.specs.declared.OctetStep.the-variants as octet
 use Rattle.dense_field.proofs.Lending.{lent}
 
@@ -108,10 +109,10 @@ found n c len e = one (valuesRefused n len) (cellInside n c) refl refl e
 pub stepped : (n c next : Vec3i) (len : ℕ) → octetStep n len c ≡ octet.Cell next → Found n c len
 unfolding octetStep
 stepped n c next len e =
-    one (valuesRefused n len) (eqb (n .i - 1) 0 || eqb (n .j - 1) 0 || not (ltb (c .k) (n .k - 1)))
+    one (valuesRefused n len) (noCells (vec3i (n .i - 1) (n .j - 1) (n .k - 1)) || not (ltb (c .k) (n .k - 1)))
     (not (ltb (c .i) (n .i - 1)) || not (ltb (c .j) (n .j - 1))) refl refl refl e
   where
-    one : (a b d : Bool) → valuesRefused n len ≡ a → (eqb (n .i - 1) 0 || eqb (n .j - 1) 0 || not (ltb (c .k) (n .k - 1))) ≡ b
+    one : (a b d : Bool) → valuesRefused n len ≡ a → (noCells (vec3i (n .i - 1) (n .j - 1) (n .k - 1)) || not (ltb (c .k) (n .k - 1))) ≡ b
         → (not (ltb (c .i) (n .i - 1)) || not (ltb (c .j) (n .j - 1))) ≡ d
         → cond a (octet.Refused 9) (cond b (octet.Done c) (cond d (octet.Refused 10) (octet.Cell (nextIndices c (n .i - 1) (n .j - 1))))) ≡ octet.Cell next
         → Found n c len
@@ -121,5 +122,5 @@ stepped n c next len e =
     one false false false ha hb hd found =
         let ci : c .i < n .i - 1 = ltb-true _ _ (not-false _ (or-left _ _ hd)) in
         let cj : c .j < n .j - 1 = ltb-true _ _ (not-false _ (or-right (not (ltb (c .i) (n .i - 1))) _ hd)) in
-        let ck : c .k < n .k - 1 = ltb-true _ _ (not-false _ (or-right (eqb (n .i - 1) 0 || eqb (n .j - 1) 0) _ hb)) in
+        let ck : c .k < n .k - 1 = ltb-true _ _ (not-false _ (or-right (noCells (vec3i (n .i - 1) (n .j - 1) (n .k - 1))) _ hb)) in
         record { held = lent n len ha; in-field = record { i-in = omega arith; j-in = omega arith; k-in = omega arith } }

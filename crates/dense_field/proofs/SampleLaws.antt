@@ -19,7 +19,7 @@ use Rattle.model.specs.declared.ImplicitModel.{ImplicitModel}
 use Rattle.model.proofs.Accepted.{laid-value}
 use Rattle.dense_field.specs.Field.{valuesRefused, pointsOf}
 use Rattle.dense_field.specs.Points.{fieldPoint}
-use Rattle.dense_field.specs.Runs.{sampleCause}
+use Rattle.dense_field.specs.Sampling.{sampleCause}
 use Rattle.dense_field.specs.Inner.Runs.{flatAt}
 use Rattle.dense_field.specs.Sampling.{sampled}
 use Rattle.dense_field.proofs.Edges.{pointAt}

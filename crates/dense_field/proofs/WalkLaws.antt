@@ -25,7 +25,7 @@ use Rattle.dense_field.specs.declared.CellStep.the-variants as cell
 use Rattle.dense_field.specs.declared.OctetStep.{OctetStep}
 use Rattle.dense_field.specs.declared.OctetStep.the-variants as octet
 use Rattle.dense_field.specs.Field.{pointsOf, valuesRefused}
-use Rattle.dense_field.specs.Walks.{countRefused, walkRefused, walkPoint, walkCell, pointStep, cellStep, octetStep}
+use Rattle.dense_field.specs.Walks.{countRefused, walkRefused, walkPoint, walkCell, pointStep, cellStep, noCells, octetStep}
 use Rattle.dense_field.specs.Octets.{octetOf}
 use Rattle.dense_field.specs.Cells.{noValues, stepValues, octetWalkOf}
 use Rattle.dense_field.specs.Walker.{afterStep}
@@ -236,12 +236,13 @@ module _ (n : Vec3i) (vs : List Float) (passed : valuesRefused n (length vs) ≡
   z-cell = omega arith
 
   octet-at : (p : ℕ) → p < pointsOf cells → octetStep n (length vs) (cellIndex p) ≡ octet.Cell (cellIndex (suc p))
-  unfolding octetStep
+  unfolding octetStep noCells
   octet-at p h =
       simp (
         passed,
         ne-eqb (cells .i) 0 (λ e. omega arith),
         ne-eqb (cells .j) 0 (λ e. omega arith),
+        ne-eqb (cells .k) 0 (λ e. omega arith),
         lt-ltb _ _ (column-below p (cells .i) (cells .j) x-cell y-cell),
         lt-ltb _ _ (line-below p (cells .i) (cells .j) x-cell y-cell),
         lt-ltb _ _ (slab-below p (cells .i) (cells .j) x-cell y-cell (cells .k) h),
@@ -249,8 +250,15 @@ module _ (n : Vec3i) (vs : List Float) (passed : valuesRefused n (length vs) ≡
       (ap octet.Cell (next-index cells p x-cell y-cell))
 
   octet-end : octetStep n (length vs) (vec3i 0 0 (cells .k)) ≡ octet.Done (vec3i 0 0 (cells .k))
-  unfolding octetStep
-  octet-end = simp (passed, ne-eqb (cells .i) 0 (λ e. omega arith), ne-eqb (cells .j) 0 (λ e. omega arith), le-ltb (cells .k) (cells .k) (omega arith))
+  unfolding octetStep noCells
+  octet-end =
+      simp (
+        passed,
+        ne-eqb (cells .i) 0 (λ e. omega arith),
+        ne-eqb (cells .j) 0 (λ e. omega arith),
+        ne-eqb (cells .k) 0 (λ e. omega arith),
+        le-ltb (cells .k) (cells .k) (omega arith),
+      )
 
   -- the step of the walker at the cell p, and the step after a given one
   abbrev stepAt : ℕ → OctetStep
@@ -304,21 +312,22 @@ above (suc m) h = omega arith
 -- where one axis has one point there is no cell, and the walk is done at once (rule W7)
 module _ (n : Vec3i) (vs : List Float) (passed : valuesRefused n (length vs) ≡ false) (no-cell : pointsOf (vec3i (n .i - 1) (n .j - 1) (n .k - 1)) ≡ 0) where
   done-at-once : octetStep n (length vs) (vec3i 0 0 0) ≡ octet.Done (vec3i 0 0 0)
-  unfolding octetStep
-  done-at-once = simp (passed) (one (eqb (n .i - 1) 0) (eqb (n .j - 1) 0) (ltb 0 (n .k - 1)) refl refl refl)
+  unfolding octetStep noCells
+  done-at-once = simp (passed) (one (eqb (n .i - 1) 0) (eqb (n .j - 1) 0) (eqb (n .k - 1) 0) refl refl refl)
     where
-      one : (x y z : Bool) → eqb (n .i - 1) 0 ≡ x → eqb (n .j - 1) 0 ≡ y → ltb 0 (n .k - 1) ≡ z
-          → cond (x || y || not z) (octet.Done (vec3i 0 0 0))
+      one : (x y z : Bool) → eqb (n .i - 1) 0 ≡ x → eqb (n .j - 1) 0 ≡ y → eqb (n .k - 1) 0 ≡ z
+          → cond (x || y || z || not (ltb 0 (n .k - 1))) (octet.Done (vec3i 0 0 0))
           (cond (not (ltb 0 (n .i - 1)) || not (ltb 0 (n .j - 1))) (octet.Refused 10)
           (octet.Cell (nextIndices (vec3i 0 0 0) (n .i - 1) (n .j - 1))))
           ≡ octet.Done (vec3i 0 0 0)
       one true y z ex ey ez = refl
       one false true z ex ey ez = refl
-      one false false false ex ey ez = refl
-      one false false true ex ey ez =
+      one false false true ex ey ez = refl
+      one false false false ex ey ez =
           let x-above : 0 < n .i - 1 = above (n .i - 1) (eqb-false (n .i - 1) 0 ex) in
           let y-above : 0 < n .j - 1 = above (n .j - 1) (eqb-false (n .j - 1) 0 ey) in
-          let some : 0 < pointsOf (vec3i (n .i - 1) (n .j - 1) (n .k - 1)) = mul-pos (mul-pos x-above y-above) (ltb-true 0 (n .k - 1) ez) in
+          let z-above : 0 < n .k - 1 = above (n .k - 1) (eqb-false (n .k - 1) 0 ez) in
+          let some : 0 < pointsOf (vec3i (n .i - 1) (n .j - 1) (n .k - 1)) = mul-pos (mul-pos x-above y-above) z-above in
           absurd (omega arith)
 
   stays-first : (p : ℕ) → octetCell n vs p ≡ vec3i 0 0 0

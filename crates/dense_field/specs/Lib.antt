@@ -11,5 +11,4 @@ pub mod Walks
 pub mod Cells
 pub mod Walker
 pub mod Traces
-pub mod Runs
 pub mod Inner

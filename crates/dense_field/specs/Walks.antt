@@ -57,10 +57,14 @@ cellStep b n c =
     cell.Refused
     (cond (ltb (c .k) (n .k)) (cell.Cell (walkCell b n c) (nextIndices c (n .i) (n .j))) (cell.Done c))
 
+-- whether there is no cell: none along an axis (rule W7)
+unfoldable pub noCells : Vec3i → Bool
+noCells cells = eqb (cells .i) 0 || eqb (cells .j) 0 || eqb (cells .k) 0
+
 -- 9; done without any cell or with k past the last; 10 where only i or j is; else the next cell (rules W6 and W7)
 unfoldable pub octetStep : Vec3i → (len : ℕ) → Vec3i → OctetStep
 octetStep n len c =
     let cells = vec3i (n .i - 1) (n .j - 1) (n .k - 1) in
     cond (valuesRefused n len) (octet.Refused 9)
-    (cond (eqb (cells .i) 0 || eqb (cells .j) 0 || not (ltb (c .k) (cells .k))) (octet.Done c)
+    (cond (noCells cells || not (ltb (c .k) (cells .k))) (octet.Done c)
     (cond (not (ltb (c .i) (cells .i)) || not (ltb (c .j) (cells .j))) (octet.Refused 10) (octet.Cell (nextIndices c (cells .i) (cells .j)))))

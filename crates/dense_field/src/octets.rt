@@ -6,7 +6,7 @@ ghost use lib.Ieee.{binary64, add, mul};
 ghost use Rattle.dense_field.specs.Inner.Lent.{Lent};
 ghost use Rattle.dense_field.specs.Octets.{cellInside, cornerIndex, cornersOf, octetOf};
 ghost use Rattle.dense_field.specs.Cells.{cornersCause, cellCornersOf, octetCause, cellValuesOf, octetWalkOf};
-ghost use Rattle.dense_field.specs.Walks.{octetStep};
+ghost use Rattle.dense_field.specs.Walks.{noCells, octetStep};
 use crate::CellCorners;
 use crate::CellValues;
 use crate::OctetStep;
@@ -160,6 +160,19 @@ pub fn cell_values(n: Vec3i, values: &[f64], c: Vec3i) -> CellValues
     }
 }
 
+// Whether a field has no cell.
+fn no_cells(cells: Vec3i) -> bool
+    ensures { λ r. ⌜ r ≡ noCells cells ⌝ }
+{
+    if cells.i == 0 {
+        return true;
+    }
+    if cells.j == 0 {
+        return true;
+    }
+    cells.k == 0
+}
+
 // What the walk over octets finds at its cursor.
 fn walk_step(n: Vec3i, len: usize, c: Vec3i) -> OctetStep
     ensures { λ r. ⌜ r ≡ octetStep n len c ⌝ }
@@ -168,10 +181,7 @@ fn walk_step(n: Vec3i, len: usize, c: Vec3i) -> OctetStep
         return OctetStep::Refused(9);
     }
     let cells = Vec3i::new(n.i - 1, n.j - 1, n.k - 1);
-    if cells.i == 0 {
-        return OctetStep::Done(c);
-    }
-    if cells.j == 0 {
+    if no_cells(cells) {
         return OctetStep::Done(c);
     }
     if c.k >= cells.k {

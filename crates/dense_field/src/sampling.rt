@@ -13,7 +13,7 @@ ghost use Rattle.model.specs.Flat.{flatIn};
 ghost use Rattle.model.specs.Part.{partIn};
 ghost use Rattle.dense_field.specs.Field.{pointsOf};
 ghost use Rattle.dense_field.specs.Inner.Lent.{Lent, Run};
-ghost use Rattle.dense_field.specs.Runs.{sampleCause, sampleOutcome};
+ghost use Rattle.dense_field.specs.Sampling.{sampleCause, sampleOutcome};
 ghost use Rattle.dense_field.specs.Inner.Runs.{axisPoint, RunPoints, flatAt};
 ghost use Rattle.dense_field.specs.Sampling.{sampled};
 use crate::Outcome;

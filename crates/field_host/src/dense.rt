@@ -12,7 +12,7 @@ ghost use Rattle.dense_field.specs.declared.Outcome.the-variants as outcome;
 ghost use Rattle.dense_field.specs.Field.{valuesRefused};
 ghost use Rattle.dense_field.specs.Outcomes.{outcomeOf};
 ghost use Rattle.dense_field.specs.Points.{pointCountOf};
-ghost use Rattle.dense_field.specs.Runs.{sampleCause, sampleOutcome};
+ghost use Rattle.dense_field.specs.Sampling.{sampleCause, sampleOutcome};
 ghost use Rattle.dense_field.specs.Sampling.{sampled};
 ghost use Rattle.dense_field.specs.Padding.{padded};
 ghost use Rattle.dense_field.specs.Threshold.{thresholded};

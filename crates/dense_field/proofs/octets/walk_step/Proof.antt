@@ -2,12 +2,13 @@
 use mathlib.Core.Path.{_≡_, sym, ap, _∙_}
 use native.Mathlib.Omega.{arith}
 use borrow.Author.Needs.{needs}
-use borrow.Author.Tests.{lt-ltb, le-ltb, eq-eqb, ne-eqb}
+use borrow.Author.Tests.{lt-ltb, le-ltb}
 use mathlib.Core.Bool.{false, or-true}
 use Prim.Native.Nat.{_-_, _≤_, _<_}
+use Rattle.geometry.specs.Values.{vec3i}
 use Rattle.geometry.specs.Index.{nextIndices}
 use Rattle.dense_field.specs.Field.{valuesRefused}
-use Rattle.dense_field.specs.Walks.{octetStep}
+use Rattle.dense_field.specs.Walks.{noCells, octetStep}
 use Rattle.dense_field.specs.declared.OctetStep.the-variants.{Cell}
 use Rattle.dense_field.proofs.Lending.{lent}
 use Rattle.dense_field.proofs.octets.walk_step.Statement.{statement}
@@ -49,73 +50,64 @@ sub-new-3 c =
 new-requires : tie.Need-new-requires
 new-requires c κs = search needs
 
+no-cells-requires : tie.Need-no-cells-requires
+no-cells-requires c κs = search needs
+
+-- the numbers of cells
+cells : (p : tie.After-new) → let n = start p .args .n in p .new .result ≡ vec3i (n .i - 1) (n .j - 1) (n .k - 1)
+cells p = p .new .ensures
+
+-- whether there are none
+none : (q : tie.After-no-cells) → let n = start (q .before) .args .n in q .no-cells .result ≡ noCells (vec3i (n .i - 1) (n .j - 1) (n .k - 1))
+none q = q .no-cells .ensures ∙ ap noCells (cells (q .before))
+
 returns-2 : tie.Need-returns-2
 unfolding octetStep
 returns-2 c =
-    let p = c .before .before in
-    let e = p .new .ensures in
-    let t = eq-eqb _ _ (sym (ap (λ v. v .i) e) ∙ c .if2 .taken) in
-    simp (fine p, t)
+    let q = c .before in
+    simp (fine (q .before), sym (none q) ∙ c .if2 .taken)
 
 returns-3 : tie.Need-returns-3
 unfolding octetStep
 returns-3 c =
-    let p = c .before .before .before .before in
-    let e = p .new .ensures in
-    let t = eq-eqb _ _ (sym (ap (λ v. v .j) e) ∙ c .if3 .taken) in
-    simp (fine p, t, or-true)
+    let p = c .before .before .before .before .before in
+    let a = start p .args in
+    let t : a .n .k - 1 ≤ a .c .k = omega (arith, ap (λ v. v .k) (cells p)) in
+    simp (fine p, le-ltb _ _ t, or-true)
 
 returns-4 : tie.Need-returns-4
 unfolding octetStep
 returns-4 c =
-    let p = c .before .before .before .before .before .before .before in
-    let e = p .new .ensures in
-    let a = start p .args in
-    let t : a .n .k - 1 ≤ a .c .k = omega (arith, ap (λ v. v .k) e) in
-    simp (fine p, le-ltb _ _ t, or-true)
+    let q = c .before .before .before .before .before .before .before in
+    let e = cells (q .before) in
+    let a = start (q .before) .args in
+    let k : a .c .k < a .n .k - 1 = omega (arith, ap (λ v. v .k) e) in
+    let t : a .n .i - 1 ≤ a .c .i = omega (arith, ap (λ v. v .i) e) in
+    simp (fine (q .before), sym (none q) ∙ c .before .before .before .before .before .before .if2 .left, lt-ltb _ _ k, le-ltb _ _ t)
 
 returns-5 : tie.Need-returns-5
 unfolding octetStep
 returns-5 c =
-    let p = c .before .before .before .before .before .before .before .before .before .before in
-    let e = p .new .ensures in
-    let a = start p .args in
-    let i = ne-eqb _ _ (λ z. c .before .before .before .before .before .before .before .before .if2 .left (ap (λ v. v .i) e ∙ z)) in
-    let j = ne-eqb _ _ (λ z. c .before .before .before .before .before .before .if3 .left (ap (λ v. v .j) e ∙ z)) in
-    let k : a .c .k < a .n .k - 1 = omega (arith, ap (λ v. v .k) e) in
-    let t : a .n .i - 1 ≤ a .c .i = omega (arith, ap (λ v. v .i) e) in
-    simp (fine p, i, j, lt-ltb _ _ k, le-ltb _ _ t)
-
-returns-6 : tie.Need-returns-6
-unfolding octetStep
-returns-6 c =
-    let p = c .before .before .before .before .before .before .before .before .before .before .before .before .before in
-    let e = p .new .ensures in
-    let a = start p .args in
-    let i = ne-eqb _ _ (λ z. c .before .before .before .before .before .before .before .before .before .before .before .if2 .left (ap (λ v. v .i) e ∙ z)) in
-    let j = ne-eqb _ _ (λ z. c .before .before .before .before .before .before .before .before .before .if3 .left (ap (λ v. v .j) e ∙ z)) in
+    let q = c .before .before .before .before .before .before .before .before .before .before in
+    let e = cells (q .before) in
+    let a = start (q .before) .args in
     let k : a .c .k < a .n .k - 1 = omega (arith, ap (λ v. v .k) e) in
     let t : a .n .j - 1 ≤ a .c .j = omega (arith, ap (λ v. v .j) e) in
-    simp (fine p, i, j, lt-ltb _ _ k, le-ltb _ _ t, or-true)
+    simp (fine (q .before), sym (none q) ∙ c .before .before .before .before .before .before .before .before .before .if2 .left, lt-ltb _ _ k, le-ltb _ _ t, or-true)
 
 next-indices-requires : tie.Need-next-indices-requires
 next-indices-requires c κs = search needs
 
-returns-7 : tie.Need-returns-7
+returns-6 : tie.Need-returns-6
 unfolding octetStep
-returns-7 c =
-    let p = c .before .before .before .before .before .before .before .before .before .before .before .before .before .before in
-    let e = p .new .ensures in
-    let a = start p .args in
-    let i =
-    ne-eqb _ _
-    (λ z. c .before .before .before .before .before .before .before .before .before .before .before .before .if2 .left
-    (ap (λ v. v .i) e ∙ z)) in
-    let j = ne-eqb _ _ (λ z. c .before .before .before .before .before .before .before .before .before .before .if3 .left (ap (λ v. v .j) e ∙ z)) in
+returns-6 c =
+    let q = c .before .before .before .before .before .before .before .before .before .before .before in
+    let e = cells (q .before) in
+    let a = start (q .before) .args in
     let k : a .c .k < a .n .k - 1 = omega (arith, ap (λ v. v .k) e) in
     let ci : a .c .i < a .n .i - 1 = omega (arith, ap (λ v. v .i) e) in
     let cj : a .c .j < a .n .j - 1 = omega (arith, ap (λ v. v .j) e) in
-    simp (fine p, i, j, lt-ltb _ _ k, lt-ltb _ _ ci, lt-ltb _ _ cj)
+    simp (fine (q .before), sym (none q) ∙ c .before .before .before .before .before .before .before .before .before .before .if2 .left, lt-ltb _ _ k, lt-ltb _ _ ci, lt-ltb _ _ cj)
     (ap Cell (c .next-indices .ensures ∙ ap (λ v. nextIndices (a .c) (v .i) (v .j)) e))
 
 pub walk-step-spec : {M : Type 1} → statement M
@@ -128,10 +120,10 @@ walk-step-spec =
     sub-new-2
     sub-new-3
     new-requires
+    no-cells-requires
     returns-2
     returns-3
     returns-4
     returns-5
-    returns-6
     next-indices-requires
-    returns-7)
+    returns-6)

@@ -2,7 +2,7 @@
 use mathlib.Core.Path.{sym, _∙_}
 use borrow.Author.Needs.{needs}
 use Rattle.geometry.specs.Causes.{firstOf}
-use Rattle.dense_field.specs.Runs.{sampleCause}
+use Rattle.dense_field.specs.Sampling.{sampleCause}
 use Rattle.dense_field.proofs.sampling.sample_cause.Statement.{statement}
 use Rattle.dense_field.proofs.sampling.sample_cause.Tie as tie
 

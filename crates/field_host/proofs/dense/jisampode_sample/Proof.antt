@@ -11,7 +11,7 @@ use lib.ListN.{length}
 use Rattle.geometry.specs.Values.{vec3, vec3i}
 use Rattle.model.specs.Part.{partIn}
 use Rattle.model.specs.declared.ImplicitModel.{ImplicitModel}
-use Rattle.dense_field.specs.Runs.{sampleCause, sampleOutcome}
+use Rattle.dense_field.specs.Sampling.{sampleCause, sampleOutcome}
 use Rattle.dense_field.specs.Sampling.{sampled}
 use Rattle.field_host.specs.Answers.{outcomeNumber}
 use Rattle.field_host.proofs.dense.jisampode_sample.Statement.{statement}
