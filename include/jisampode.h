@@ -4,7 +4,8 @@
  * Link libjisampode.a, which `make` writes to target/staticlib/; `make install
  * PREFIX=..` installs it with this header, a shared object and a file for
  * pkg-config. It is compiled for x86-64 Linux. It needs memcpy and memset, and
- * nothing else: no heap, no threads, no files.
+ * nothing else: no heap, no threads, no files. A thread that makes these calls
+ * needs JISAMPODE_STACK bytes of stack, and JISAMPODE_LISTING_STACK for listings.
  *
  * WHAT EVERY CALL KEEPS TO
  *
@@ -37,6 +38,15 @@
 #ifdef __cplusplus
 extern "C" {
 #endif
+
+/* ---- the stack -------------------------------------------------------- */
+
+/* Enough for a thread that makes any call but jisampode_list_job, and for one that
+   makes that call too, the thread's own needs among it. Both are tested. */
+enum {
+    JISAMPODE_STACK = 81920,
+    JISAMPODE_LISTING_STACK = 131072
+};
 
 /* ---- the version ------------------------------------------------------ */
 
@@ -493,8 +503,9 @@ uint32_t jisampode_octet_step(size_t nx, size_t ny, size_t nz,
 enum { JISAMPODE_LISTING_BYTES = 88176 };
 
 /*
- * Reads a job's text, runs the job on memory of its own (40 KB of stack), and
- * writes its listing at the front of the lent bytes, with 0 after it. written[0]
+ * Reads a job's text, runs the job on memory of its own, on the stack
+ * (JISAMPODE_LISTING_STACK), and writes its listing at the front of the lent bytes,
+ * with 0 after it. written[0]
  * is its length. A job that is refused has a listing too: `(refused N)`, or
  * `(refused 12 LINE)` for a text off its form. Refused by 6 where the bytes are
  * too few.

@@ -31,6 +31,10 @@ pub const EMPTY: u8 = 0;
 pub const ACTIVE: u8 = 1;
 pub const LEAF: u8 = 2;
 
+/// Bytes of stack that a thread needs: for any call but a listing's, and for all.
+pub const STACK: usize = 81_920;
+pub const LISTING_STACK: usize = 131_072;
+
 /// The version of include/jisampode.h that these declarations follow.
 pub const VERSION: u32 = 100;
 

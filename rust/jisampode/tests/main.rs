@@ -11,5 +11,6 @@ mod owning;
 mod progress;
 mod refusals;
 mod sizes;
+mod stack;
 mod walks;
 mod wiping;
