@@ -8,7 +8,7 @@ use native.Mathlib.Nat.{mul-le-mul-left, mul-le-mul-right}
 use native.Mathlib.Numerals.{add-one}
 use native.Mathlib.Omega.{arith}
 use lib.ListN.{set, getD, length, take, drop, length-set, length-drop}
-use lib.Seq.{length-take-le}
+use lib.Seq.{length-take-le, getD-set-other}
 use lib.Ieee.{Float}
 use Rattle.float.specs.Zero.{plusZero}
 use Rattle.geometry.specs.declared.BoundingBox.{BoundingBox}
@@ -88,6 +88,23 @@ evaluated-length test value (suc r) i l = evaluated-length test value r (suc i) 
     one : (b : Bool) → length (cond b (set l i (value i)) l) ≡ length l
     one true = length-set l i (value i)
     one false = refl
+
+-- corners past those that a run goes over are as they were
+evaluated-past : (test : ℕ → Bool) (value : ℕ → Float) (r i : ℕ) (l : List Float) (j : ℕ) → i + r ≤ j
+    → getD (evaluatedFrom test value r i l) j plusZero ≡ getD l j plusZero
+unfolding evaluatedFrom
+evaluated-past test value zero i l j behind = refl
+evaluated-past test value (suc r) i l j behind = evaluated-past test value r (suc i) _ j (omega arith) ∙ one (test i)
+  where
+    one : (b : Bool) → getD (cond b (set l i (value i)) l) j plusZero ≡ getD l j plusZero
+    one true = getD-set-other l i j (value i) plusZero (λ (same : j ≡ i). omega arith)
+    one false = refl
+
+run-past : {test : ℕ → Bool} {value : ℕ → Float} {total i b next left : ℕ} {before after : List Float}
+    → CornerRun test value total i b next left before after → (j : ℕ) → total ≤ j → getD after j plusZero ≡ getD before j plusZero
+run-past {test} {value} {total} {i} {b} {next} {left} {before} run j behind =
+    ap (λ l. getD l j plusZero) (run .written)
+    ∙ evaluated-past test value (next - i) i before j (omega (arith, run .from, run .within))
 
 module _ (P : Plan) (v i b leaves next left : ℕ) (m : Memory) (after : List Float) (lent : Lent P m)
     (run : CornerRun (P .needed v) (P .cornerValue v) (P .corners) i b next left (m .corners) after) where
@@ -202,6 +219,10 @@ module _ (g : Grid) (decide : BoundingBox → List Float → Verdict) (value : F
   planned =
       let size : v * n + n - v * n ≡ cube (g .inner) = omega (arith, cubed) in
       plan-corners g decide value (m .kinds) (ready .lent .activeKinds) (ready .lent .kinds) v (ready .node) (ap (λ k. v * k) cubed) size boxed run
+
+  -- the corners past the node's are as they were
+  pub node-past : (j : ℕ) → P .corners ≤ j → getD after j plusZero ≡ getD (m .corners) j plusZero
+  node-past = run-past planned
 
   -- the code's corners stop before one that is needed
   pub node-at-corner : next < cube (g .inner + 1)

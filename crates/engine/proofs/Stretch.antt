@@ -1,11 +1,11 @@
--- A stretch of a list that is lent, filled in part, and put back.
+-- A stretch of a list that is lent, filled in part, and put back; and the front of a list, set to what the rest is.
 use Prim.Native.Nat.{ℕ, zero, suc, _+_, _-_, _≤_}
-use mathlib.Core.Path.{_≡_, sym, ap, _∙_}
+use mathlib.Core.Path.{_≡_, refl, sym, ap, ap₂, _∙_}
 use mathlib.Core.List.{List, [], _∷_, _++_}
 use native.Mathlib.Nat.{zero-add, suc-add}
 use native.Mathlib.Omega.{arith}
-use lib.ListN.{length, take, drop, set, length-drop}
-use lib.Seq.{set-append-left, length-take-le}
+use lib.ListN.{length, getD, take, drop, set, replicate, length-drop, replicate-append-replicate}
+use lib.Seq.{set-append-left, length-take-le, getD-drop}
 use borrow.Rule.Slice.PartMut.{putMid, midOf, postOf, put-same}
 use Rattle.lists.specs.Filled.{filled}
 use Rattle.lists.proofs.Filling.{filled-length}
@@ -16,7 +16,7 @@ module _ {A : Type 0} where
   set-append-right (x ∷ xs) ys j v = rw suc-add (ap (λ l. x ∷ l) (set-append-right xs ys j v))
 
   -- what is filled in the k elements from a on is filled in the whole
-  pub put-filled : (a k p r : ℕ) (g : ℕ → A) (xs : List A) → a + k ≤ length xs → p + r ≤ k
+  put-filled : (a k p r : ℕ) (g : ℕ → A) (xs : List A) → a + k ≤ length xs → p + r ≤ k
       → putMid a k xs (filled p r g (midOf a k xs)) ≡ filled (a + p) r (λ q. g (q - a)) xs
   unfolding filled
   put-filled a k p zero g xs long within = put-same a k xs
@@ -33,13 +33,22 @@ module _ {A : Type 0} where
       ∙ ap (λ q. set (putMid a k xs lower) (a + p + r) (g q)) (sym back)
       ∙ ap (λ l. set l (a + p + r) (g (a + p + r - a))) (put-filled a k p r g xs long (omega arith))
 
-  -- the same for a stretch that goes to the end of the list
-  pub stretch-filled : (o p r : ℕ) (g : ℕ → A) (xs : List A) {ys : List A} → o ≤ length xs → p + r ≤ length xs - o
-      → ys ≡ filled p r g (midOf o (length xs - o) xs)
-      → putMid o (length xs - o) xs ys ≡ filled (o + p) r (λ q. g (q - o)) xs
-  stretch-filled o p r g xs within fits same =
-      ap (putMid o (length xs - o) xs) same ∙ put-filled o (length xs - o) p r g xs (omega arith) fits
+  pub stretch-filled : (a k p r : ℕ) (g : ℕ → A) (xs : List A) {ys : List A} → a + k ≤ length xs → p + r ≤ k → ys ≡ filled p r g (midOf a k xs)
+      → putMid a k xs ys ≡ filled (a + p) r (λ q. g (q - a)) xs
+  stretch-filled a k p r g xs long within same = ap (putMid a k xs) same ∙ put-filled a k p r g xs long within
 
-  -- its length
-  pub stretch-long : (o : ℕ) (xs : List A) → length (midOf o (length xs - o) xs) ≡ length xs - o
-  stretch-long o xs = length-take-le (length xs - o) (drop o xs) (omega (arith, length-drop o xs))
+  -- a list that reads as one value everywhere
+  all-one : (v : A) (xs : List A) → ((i : ℕ) → getD xs i v ≡ v) → xs ≡ replicate (length xs) v
+  all-one v [] same = refl
+  all-one v (x ∷ xs) same = ap₂ _∷_ (same 0) (all-one v xs (λ i. same (suc i)))
+
+  -- a list that reads as one value from a place on is set to it up to there
+  pub put-cleared : (used : ℕ) (v : A) (xs : List A) {front : List A} → used ≤ length xs → ((i : ℕ) → used ≤ i → getD xs i v ≡ v)
+      → front ≡ replicate (length (take used xs)) v → front ++ drop used xs ≡ replicate (length xs) v
+  put-cleared used v xs {front} within same set =
+      let back : drop used xs ≡ replicate (length (drop used xs)) v =
+      all-one v (drop used xs) (λ i. getD-drop used xs i v ∙ same (used + i) (omega arith)) in
+      let whole : length (take used xs) + length (drop used xs) ≡ length xs = omega (arith, length-take-le used xs within, length-drop used xs) in
+      ap₂ _++_ set back
+      ∙ replicate-append-replicate (length (take used xs)) (length (drop used xs)) v
+      ∙ ap (λ n. replicate n v) whole

@@ -45,6 +45,7 @@ pub fn fill_leaf(
         (now (store .entry)) ⌝ }
 {
     let points = grid::cube_of(l as usize);
+    let from = ordinal * points;
     rows::fill_points(
         words,
         reals,
@@ -54,7 +55,7 @@ pub fn fill_leaf(
         p,
         budget,
         scratch,
-        &mut store[ordinal * points..],
+        &mut store[from..from + points],
     )
 }
 

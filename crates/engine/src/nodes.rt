@@ -1,12 +1,15 @@
 // A job's work from a cursor on, while the budget lasts: the corners or points at the cursor, then the
 // node's children, then the next node.
+ghost use mathlib.Core.Path.{_≡_};
 ghost use mathlib.Core.List.{[], List};
 ghost use Prim.Native.Nat.{ℕ, _≤_};
+ghost use lib.ListN.{length, replicate};
 ghost use lib.Ieee.{Float};
+ghost use Rattle.float.specs.Zero.{plusZero};
 ghost use Rattle.schedule.specs.Resume.{eventsFrom};
 ghost use Rattle.schedule.specs.Totals.{activeAll};
 ghost use Rattle.schedule.specs.Lent.{memoryOf, held, entered, left};
-ghost use Rattle.engine.specs.Inner.Progress.{planIn, planNow, Sized, Advanced, readingIn};
+ghost use Rattle.engine.specs.Inner.Progress.{planIn, planNow, Sized, Advanced, ZeroFrom, readingIn};
 ghost use Rattle.engine.specs.Inner.Turns.{Standable, Evaluable, TurnMade};
 use crate::LeafVisit;
 use crate::Progress;
@@ -116,7 +119,16 @@ fn evaluate_from(
     }
 }
 
-// What is left from where a job stands. A node's corners are cleared past its last child.
+// Clears the corners up to `used`, where the others are +0 already: then all are.
+fn clear_corners(used: usize, corners: &mut [f64])
+    requires { ⌜ (used ≤ length (now corners)) × ZeroFrom used (now corners) ⌝ }
+    ensures { λ _. ⌜ now (corners .exit) ≡ replicate (length (now (corners .entry))) plusZero ⌝ }
+{
+    slices::zero_floats(&mut corners[..used]);
+}
+
+// What is left from where a job stands. A node's corners are cleared past its last child: at first all
+// that are lent, which may hold anything, and then those that a node has.
 pub fn run_from(
     task: Task,
     standing: Standing,
@@ -137,6 +149,8 @@ pub fn run_from(
         (activeAll (planIn task words reals)) ⌝ }
 {
     let nodes = grid::node_total(task.grid);
+    let own = grid::cube_of((task.grid.inner as usize) + 1);
+    let mut used = corners.len();
     let mut at = standing;
     loop {
         let turn = evaluate_from(task, at, words, reals, scratch, kinds, store, corners);
@@ -159,7 +173,8 @@ pub fn run_from(
                 if let Stop::At(_) = stop {
                     return done;
                 }
-                slices::zero_floats(corners);
+                clear_corners(used, corners);
+                used = own;
                 let node = visit.node + 1;
                 if node == nodes {
                     return done;

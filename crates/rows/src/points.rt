@@ -83,7 +83,7 @@ pub fn fill_points(
     scratch: &mut [f64; 4096],
     stretch: &mut [f64],
 ) -> usize
-    requires { ⌜ (0 < l) × (l ≤ 64) × (p ≤ cube l) × (cube l ≤ length (now stretch)) × (parts ≤ 64) ⌝ }
+    requires { ⌜ (0 < l) × (l ≤ 64) × (p ≤ cube l) × (cube l ≡ length (now stretch)) × (parts ≤ 64) ⌝ }
     ensures answer { λ r. ⌜ r ≡ p + min budget (cube l - p) ⌝ }
     ensures stretch { λ _. ⌜ now (stretch .exit)
         ≡ filled p (min budget (cube l - p)) (λ q. at (valueIn words reals parts) (leafPoint b l q)) (now (stretch .entry)) ⌝ }

@@ -102,6 +102,10 @@ ChildrenAdvanced P v c c′ b leaves m m′ r =
 abbrev pub ZeroCorners : Memory → Type 0
 ZeroCorners m = (i : ℕ) → readingIn m i ≡ plusZero
 
+-- every corner from a place on holds +0
+abbrev pub ZeroFrom : ℕ → List Float → Type 0
+ZeroFrom used corners = (i : ℕ) → used ≤ i → getD corners i plusZero ≡ plusZero
+
 -- the rest of node v, of which `from` is left
 pub record NodeAdvanced (P : Plan) (v b leaves : ℕ) (m m′ : Memory) (from : List Event) (r : Progress) : Type 0 where
   pub advanced : Advanced P b leaves m m′ from (nodesLeft P (suc v)) r (activeBefore P (suc v) 0)

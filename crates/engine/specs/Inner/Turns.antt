@@ -54,3 +54,5 @@ Came g P at m m′ (Children w) = Begun g P at m m′ w
 
 pub record TurnMade (g : Grid) (P : Plan) (at : Standing) (m m′ : Memory) (r : Turn) : Type 0 where
   pub came : Came g P at m m′ r
+  -- the corners past a node's are as they were
+  pub past : (i : ℕ) → P .corners ≤ i → readingIn m′ i ≡ readingIn m i

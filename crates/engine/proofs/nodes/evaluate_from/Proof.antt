@@ -1,6 +1,6 @@
 -- `nodes::evaluate_from` meets its contract: by the cursor, a node's corners or a leaf's points stop, or the children follow.
 use Prim.Native.Nat.{ℕ, suc, _+_, _-_, _*_, _≤_}
-use mathlib.Core.Path.{ap, _∙_}
+use mathlib.Core.Path.{refl, ap, _∙_}
 use native.Mathlib.Omega.{arith}
 use lib.ListN.{length}
 use lib.Ieee.{Float}
@@ -21,7 +21,7 @@ use Rattle.rows.specs.Inner.FlatValue.{flatValue}
 use Rattle.engine.specs.Inner.Progress.{Ready, Advanced, readingIn}
 use Rattle.engine.specs.Inner.Turns.{Standable}
 use Rattle.engine.proofs.Turns.{advanced-stopped}
-use Rattle.engine.proofs.NodeLaws.{node-few, part-long, node-at-corner, node-past-corners, leaves-inside, node-points, node-past-points}
+use Rattle.engine.proofs.NodeLaws.{node-few, part-long, node-past, node-at-corner, node-past-corners, leaves-inside, node-points, node-past-points}
 use Rattle.engine.proofs.NodeLaws.{known-start, at-cursor, begun-at, at-end}
 use borrow.Author.Needs.{needs}
 use Rattle.engine.proofs.nodes.evaluate_from.Statement.{statement}
@@ -204,6 +204,8 @@ returns c =
           (node-at-corner (s .args .task .grid) (decide s) (value s) (node k) _ (s .args .at .left) (s .args .at .leaves)
           (memory s numbers places) (ready k ok) (p .cube-of .result) (p .cube-of .ensures) (p .before .node-box .ensures) (q .run-corners .ensures)
           (omega (arith, r .cube-of2 .ensures, c .if1 .taken)));
+      past = node-past (s .args .task .grid) (decide s) (value s) (node k) _ (s .args .at .left) (s .args .at .leaves)
+          (memory s numbers places) (ready k ok) (p .cube-of .result) (p .cube-of .ensures) (p .before .node-box .ensures) (q .run-corners .ensures);
     }
 
 enum-known-cursor-2 : tie.Need-enum-known-cursor-2
@@ -246,6 +248,7 @@ returns-2 c =
     record {
       came = at-cursor (plan s) (s .args .at) (k .cursor2 .given .1)
           (advanced-stopped (plan s) (c .enum-told2 .given .0 .0) (points t ok) (c .enum-told2 .given .1));
+      past = λ i behind. refl;
     }
 
 enum-told-3 : tie.Need-enum-told-3
@@ -266,6 +269,7 @@ returns-3 c =
     record {
       came = at-cursor (plan s) (s .args .at) (c .enum-told .given .1)
           (at-end (plan s) (s .args .at .left) (s .args .at .leaves) (memory s numbers places) (ok .lent) (ok .few));
+      past = λ i behind. refl;
     }
 
 same-length-3 : tie.Need-same-length-3
@@ -284,6 +288,8 @@ returns-4 c =
           (node-past-corners (s .args .task .grid) (decide s) (value s) (node k) _ (s .args .at .left) (s .args .at .leaves)
           (memory s numbers places) (ready k ok) (p .cube-of .result) (p .cube-of .ensures) (p .before .node-box .ensures) (q .run-corners .ensures) (laws s)
           (omega (arith, r .cube-of2 .ensures, c .if1 .left)));
+      past = node-past (s .args .task .grid) (decide s) (value s) (node k) _ (s .args .at .left) (s .args .at .leaves)
+          (memory s numbers places) (ready k ok) (p .cube-of .result) (p .cube-of .ensures) (p .before .node-box .ensures) (q .run-corners .ensures);
     }
 
 same-length-4 : tie.Need-same-length-4
@@ -301,6 +307,7 @@ returns-5 c =
       came = begun-at (plan s) (s .args .at) (k .cursor2 .given .1) (s .args .task .grid)
           (node-past-points (s .args .task .grid) (decide s) (value s) (node2 k) (child2 k) _ (s .args .at .left) (s .args .at .leaves)
           (memory s numbers places) (ready2 k ok) (here .1) (t .before .before .before .before .node-box2 .ensures) (points t ok) (c .enum-told3 .given .1));
+      past = λ i behind. refl;
     }
 
 pub evaluate-from-spec : {M : Type 1} → statement M

@@ -1,9 +1,11 @@
--- `nodes::run_from` meets its contract: from where the job stands now the same is left as from where it stood, and each turn comes to a later node.
-use Prim.Native.Nat.{suc, _+_, _-_, _<_}
-use mathlib.Core.Path.{_≡_, refl, _∙_}
+-- `nodes::run_from` meets its contract: from where the job stands now the same is left as from where it stood, each turn comes to a later node, and
+-- the corners that a clearing leaves out are +0.
+use Prim.Native.Nat.{suc, _+_, _-_, _≤_, _<_}
+use mathlib.Core.Path.{_≡_, refl, sym, ap, _∙_}
 use native.Mathlib.Numerals.{add-one}
 use native.Mathlib.Omega.{arith}
-use lib.ListN.{length}
+use lib.ListN.{length, List·getD-eq-default}
+use Rattle.float.specs.Zero.{plusZero}
 use Rattle.grid.specs.Nodes.{nodesOf}
 use Rattle.schedule.specs.Plan.{Plan}
 use Rattle.schedule.specs.Memory.{Memory}
@@ -14,17 +16,17 @@ use Rattle.plans.specs.Plan.{planWith}
 use Rattle.schedule.proofs.Sums.{before-most}
 use Rattle.engine.specs.declared.Stop.the-variants.{Through}
 use Rattle.engine.specs.Inner.Startable.{Startable}
-use Rattle.engine.specs.Inner.Progress.{progress, Advanced, NodeAdvanced, readingIn}
+use Rattle.engine.specs.Inner.Progress.{progress, Advanced, NodeAdvanced, ZeroCorners, ZeroFrom, readingIn}
 use Rattle.engine.specs.Inner.Progress as progresses
 use Rattle.engine.specs.Inner.Turns.{Standable, TurnMade, Begun, nodeOf}
-use Rattle.engine.proofs.Turns.{advanced-start, advanced-then, advanced-stopped, turn-clear}
+use Rattle.engine.proofs.Turns.{came-through, advanced-start, advanced-then, advanced-stopped, turn-clear}
 use Rattle.engine.proofs.NodeLaws.{nodes-few, advanced-most, nodes-end, node-next, turn-stopped, turn-begun}
 use borrow.Author.Needs.{needs}
 use Rattle.engine.proofs.nodes.run_from.Statement.{statement}
 use Rattle.engine.proofs.nodes.run_from.Tie as tie
 
 abbrev Inv-loop : tie.InvT-loop
-Inv-loop task words reals _ kinds₀ numbers₀ places₀ store₀ corners₀ nodes at₀ _ kinds numbers places store corners at =
+Inv-loop task words reals _ kinds₀ numbers₀ places₀ store₀ corners₀ nodes own _ at₀ _ kinds numbers places store corners used at =
     let P = progresses.plan task words reals in
     let m₀ = memoryOf kinds₀ numbers₀ places₀ store₀ corners₀ in
     let m = memoryOf kinds numbers places store corners in
@@ -34,14 +36,15 @@ Inv-loop task words reals _ kinds₀ numbers₀ places₀ store₀ corners₀ no
     × Startable P (at .cursor) (at .leaves)
     × Advanced P (at₀ .left) (at₀ .leaves) m₀ m (eventsFrom P (at₀ .cursor) (readingIn m₀)) (eventsFrom P (at .cursor) (readingIn m))
     (progress (at .leaves) (at .left) Through) (activeAll P)
+    × (own ≡ P .corners) × (P .corners ≤ used) × (used ≤ length corners) × ZeroFrom used corners
 
 abbrev μ-loop : tie.MeasureT-loop
-μ-loop task words reals _ _ _ _ _ _ _ _ _ _ _ _ _ _ at = let P = progresses.plan task words reals in P .nodes - nodeOf P (at .cursor)
+μ-loop task words reals _ _ _ _ _ _ _ _ _ _ _ _ _ _ _ _ _ at = let P = progresses.plan task words reals in P .nodes - nodeOf P (at .cursor)
 
 -- ---- where a turn begins, and where its evaluations have come to
 
 abbrev start : tie.At-loop Inv-loop μ-loop → tie.Start Inv-loop μ-loop
-start l = l .before .before .before .before .before .before .before
+start l = l .before .before .before .before .before .before .before .before .before
 
 abbrev plan : tie.At-loop Inv-loop μ-loop → Plan
 plan l = let a = start l .args in progresses.plan (a .task) (a .words .now) (a .reals .now)
@@ -114,20 +117,20 @@ kept d =
 
 -- ---- where the node's corners are cleared
 
-abbrev ended : tie.After-zero-floats Inv-loop μ-loop → tie.After-slice-known11 Inv-loop μ-loop
+abbrev ended : tie.After-clear-corners Inv-loop μ-loop → tie.After-slice-known11 Inv-loop μ-loop
 ended z = z .before .before .before .before
 
-abbrev cleared : tie.After-zero-floats Inv-loop μ-loop → Memory
-cleared z = let m = decided (ended z) in memoryOf (m .kinds) (m .numbers) (m .places) (m .store) (z .zero-floats .last .0)
+abbrev cleared : tie.After-clear-corners Inv-loop μ-loop → Memory
+cleared z = let m = decided (ended z) in memoryOf (m .kinds) (m .numbers) (m .places) (m .store) (z .clear-corners .last .1 .0)
 
-through : (z : tie.After-zero-floats Inv-loop μ-loop) → let u = ran (ended z) in let k = came u in let w = k .turn2 .given .0 .0 in
+through : (z : tie.After-clear-corners Inv-loop μ-loop) → let u = ran (ended z) in let k = came u in let w = k .turn2 .given .0 .0 in
     NodeAdvanced (plan (looped (turned k))) (w .node) (w .left) (w .leaves) (evaluated (turned k)) (cleared z)
     (childrenLeft (plan (looped (turned k))) (w .node) (w .place) (readingIn (evaluated (turned k)))) (u .run-children .result)
 unfolding planWith
 through z =
     let u = ran (ended z) in
     let w = came u .turn2 .given .0 .0 in
-    turn-clear _ (w .node) (w .left) (w .leaves) (w .place) _ _ _ (u .run-children .ensures) (z .before .before .enum-told2 .given .1) (z .zero-floats .ensures)
+    turn-clear _ (w .node) (w .left) (w .leaves) (w .place) _ _ _ (u .run-children .ensures) (z .before .before .enum-told2 .given .1) (z .clear-corners .ensures)
 
 -- ---- what is left
 
@@ -136,11 +139,35 @@ node-total-requires c κs =
     let s = c .before .before .before .before .before in
     omega (arith, nodes-few (s .args .task .grid) (s .pre .0 .0))
 
+cast-cube-of : tie.Need-cast-cube-of Inv-loop μ-loop
+cast-cube-of c = search needs
+
+add-cube-of : tie.Need-add-cube-of Inv-loop μ-loop
+add-cube-of c = search needs
+
+cube-of-requires : tie.Need-cube-of-requires Inv-loop μ-loop
+cube-of-requires c κs =
+    let s = c .before .before .before .before .before .before .before in
+    omega (arith, s .pre .0 .0 .innerMost)
+
 loop-holds : tie.Need-loop-holds Inv-loop μ-loop
+unfolding planWith
 loop-holds c =
-    let s = c .before .before .before .before .before .before in
-    let ok = s .pre .1 in
-    (c .node-total .ensures, refl, refl, refl, refl, refl, ok .startable, advanced-start _ _ _ _ _ _ (ok .lent) (ok .few))
+    let s = c .before .before .before .before .before .before .before .before in
+    let ok = s .pre .1 in (
+      c .before .before .node-total .ensures,
+      refl,
+      refl,
+      refl,
+      refl,
+      refl,
+      ok .startable,
+      advanced-start _ _ _ _ _ _ (ok .lent) (ok .few),
+      c .cube-of .ensures,
+      ok .lent .corners,
+      omega arith,
+      λ i behind. List·getD-eq-default (s .args .corners .now) plusZero behind,
+    )
 
 evaluate-from-requires : tie.Need-evaluate-from-requires Inv-loop μ-loop
 evaluate-from-requires c κs =
@@ -214,8 +241,13 @@ returns-2 c =
 enum-told-2 : tie.Need-enum-told-2 Inv-loop μ-loop
 enum-told-2 c = search needs
 
-zero-floats-requires : tie.Need-zero-floats-requires Inv-loop μ-loop
-zero-floats-requires c κs = search needs
+clear-corners-requires : tie.Need-clear-corners-requires Inv-loop μ-loop
+clear-corners-requires c κs =
+    let d = c .before .before .before in
+    let t = turned (came (ran d)) in
+    let l = looped t .loop in
+    let long : length (decided d .corners) ≡ length (l .corners) = kept d .4 ∙ sym (l .inv .5) in
+    (omega (arith, l .inv .10), λ i behind. made t .past i (omega (arith, l .inv .9)) ∙ l .inv .11 i behind)
 
 add-node : tie.Need-add-node Inv-loop μ-loop
 unfolding planWith
@@ -262,15 +294,21 @@ loop-again c =
     let same = kept (ended z) in
     let below : w .node + 1 < plan l .nodes = omega (arith, begun k .inside, c .if1 .left, l .loop .inv .0) in
     let next = node-next (plan l) (w .node) (w .node + 1) _ _ (through z) (z .before .before .enum-told2 .given .1) (add-one (w .node)) below in
-    let most = before-most (plan l) (plan l .active) (w .node + 1) 0 below (omega arith) in (
+    let most = before-most (plan l) (plan l .active) (w .node + 1) 0 below (omega arith) in
+    let own = l .loop .inv .8 in
+    let cleared-long = c .before .before .before .corners2 .given ∙ same .4 in (
       l .loop .inv .0,
       same .0,
       same .1,
       same .2,
       same .3,
-      c .before .before .before .corners2 .given ∙ same .4,
+      cleared-long,
       (below, omega arith, next .atMost),
       advanced-then (plan l) (advanced-then (plan l) (l .loop .inv .7) refl (begun k .advanced)) refl (advanced-most (plan l) most next),
+      own,
+      omega (arith, own),
+      omega (arith, own, l .loop .inv .9, l .loop .inv .10, l .loop .inv .5, cleared-long),
+      λ i behind. came-through (ZeroCorners (cleared z)) (through z .cleared) (z .before .before .enum-told2 .given .1) i,
     )
 
 pub run-from-spec : {M : Type 1} → statement M
@@ -280,6 +318,9 @@ run-from-spec =
     Inv-loop
     μ-loop
     node-total-requires
+    cast-cube-of
+    add-cube-of
+    cube-of-requires
     loop-holds
     evaluate-from-requires
     enum-known-turn
@@ -299,7 +340,7 @@ run-from-spec =
     same-length-10
     returns-2
     enum-told-2
-    zero-floats-requires
+    clear-corners-requires
     add-node
     same-length-11
     same-length-12
