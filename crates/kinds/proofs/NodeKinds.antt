@@ -41,7 +41,7 @@ module _ (g : Grid) (v : ℕ) (xs ys zs : List Bool) {s : Float} {nodes at : Vec
     (hx : (c : ℕ) → c < g .inner → tableTest xs c ≡ axisActive (g .bounds .min .x) (g .bounds .max .x) s (g .inner) (at .i) c)
     (hy : (c : ℕ) → c < g .inner → tableTest ys c ≡ axisActive (g .bounds .min .y) (g .bounds .max .y) s (g .inner) (at .j) c)
     (hz : (c : ℕ) → c < g .inner → tableTest zs c ≡ axisActive (g .bounds .min .z) (g .bounds .max .z) s (g .inner) (at .k) c) where
-  pub by-tables : (c : ℕ) → c < cube (g .inner) → nodeTest (g .inner) xs ys zs c ≡ active g v c
+  by-tables : (c : ℕ) → c < cube (g .inner) → nodeTest (g .inner) xs ys zs c ≡ active g v c
   unfolding indicesOf
   by-tables c h =
       let n = g .inner in
@@ -61,13 +61,11 @@ module _ (g : Grid) (v : ℕ) (xs ys zs : List Bool) {s : Float} {nodes at : Vec
       positive zero h = absurd (omega arith)
       positive (suc n) h = omega arith
 
--- tables by which just the active children pass
-module _ (g : Grid) (v : ℕ) (xs ys zs : List Bool) (told : (c : ℕ) → c < cube (g .inner) → nodeTest (g .inner) xs ys zs c ≡ active g v c) where
   pub node-flags : flagsFrom (nodeTest (g .inner) xs ys zs) (cube (g .inner)) 0 ≡ flagsFrom (active g v) (cube (g .inner)) 0
-  node-flags = flags-cong (nodeTest (g .inner) xs ys zs) (active g v) (cube (g .inner)) 0 0 (λ c h. rw (zero-add c) (told c h))
+  node-flags = flags-cong (nodeTest (g .inner) xs ys zs) (active g v) (cube (g .inner)) 0 0 (λ c h. rw (zero-add c) (by-tables c h))
 
   pub node-agrees : (part : List ℕ) → length part ≡ cube (g .inner) → agreesFrom (nodeTest (g .inner) xs ys zs) 0 part ≡ agreesFrom (active g v) 0 part
-  node-agrees part long = agrees-cong (nodeTest (g .inner) xs ys zs) (active g v) 0 0 part (λ c h. rw (zero-add c) (told c (omega arith)))
+  node-agrees part long = agrees-cong (nodeTest (g .inner) xs ys zs) (active g v) 0 0 part (λ c h. rw (zero-add c) (by-tables c (omega arith)))
 
 -- ---- all kinds
 

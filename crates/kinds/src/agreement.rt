@@ -8,7 +8,7 @@ ghost use Rattle.grid.specs.Blocks.{cube};
 ghost use Rattle.grid.specs.Boxes.{active};
 ghost use Rattle.grid.specs.Limits.{refusedByTwo, refusedByFive, childrenOf};
 ghost use Rattle.kinds.specs.Inner.Tables.{tableTest, slabTest, nodeTest, gridTest, activeChild};
-use crate::tables::node_tables;
+use crate::tables::axis_table;
 use grid::Grid;
 
 // Whether no kind is that of an active child.
@@ -86,11 +86,16 @@ fn node_right(g: Grid, v: usize, part: &[u8]) -> bool
     requires { ⌜ (g .inner ≤ 64) × (length (now part) ≡ cube (g .inner)) ⌝ }
     ensures { λ r. ⌜ r ≡ agreesFrom (active g v) 0 (now (part .entry)) ⌝ }
 {
-    let mut xs = [false; 64];
-    let mut ys = [false; 64];
-    let mut zs = [false; 64];
-    node_tables(g, v, &mut xs, &mut ys, &mut zs);
-    slabs_right(g.inner as usize, &xs, &ys, &zs, part)
+    let min = g.bounds.min;
+    let max = g.bounds.max;
+    let n = g.inner;
+    let s = grid::node_size(g.cell, n, g.leaf);
+    let nodes = grid::node_counts(g);
+    let at = geometry::indices(v, nodes.i, nodes.j);
+    let xs = axis_table(min.x, max.x, s, n, at.i);
+    let ys = axis_table(min.y, max.y, s, n, at.j);
+    let zs = axis_table(min.z, max.z, s, n, at.k);
+    slabs_right(n as usize, &xs, &ys, &zs, part)
 }
 
 // Whether those of all nodes are, each in its own part of the slice.

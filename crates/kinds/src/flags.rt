@@ -9,7 +9,7 @@ ghost use Rattle.grid.specs.Blocks.{cube};
 ghost use Rattle.grid.specs.Boxes.{active};
 ghost use Rattle.grid.specs.Limits.{refusedByTwo, refusedByFive, childrenOf};
 ghost use Rattle.kinds.specs.Inner.Tables.{tableTest, slabTest, nodeTest, gridTest, activeChild};
-use crate::tables::node_tables;
+use crate::tables::axis_table;
 use grid::Grid;
 
 // The kind that open gives a child.
@@ -76,11 +76,16 @@ fn set_node(g: Grid, v: usize, part: &mut [u8])
     requires { ⌜ (g .inner ≤ 64) × (length (now part) ≡ cube (g .inner)) ⌝ }
     ensures { λ _. ⌜ now (part .exit) ≡ flagsFrom (active g v) (cube (g .inner)) 0 ⌝ }
 {
-    let mut xs = [false; 64];
-    let mut ys = [false; 64];
-    let mut zs = [false; 64];
-    node_tables(g, v, &mut xs, &mut ys, &mut zs);
-    set_slabs(g.inner as usize, &xs, &ys, &zs, part);
+    let min = g.bounds.min;
+    let max = g.bounds.max;
+    let n = g.inner;
+    let s = grid::node_size(g.cell, n, g.leaf);
+    let nodes = grid::node_counts(g);
+    let at = geometry::indices(v, nodes.i, nodes.j);
+    let xs = axis_table(min.x, max.x, s, n, at.i);
+    let ys = axis_table(min.y, max.y, s, n, at.j);
+    let zs = axis_table(min.z, max.z, s, n, at.k);
+    set_slabs(n as usize, &xs, &ys, &zs, part);
 }
 
 // Sets those of all nodes, each through its own part of the slice.

@@ -17,21 +17,27 @@ Inv-loop least most s n i side table₀ c₀ table c = (c ≤ n) × (length tabl
 abbrev μ-loop : tie.MeasureT-loop
 μ-loop least most s n i side table₀ c₀ table c = n - c
 
+-- src/kinds.rt:49:5
 loop-holds : tie.Need-loop-holds Inv-loop μ-loop
-loop-holds c = (search needs, c .pre .1, below-none _)
+loop-holds c = (search needs, search needs, below-none _)
 
+-- src/kinds.rt:50:20
 axis-active-requires : tie.Need-axis-active-requires Inv-loop μ-loop
 axis-active-requires c κs = search needs
 
-element-write-table : tie.Need-element-write-table Inv-loop μ-loop
-element-write-table c = search needs
+-- src/kinds.rt:50:9
+array-write-table : tie.Need-array-write-table Inv-loop μ-loop
+array-write-table c = search needs
 
+-- src/kinds.rt:51:9
 add-c : tie.Need-add-c Inv-loop μ-loop
 add-c c = search needs
 
+-- src/kinds.rt:49:5
 loop-less : tie.Need-loop-less Inv-loop μ-loop
 loop-less c = search needs
 
+-- src/kinds.rt:49:5
 loop-again : tie.Need-loop-again Inv-loop μ-loop
 loop-again c =
     let b = c .before .before in
@@ -44,6 +50,7 @@ loop-again c =
           (getD-set-same (l .table) (l .c) (c .axis-active .result) false below ∙ c .axis-active .ensures),
     )
 
+-- src/kinds.rt:42:1
 returns : tie.Need-returns Inv-loop μ-loop
 returns c =
     let l = c .before .loop in
@@ -57,7 +64,7 @@ axis-table-spec =
     μ-loop
     loop-holds
     axis-active-requires
-    element-write-table
+    array-write-table
     add-c
     loop-less
     loop-again
