@@ -36,7 +36,7 @@ use Rattle.sparse_field.proofs.CallLaws.{refusedBy, acceptedWith, step-none, st
 use Rattle.field_host.specs.Given.{inputGiven}
 use Rattle.field_host.specs.Carried.{Carried, inputIn, fits, flagged, recordGiven, unread, decoded, encoded}
 use Rattle.field_host.specs.Hosted.{answerNumber, leftBy, carriedAfter, hosted}
-use Rattle.field_host.specs.Demand.{NoJob, HostDemandThree, HostDropLeavesZeros, HostEqualBudgets, HostFinishedField, HostLeavesNumbered}
+use Rattle.field_host.specs.Demand.{NoJob, recordAfter, HostDemandThree, HostDropLeavesZeros, HostEqualBudgets, HostFinishedField, HostLeavesNumbered}
 use Rattle.field_host.specs.HostLists.{HostCall, opensWith, stepsBy, dropsAll, callOf, Station, answerOf, onStation, engineAt}
 use Rattle.field_host.proofs.RecordBack.{record-back}
 use Rattle.field_host.proofs.Unread.{no-flag}
@@ -164,7 +164,7 @@ host-equal-elements cs₁ cs₂ s₁ s₂ none₁ none₂ lengths i₁ i₂ n pl
 pub host-finished-field : HostFinishedField
 host-finished-field cs s none opened ends = (
   implements-finished sparse HostCall Station callOf engineAt onStation host-implemented sparse-laws s (no-flag (s .carried) none) long-enough cs opened ends,
-  own-corners _,
+  own-corners (recordAfter cs s .job .input),
 )
 
 pub host-leaves-numbered : HostLeavesNumbered

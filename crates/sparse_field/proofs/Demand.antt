@@ -1,4 +1,6 @@
 -- DEMAND 3: the ledger theorem of the schedule, for the inputs of sparse fields. specs/Demand has the statements.
+use Rattle.schedule.specs.Calls.{run}
+use Rattle.schedule.specs.Engine.{engineCall}
 use Rattle.schedule.proofs.LedgerTheorem.{ledger-theorem}
 use Rattle.schedule.proofs.AfterDrop.{drop-zeros}
 use Rattle.schedule.proofs.Budgets.{equal-budgets}
@@ -18,7 +20,10 @@ pub equal-elements : EqualBudgets
 equal-elements = equal-budgets sparse sparse-laws
 
 pub finished-field : FinishedField
-finished-field cs e none opened ends = (finished-job sparse sparse-laws long-enough cs e none opened ends, own-corners _)
+finished-field cs e none opened ends = (
+  finished-job sparse sparse-laws long-enough cs e none opened ends,
+  own-corners (run (engineCall sparse) cs e .last .jobRecord .job .input),
+)
 
 pub leaves-numbered : LeavesNumbered
 leaves-numbered = numbered-job sparse sparse-laws long-enough constant-not-leaf
