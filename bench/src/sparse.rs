@@ -26,6 +26,9 @@ const NONE: [f64; 2] = [1e6, 2e6];
 /// All that a job has left.
 const ALL: u64 = u64::MAX;
 
+/// The corners of a node of 64×64×64, the most that a node has.
+const CORNERS: usize = 65 * 65 * 65;
+
 /// How many steps of budget 1 are measured together.
 const STEPS: usize = 100;
 
@@ -134,6 +137,7 @@ fn cube(n: u32) -> String {
 pub fn rows() {
     opens();
     small_jobs();
+    much_lent();
     large_jobs();
 }
 
@@ -165,6 +169,19 @@ fn small_jobs() {
             compare(&name, &mut ours, &parts);
         }
     }
+}
+
+/// A job of 1,000 small nodes that is lent as many corners as the largest nodes
+/// have.
+fn much_lent() {
+    let [(model, parts), ..] = sampled();
+    let name = format!(
+        "job of {model}, leaves of {}, in memory for the largest job",
+        cube(2)
+    );
+    let mut ours = Ours::new(grid([10; 3], 2, 2, EVERY), &parts, vec![ALL]);
+    ours.lent.corners = vec![0.0; CORNERS];
+    compare(&name, &mut ours, &parts);
 }
 
 fn large_jobs() {
