@@ -1,7 +1,7 @@
 // What the numbers of a case stand for, and the numbers of an answer.
 ghost use Prim.Native.Nat.{_+_, _<_, _≤_};
 ghost use lib.ListN.{length};
-use dense_field::Outcome;
+use dense_field::Applied;
 use geometry::Vec3;
 use geometry::Vec3i;
 
@@ -104,15 +104,15 @@ pub fn put_eight(answers: &mut [u64; 160], at: usize, values: [f64; 8])
 }
 
 // The number that an outcome stands for.
-pub fn outcome(done: Outcome) -> u64 {
+pub fn outcome(done: Applied) -> u64 {
     match done {
-        Outcome::Done => 0,
-        Outcome::Refused(n) => cause(n),
+        Applied::Done => 0,
+        Applied::Refused(n) => cause(n),
     }
 }
 
 // Puts the number of an outcome, and so many values after it.
-pub fn put_outcome(done: Outcome, values: &[f64], len: usize, answers: &mut [u64; 160]) -> usize
+pub fn put_outcome(done: Applied, values: &[f64], len: usize, answers: &mut [u64; 160]) -> usize
     requires { ⌜ len ≤ 150 ⌝ }
     ensures { λ r. ⌜ (0 < r) × (r ≤ 160) ⌝ }
 {

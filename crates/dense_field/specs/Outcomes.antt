@@ -4,9 +4,9 @@ use mathlib.Core.List.{[], _∷_}
 use Rattle.geometry.specs.declared.Vec3i.{Vec3i}
 use Rattle.geometry.specs.Causes.{cause, firstOf}
 use Rattle.dense_field.specs.Field.{valuesRefused}
-use Rattle.dense_field.specs.declared.Outcome.{Outcome}
-use Rattle.dense_field.specs.declared.Outcome.the-variants as outcome
+use Rattle.dense_field.specs.declared.Applied.{Applied}
+use Rattle.dense_field.specs.declared.Applied.the-variants as outcome
 
 -- 9, else done (rule D12)
-unfoldable pub outcomeOf : Vec3i → (len : ℕ) → Outcome
+unfoldable pub outcomeOf : Vec3i → (len : ℕ) → Applied
 outcomeOf n len = firstOf (cause (valuesRefused n len) 9 ∷ []) outcome.Refused outcome.Done

@@ -15,8 +15,8 @@ use Rattle.model.specs.declared.ImplicitModel.{ImplicitModel}
 use Rattle.model.specs.declared.Part.{Part}
 use Rattle.dense_field.specs.Points.{fieldPoint}
 use Rattle.dense_field.specs.Field.{valuesRefused, pointsOf}
-use Rattle.dense_field.specs.declared.Outcome.{Outcome}
-use Rattle.dense_field.specs.declared.Outcome.the-variants as outcome
+use Rattle.dense_field.specs.declared.Applied.{Applied}
+use Rattle.dense_field.specs.declared.Applied.the-variants as outcome
 
 -- the value of a model's first `count` parts at a point
 abbrev pub valueAt : List Part → ℕ → Vec3 → Float
@@ -36,5 +36,5 @@ sampleCause m origin cell n len =
     0
 
 -- the answer of that number (rule D5)
-unfoldable pub sampleOutcome : ℕ → Outcome
+unfoldable pub sampleOutcome : ℕ → Applied
 sampleOutcome number = cond (eqb number 0) outcome.Done (outcome.Refused number)

@@ -34,7 +34,7 @@ pub enum PointCount {
 }
 
 // What a call on lent values answers: that it was done, or the cause of its refusal.
-pub enum Outcome {
+pub enum Applied {
     Done,
     Refused(u32),
 }

@@ -9,7 +9,7 @@ ghost use Rattle.dense_field.specs.Field.{valuesRefused};
 ghost use Rattle.dense_field.specs.Inner.Lent.{Lent};
 ghost use Rattle.dense_field.specs.Outcomes.{outcomeOf};
 ghost use Rattle.dense_field.specs.Padding.{paddedAt, padded};
-use crate::Outcome;
+use crate::Applied;
 use crate::counts;
 use geometry::Vec3i;
 
@@ -69,14 +69,14 @@ fn pad_slabs(n: Vec3i, value: f64, values: &mut [f64])
 
 // Sets every point on the outside to a value (rule D6). No other point is written. A refusal changes
 // nothing.
-pub fn padding(n: Vec3i, value: f64, values: &mut [f64]) -> Outcome
+pub fn padding(n: Vec3i, value: f64, values: &mut [f64]) -> Applied
     ensures answer { λ r. ⌜ r ≡ outcomeOf n (length (now (values .entry))) ⌝ }
     ensures values { λ _. ⌜ now (values .exit)
         ≡ cond (valuesRefused n (length (now (values .entry)))) (now (values .entry)) (padded n value (now (values .entry))) ⌝ }
 {
     if counts::values_refused(n, values.len()) {
-        return Outcome::Refused(9);
+        return Applied::Refused(9);
     }
     pad_slabs(n, value, values);
-    Outcome::Done
+    Applied::Done
 }

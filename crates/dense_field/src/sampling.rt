@@ -16,7 +16,7 @@ ghost use Rattle.dense_field.specs.Inner.Lent.{Lent, Run};
 ghost use Rattle.dense_field.specs.Sampling.{sampleCause, sampleOutcome};
 ghost use Rattle.dense_field.specs.Inner.Runs.{axisPoint, RunPoints, flatAt};
 ghost use Rattle.dense_field.specs.Sampling.{sampled};
-use crate::Outcome;
+use crate::Applied;
 use crate::counts;
 use geometry::Vec3;
 use geometry::Vec3i;
@@ -161,7 +161,7 @@ pub fn sample(
     cell: f64,
     n: Vec3i,
     values: &mut [f64],
-) -> Outcome
+) -> Applied
     ensures answer { λ r. ⌜ r ≡ sampleOutcome (sampleCause model origin cell n (length (now (values .entry)))) ⌝ }
     ensures values { λ _. ⌜ now (values .exit)
         ≡ cond (eqb (sampleCause model origin cell n (length (now (values .entry)))) 0)
@@ -169,12 +169,12 @@ pub fn sample(
 {
     let cause = sample_cause(model, origin, cell, n, values.len());
     if cause != 0 {
-        return Outcome::Refused(cause);
+        return Applied::Refused(cause);
     }
     let mut words = [0u32; 192];
     let mut numbers = [0.0; 256];
     model::lay_out(model, &mut words, &mut numbers);
     let count = model.count as usize;
     sample_places(&words, &numbers, count, origin, cell, n, values);
-    Outcome::Done
+    Applied::Done
 }

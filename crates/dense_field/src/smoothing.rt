@@ -9,7 +9,7 @@ ghost use Rattle.float.specs.Zero.{plusZero};
 ghost use Rattle.dense_field.specs.Inner.Lent.{Lent, Between};
 ghost use Rattle.dense_field.specs.Inner.Offsets.{offsetSum, offsetBlend};
 ghost use Rattle.dense_field.specs.Smoothing.{smoothRefused, valueOf, smoothedAt, smoothedOnce, smoothed};
-use crate::Outcome;
+use crate::Applied;
 use geometry::Vec3i;
 
 // Copies `count` values from `at` on.
@@ -149,8 +149,8 @@ pub fn smooth(
     rounds: u32,
     values: &mut [f64],
     scratch: &mut [f64],
-) -> Outcome
-    ensures answer { λ r. ⌜ r ≡ cond (smoothRefused n (length (now (values .entry))) (length (now (scratch .entry)))) (Outcome.Refused 9) Outcome.Done ⌝ }
+) -> Applied
+    ensures answer { λ r. ⌜ r ≡ cond (smoothRefused n (length (now (values .entry))) (length (now (scratch .entry)))) (Applied.Refused 9) Applied.Done ⌝ }
     ensures values { λ _. ⌜ now (values .exit)
         ≡ cond (smoothRefused n (length (now (values .entry))) (length (now (scratch .entry)))) (now (values .entry))
         (smoothed n factor rounds (now (values .entry))) ⌝ }
@@ -159,10 +159,10 @@ pub fn smooth(
         (replicate (length (now (scratch .entry))) plusZero) ⌝ }
 {
     if smooth_refused(n, values.len(), scratch.len()) {
-        return Outcome::Refused(9);
+        return Applied::Refused(9);
     }
     let count = values.len();
     smooth_rounds(n, factor, rounds, values, &mut scratch[..count]);
     slices::zero_floats(scratch);
-    Outcome::Done
+    Applied::Done
 }

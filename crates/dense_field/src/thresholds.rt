@@ -6,7 +6,7 @@ ghost use lib.ListN.{length};
 ghost use Rattle.dense_field.specs.Field.{valuesRefused};
 ghost use Rattle.dense_field.specs.Outcomes.{outcomeOf};
 ghost use Rattle.dense_field.specs.Threshold.{cut, thresholded};
-use crate::Outcome;
+use crate::Applied;
 use crate::counts;
 use geometry::Vec3i;
 
@@ -34,14 +34,14 @@ fn cut_all(limit: f64, values: &mut [f64])
 }
 
 // Sets every value whose size is below the limit to +0. A refusal changes nothing.
-pub fn threshold(n: Vec3i, limit: f64, values: &mut [f64]) -> Outcome
+pub fn threshold(n: Vec3i, limit: f64, values: &mut [f64]) -> Applied
     ensures answer { λ r. ⌜ r ≡ outcomeOf n (length (now (values .entry))) ⌝ }
     ensures values { λ _. ⌜ now (values .exit)
         ≡ cond (valuesRefused n (length (now (values .entry)))) (now (values .entry)) (thresholded limit (now (values .entry))) ⌝ }
 {
     if counts::values_refused(n, values.len()) {
-        return Outcome::Refused(9);
+        return Applied::Refused(9);
     }
     cut_all(limit, values);
-    Outcome::Done
+    Applied::Done
 }

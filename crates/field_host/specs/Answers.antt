@@ -6,8 +6,8 @@ use lib.Ieee.{Float}
 use Rattle.geometry.specs.declared.Vec3.{Vec3}
 use Rattle.geometry.specs.declared.Vec3i.{Vec3i}
 use Rattle.geometry.specs.declared.BoundingBox.{BoundingBox}
-use Rattle.dense_field.specs.declared.Outcome.{Outcome}
-use Rattle.dense_field.specs.declared.Outcome.the-variants as outcome
+use Rattle.dense_field.specs.declared.Applied.{Applied}
+use Rattle.dense_field.specs.declared.Applied.the-variants as outcome
 use Rattle.dense_field.specs.declared.PointCount.{PointCount}
 use Rattle.dense_field.specs.declared.PointCount.the-variants as count
 use Rattle.dense_field.specs.declared.PointStep.{PointStep}
@@ -32,7 +32,7 @@ abbrev pub indexList : Vec3i → List ℕ
 indexList c = c .i ∷ c .j ∷ c .k ∷ []
 
 -- what a call on lent values answers
-unfoldable pub outcomeNumber : Outcome → ℕ
+unfoldable pub outcomeNumber : Applied → ℕ
 outcomeNumber outcome.Done = 0
 outcomeNumber (outcome.Refused number) = number
 

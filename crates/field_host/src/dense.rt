@@ -8,7 +8,7 @@ ghost use Rattle.float.specs.Zero.{plusZero};
 ghost use Rattle.geometry.specs.Values.{vec3, vec3i};
 ghost use Rattle.model.specs.Flat.{flatIn};
 ghost use Rattle.model.specs.Part.{partIn};
-ghost use Rattle.dense_field.specs.declared.Outcome.the-variants as outcome;
+ghost use Rattle.dense_field.specs.declared.Applied.the-variants as outcome;
 ghost use Rattle.dense_field.specs.Field.{valuesRefused};
 ghost use Rattle.dense_field.specs.Outcomes.{outcomeOf};
 ghost use Rattle.dense_field.specs.Points.{pointCountOf};
@@ -21,17 +21,17 @@ ghost use Rattle.field_host.specs.Answers.{outcomeNumber, countNumber, c
 ghost use Rattle.field_host.specs.Given.{boxIn, modelGiven};
 use crate::given::box_in;
 use crate::given::model_given;
-use dense_field::Outcome;
+use dense_field::Applied;
 use dense_field::PointCount;
 use geometry::Vec3;
 use geometry::Vec3i;
 
-fn number(outcome: Outcome) -> u32
+fn number(outcome: Applied) -> u32
     ensures { λ r. ⌜ r ≡ outcomeNumber outcome ⌝ }
 {
     match outcome {
-        Outcome::Done => 0,
-        Outcome::Refused(cause) => cause,
+        Applied::Done => 0,
+        Applied::Refused(cause) => cause,
     }
 }
 

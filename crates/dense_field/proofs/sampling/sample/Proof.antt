@@ -4,7 +4,7 @@ use borrow.Author.Needs.{needs}
 use lib.Dec.{eqb}
 use borrow.Author.Tests.{ne-eqb}
 use Rattle.dense_field.specs.Sampling.{sampleOutcome}
-use Rattle.dense_field.specs.declared.Outcome.the-variants.{Refused}
+use Rattle.dense_field.specs.declared.Applied.the-variants.{Refused}
 use Rattle.dense_field.proofs.Lending.{lent}
 use Rattle.dense_field.proofs.SampleLaws.{passed, flat-sampled}
 use Rattle.dense_field.proofs.sampling.sample.Statement.{statement}
