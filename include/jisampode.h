@@ -179,8 +179,10 @@ enum {
  *
  * No record has a words[0] above 1, words[1], words[2] or words[3] of more than 32
  * bits, or a words[14] above 2: jisampode_counts and jisampode_cursor return 8 for
- * these, and jisampode_step does. An accepted step writes the record anew: parts
- * past the model's count, and what a part does not use, are 0 afterwards.
+ * these, and jisampode_step does. An accepted open or step writes the record anew.
+ * Parts past the model's count go along in it. What a part does not use is 0
+ * afterwards, and a part past the count with a code above 7 has become
+ * JISAMPODE_NEG of the input 4294967295.
  */
 typedef struct jisampode_record {
     uint64_t words[JISAMPODE_WORDS];
