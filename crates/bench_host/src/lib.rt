@@ -1,4 +1,6 @@
 // What the benchmark calls beyond the C interface: each function is one call, exported under a C name.
+#![tactic(auto)]
+
 ghost use Rattle.std.specs.Prelude.{◌≡◌, map, ◌++◌, min, drop};
 ghost use Rattle.root.specs.Root.{square_root};
 ghost use Rattle.model.specs.Model.{values_to, model_value};

@@ -1,4 +1,6 @@
 // What the numbers of a stored case stand for: floats by their bits, points, boxes, grids and models.
+#![tactic(auto)]
+
 mod parts; // parts.rt: parts of a model, five numbers each
 mod values; // values.rt: numbers of several widths, floats, points, boxes and grids
 

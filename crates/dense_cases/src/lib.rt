@@ -1,5 +1,7 @@
 // The stored cases about a dense field's points, indices, cells and walks; and what all cases of the field
 // share: what their numbers stand for, and those of an answer.
+#![tactic(auto)]
+
 mod cell; // cell.rt: one cell
 mod counts; // counts.rt: the points of a field
 mod index; // index.rt: the index of a grid point

@@ -1,6 +1,8 @@
 // The dense field and the walks over its points, cells and octets, after dense_field.rs and
 // field_iterator.rs. A field is its origin, its cell's size, its numbers of points along the axes,
 // and a lent slice of values.
+#![tactic(auto)]
+
 use geometry::{BoundingBox, Vec3, Vec3i};
 
 mod counts; // counts.rt: how many points a field has

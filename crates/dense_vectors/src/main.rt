@@ -1,5 +1,7 @@
 // Makes the calls on a dense field that standard input holds, one to a line, and writes the answers.
 // The check compares them with the stored ones.
+#![tactic(auto)]
+
 ghost use Rattle.std.specs.Prelude.{◌+◌, ◌<◌, ◌≤◌, length};
 
 mod sampling; // sampling.rt: a model, sampled

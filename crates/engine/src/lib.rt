@@ -1,5 +1,7 @@
 // A job's work, from a cursor on while a budget lasts: a node's corners, then its children, each decided,
 // and a leaf's points; then the next node. The memory is the five slices that the job is lent.
+#![tactic(auto)]
+
 use geometry::BoundingBox;
 use grid::Grid;
 use input::Band;

@@ -1,5 +1,7 @@
 // The engine as a station's programmer meets it: C functions on numbers, arrays and lent slices. The
 // header include/jisampode.h describes them.
+#![tactic(auto)]
+
 mod calls; // calls.rt: open, step and drop
 mod corners; // corners.rt: a node's needed corners
 mod dense; // dense.rt: the dense field's calls

@@ -2,6 +2,8 @@
 // refusal, to standard output. A text that cannot be read to its end has no listing, since what was
 // read could be the text of another job. That, and a listing that cannot be written, is told by one
 // line on standard error.
+#![tactic(auto)]
+
 ghost use Rattle.io.specs.Counts.{IsPrefixLen};
 
 use libc::{STDIN_FILENO, STDOUT_FILENO};

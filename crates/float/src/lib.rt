@@ -1,5 +1,7 @@
 // What the field engine needs of floats beyond their operators. Every public function takes any
 // value and has a result for it.
+#![tactic(auto)]
+
 mod class; // class.rt: which kind of value a float is
 mod order; // order.rt: the order of two floats, and one of the two as it is
 mod pattern; // pattern.rt: a float's bit pattern

@@ -1,5 +1,7 @@
 // Runs the stored cases of sqrt, floor, ceil, min and max that standard input holds, a line each,
 // and reports how many give something else than stored.
+#![tactic(auto)]
+
 ghost use Rattle.std.specs.Prelude.{◌≡◌};
 ghost use Rattle.float_vectors.specs.Case.{operation_of, verdict_of};
 ghost use Rattle.float_vectors.specs.Tally.{cases_after, wrong_after};

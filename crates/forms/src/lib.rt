@@ -1,5 +1,7 @@
 // Lines of text by their form: bytes, among which the letter H stands for a float's bits and D for a
 // decimal number.
+#![tactic(auto)]
+
 mod digits; // digits.rt: a digit and its byte
 mod reading; // reading.rt: what a text has at a place
 mod writing; // writing.rt: bytes put into a lent slice

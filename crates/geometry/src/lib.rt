@@ -1,4 +1,6 @@
 // Points, boxes and grid indices by value, after vec3f.rs, vec3i.rs, bounding_box.rs and math_helper.rs.
+#![tactic(auto)]
+
 mod axes; // axes.rt: steps along an axis
 mod boxes; // boxes.rt: sizes of boxes, and which boxes meet
 mod places; // places.rt: indices of a grid, and places in a flat list

@@ -1,5 +1,7 @@
 // The grid of a sparse field, after sparse_field.rs: its nodes and their children, where they lie,
 // which are active, which corners they need, and when a child is pruned.
+#![tactic(auto)]
+
 use geometry::BoundingBox;
 
 mod activity; // activity.rt: how many children are active

@@ -1,5 +1,7 @@
 // The stored cases about a grid's nodes and children, its points, and pruning; and what all cases of the
 // grid share: their words, numbers and bits.
+#![tactic(auto)]
+
 ghost use Rattle.std.specs.Prelude.{◌≤◌};
 
 mod case; // case.rt: what a case's numbers stand for, and those of an answer

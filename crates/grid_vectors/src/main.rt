@@ -1,4 +1,6 @@
 // Answers the stored cases of the grid that standard input holds: a line each, and a line for each.
+#![tactic(auto)]
+
 ghost use Rattle.std.specs.Prelude.{◌<◌, ◌≤◌};
 
 mod corners; // corners.rt: the corner list

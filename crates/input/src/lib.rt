@@ -1,5 +1,7 @@
 // What a job is made from: a grid, a band and a model; the lengths of the slices that it is lent, and
 // the causes by which open refuses it.
+#![tactic(auto)]
+
 use grid::Grid;
 use model::ImplicitModel;
 

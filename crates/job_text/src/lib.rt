@@ -1,4 +1,6 @@
 // The text of a job, read into an input with the bits of its constants.
+#![tactic(auto)]
+
 use forms::End;
 use input::Input;
 use model::Part;

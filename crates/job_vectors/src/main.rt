@@ -1,6 +1,8 @@
 // Lists the jobs that standard input holds: of each the length of its text, 16 digits and byte 10, then
 // the text. The answer is what `fieldlist` prints for it, and an empty line. For each text a line is
 // written: the digest of its answer. Where the first line is `full` the answers are written instead.
+#![tactic(auto)]
+
 ghost use Rattle.std.specs.Prelude.{◌≤◌, length};
 
 use vectors::Hex;

@@ -1,4 +1,6 @@
 // The listing of a finished job, written over lent bytes; and what `fieldlist` prints for a job's text.
+#![tactic(auto)]
+
 use schedule::Counts;
 
 mod lines; // lines.rt: one line of a listing

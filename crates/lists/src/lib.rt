@@ -1,2 +1,3 @@
 // What several crates say about lists and tests: definitions in specs/, laws in proofs/. There is no
 // code here.
+#![tactic(auto)]

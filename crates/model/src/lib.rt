@@ -1,5 +1,7 @@
 // A model: parts in a list, each a shape or an operation on parts before it, after computation_graph.rs and
 // model_component.rs.
+#![tactic(auto)]
+
 use geometry::Vec3;
 
 mod codes; // codes.rt: the code of each sort of part

@@ -1,5 +1,7 @@
 // Evaluates the stored models that standard input holds, at a point, laid out, and in a row of points, and reports how
 // many give something else than stored.
+#![tactic(auto)]
+
 ghost use Rattle.std.specs.Prelude.{◌≡◌};
 ghost use Rattle.model_vectors.specs.Tally.{case_after, cases_after, compared_value, counted, refusal_right, value_wrong, wrong_after, wrong_if};
 

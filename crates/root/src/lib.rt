@@ -1,5 +1,7 @@
 // The square root of an f64, correctly rounded, worked out from bits: an estimate by float
 // arithmetic, a trial of it that is exact where it has no objections, and a search for the others.
+#![tactic(auto)]
+
 ghost use Rattle.std.specs.Prelude.{◌≡◌, map};
 ghost use Rattle.root.specs.Root.{square_root};
 

@@ -1,6 +1,8 @@
 // The schedule of a job as a list of events, the ledger, and their laws, over any plan: see
 // specs/Lib.antt and proofs/Lib.antt. The code has the words that the definitions share with calls:
 // what a record counts, where a job stands, the record itself, and how a call is answered.
+#![tactic(auto)]
+
 use grid::GridCounts;
 use input::{Input, Lengths};
 

@@ -1,4 +1,6 @@
 // Lent slices of bytes, words and floats, set and copied: the loops that do nothing else.
+#![tactic(auto)]
+
 mod stretches; // stretches.rt: a stretch of a slice set to one value, or copied from another slice
 mod zeros; // zeros.rt: whole slices set to zero
 

@@ -1,5 +1,7 @@
 // What a list of calls on a sparse field's job holds: the record and the next input as numbers, the
 // elements of the five slices, and the answers.
+#![tactic(auto)]
+
 mod answers; // answers.rt: the answers of a list, as a digest or whole
 mod elements; // elements.rt: the five slices, poisoned, set and answered
 mod held; // held.rt: what a list holds beside the slices, as numbers

@@ -5,6 +5,8 @@
 // constant, 2 where it is a leaf), `numbers` holds a constant's value, and `places` a leaf's ordinal. The
 // `store` holds the leaves' points, `leaf`³ for each ordinal, and `corners` the values at the corners of
 // the node in work. Every element that is not in use is 0.
+#![tactic(auto)]
+
 use schedule::{Answer, Record};
 
 mod calls; // calls.rt: open, step and drop

@@ -1,6 +1,8 @@
 // Runs the lists of calls on a sparse field's job that standard input holds, a line each. The answers of a
 // list are what each call hands back and what the lent slices then hold. For each list a line is written:
 // their digest. Where the first line is `full` the answers are written instead.
+#![tactic(auto)]
+
 mod calls; // calls.rt: open, step and drop
 
 // What a line does with the elements of the slices, slice after slice.

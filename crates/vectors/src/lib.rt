@@ -1,5 +1,7 @@
 // Reading a list of stored cases: words, numbers of 16 lowercase hexadecimal digits, and decimal numbers.
 // Writing the answers, or their digests.
+#![tactic(auto)]
+
 mod digest; // digest.rt: the digest of a text
 mod digits; // digits.rt: bytes, and what they count as digits
 mod fields; // fields.rt: a line's numbers, read and written
