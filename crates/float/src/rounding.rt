@@ -16,8 +16,8 @@ pub fn from_count(n: u64) -> f64
 
 // The floor of a size a below 2^52.
 fn floor_size(a: f64) -> f64
-    requires fact_1 { negative a ≡ false }
-    requires fact_2 { T (lt a (fin false 1 (pos 52))) }
+    requires plus { negative a ≡ false }
+    requires small { T (lt a (fin false 1 (pos 52))) }
     ensures { result ≡ floor_of a }
 {
     from_count(std::num::truncating_f64_to_u64(a))
@@ -25,8 +25,8 @@ fn floor_size(a: f64) -> f64
 
 // The ceiling of a size a below 2^52.
 fn ceil_size(a: f64) -> f64
-    requires fact_1 { negative a ≡ false }
-    requires fact_2 { T (lt a (fin false 1 (pos 52))) }
+    requires plus { negative a ≡ false }
+    requires small { T (lt a (fin false 1 (pos 52))) }
     ensures { result ≡ ceil_of a }
 {
     let n = std::num::truncating_f64_to_u64(a);

@@ -1,0 +1,15 @@
+-- `zeros::zero_words` meets its contract: at each turn the first i elements are zero.
+use Prim.Native.Nat.{◌-◌}
+use borrow.Author.Rules.{rules}
+use lib.ListN.{length}
+use Rattle.slices.proofs.Passed.{Passed, none_passed, next_same, all_same}
+use Rattle.slices.proofs.zeros.zero_words.Goals as goal
+
+pub loop-i-init : goal.loop-i-init
+loop-i-init c = none_passed _ _ _ _
+
+pub loop-i-preserved : goal.loop-i-preserved
+loop-i-preserved c = next_same _ _ c.loop-i.invariant (search rules)
+
+pub returns : goal.returns
+returns c = all_same _ _ c.loop-i.invariant (search rules)
