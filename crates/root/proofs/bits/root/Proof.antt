@@ -12,41 +12,41 @@ use Rattle.root.proofs.bits.root.Statement.{statement}
 use Rattle.root.proofs.bits.root.Tie as tie
 
 own_bits : (c : tie.Start) → c.args.x ≡ of_bits binary64 (to_bits binary64 c.args.x)
-own_bits c = sym (of_bits-to_bits binary64 c.args.x (subst T (sym c.well-formed.0.1) tt))
+own_bits c = sym (of_bits-to_bits binary64 c.args.x (subst T (sym c.well_formed.0.1) tt))
+
+returns-then-x : tie.Need-returns-then-x
+returns-then-x c = zero_by_zero ∙ sym (ap square_root (only_nan _ c.if-x.true) ∙ root_of_nan)
+
+float_to_bits-pattern : tie.Need-float_to_bits-pattern
+float_to_bits-pattern c = number_self _ c.if-x.false
+
+other_root-requires : tie.Need-other_root-requires
+other_root-requires c κs = (own_bits c.before.before, inl c.if-pattern-lt4503599627370496.true)
+
+returns-then-pattern-lt4503599627370496 : tie.Need-returns-then-pattern-lt4503599627370496
+returns-then-pattern-lt4503599627370496 c = search rules
+
+other_root-requires-then-pattern-ge9218868437227405312 : tie.Need-other_root-requires-then-pattern-ge9218868437227405312
+other_root-requires-then-pattern-ge9218868437227405312 c κs = (own_bits c.before.before.before, inr c.if-pattern-ge9218868437227405312.true)
+
+returns-then-pattern-ge9218868437227405312 : tie.Need-returns-then-pattern-ge9218868437227405312
+returns-then-pattern-ge9218868437227405312 c = search rules
+
+normal_root-requires : tie.Need-normal_root-requires
+normal_root-requires c κs = search rules
 
 returns : tie.Need-returns
-returns c = zero_by_zero ∙ sym (ap square_root (only_nan _ c.if1.true) ∙ root_of_nan)
-
-float-to-bits-pattern : tie.Need-float-to-bits-pattern
-float-to-bits-pattern c = number_self _ c.if1.false
-
-other-root-requires : tie.Need-other-root-requires
-other-root-requires c κs = (own_bits c.before.before, inl c.if2.true)
-
-returns-2 : tie.Need-returns-2
-returns-2 c = search rules
-
-other-root-requires-2 : tie.Need-other-root-requires-2
-other-root-requires-2 c κs = (own_bits c.before.before.before, inr c.if3.true)
-
-returns-3 : tie.Need-returns-3
-returns-3 c = search rules
-
-normal-root-requires : tie.Need-normal-root-requires
-normal-root-requires c κs = search rules
-
-returns-4 : tie.Need-returns-4
-returns-4 c = c.normal_root.ensures ∙ ap square_root (sym (own_bits c.before.before.before.before))
+returns c = c.normal_root.ensures ∙ ap square_root (sym (own_bits c.before.before.before.before))
 
 pub root_spec : {M : Type 1} → statement M
 root_spec =
     tie.close
     (tie.spec
-    returns
-    float-to-bits-pattern
-    other-root-requires
-    returns-2
-    other-root-requires-2
-    returns-3
-    normal-root-requires
-    returns-4)
+    returns-then-x
+    float_to_bits-pattern
+    other_root-requires
+    returns-then-pattern-lt4503599627370496
+    other_root-requires-then-pattern-ge9218868437227405312
+    returns-then-pattern-ge9218868437227405312
+    normal_root-requires
+    returns)

@@ -1,0 +1,15 @@
+-- `try_all` meets its contract: the elements so far have been tried.
+use mathlib.Core.Path.{◌≡◌, subst}
+use Prim.Native.Nat.{ℕ, ◌≤◌, ◌-◌}
+use native.Mathlib.Omega.{arith}
+use lib.ListN.{length}
+use Rattle.root.specs.Inner.Trials.{AllTried}
+use Rattle.root.proofs.RowLaws.{tried_none, tried_next}
+use borrow.Author.Rules.{rules}
+use Rattle.root.proofs.row.try_all.Given as goal
+
+abbrev pub invariant-loop-i : goal.invariant-loop-i
+invariant-loop-i l = (l.i ≤ length l.xs) × (length l.work ≡ length l.initial.work) × AllTried l.i l.xs l.work
+
+abbrev pub decreases-loop-i : goal.decreases-loop-i
+decreases-loop-i l = length l.xs - l.i
