@@ -8,7 +8,7 @@ use crate::{CellStep, PointStep};
 use geometry::{BoundingBox, Vec3, Vec3i};
 
 // How a walk over points or cells stands: refused by a cause, past its last place, or at a place.
-#[derive(Drop)]
+#[derive(Clone, Copy)]
 enum Stand {
     Refused(u32),
     Done,

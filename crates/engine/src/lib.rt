@@ -15,7 +15,7 @@ pub use jobs::run_job;
 
 // What the work is about, beside the arrays of its model: the grid, the band, and how many parts the
 // model has.
-#[derive(Drop)]
+#[derive(Clone, Copy)]
 pub struct Task {
     pub grid: Grid,
     pub band: Band,
@@ -23,7 +23,7 @@ pub struct Task {
 }
 
 // Where a job goes on: its cursor, the leaves so far, and the budget that is left.
-#[derive(Drop)]
+#[derive(Clone, Copy)]
 pub struct Standing {
     pub cursor: Cursor,
     pub leaves: u64,
@@ -32,7 +32,7 @@ pub struct Standing {
 
 // A node at work: its number and its box, the child that comes next, the leaves so far, and the
 // budget that is left.
-#[derive(Drop)]
+#[derive(Clone, Copy)]
 pub struct Visit {
     pub node: usize,
     pub bounds: BoundingBox,
@@ -43,7 +43,7 @@ pub struct Visit {
 
 // A leaf at work, the last of so many: its node and its child, the point that comes next, and the
 // budget that is left.
-#[derive(Drop)]
+#[derive(Clone, Copy)]
 pub struct LeafVisit {
     pub node: usize,
     pub child: usize,
@@ -53,21 +53,21 @@ pub struct LeafVisit {
 }
 
 // What a child has become in its turn: nothing or a constant, or a leaf that has a box.
-#[derive(Drop)]
+#[derive(Clone, Copy)]
 pub enum Decision {
     Passed,
     Leaf(BoundingBox),
 }
 
 // Whether a function came through to its end, or stopped before an evaluation.
-#[derive(Drop)]
+#[derive(Clone, Copy)]
 pub enum Stop {
     Through,
     At(Cursor),
 }
 
 // How many leaves there are, how much of the budget is left, and where it stopped.
-#[derive(Drop)]
+#[derive(Clone, Copy)]
 pub struct Progress {
     pub leaves: u64,
     pub left: u64,
@@ -75,7 +75,7 @@ pub struct Progress {
 }
 
 // The evaluations at a cursor have stopped, or come to the children of a node.
-#[derive(Drop)]
+#[derive(Clone, Copy)]
 pub enum Turn {
     Stopped(Progress),
     Children(Visit),

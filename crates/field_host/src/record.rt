@@ -146,7 +146,7 @@ pub fn decode(
 }
 
 // A cursor's tag and its three places, 0 where it has none.
-#[derive(Drop)]
+#[derive(Clone, Copy)]
 pub struct CursorWords {
     pub tag: u64,
     pub node: u64,

@@ -19,7 +19,7 @@ fn listing_room() -> [u8; 88176] {
 }
 
 // How many bytes were read, and whether a read failed after them.
-#[derive(Drop)]
+#[derive(Clone, Copy)]
 struct Reading {
     count: usize,
     failed: bool,

@@ -4,7 +4,7 @@ ghost use Rattle.float_vectors.specs.Case.{compared, is_named, judged, operation
 
 use vectors::Row;
 
-#[derive(Drop)]
+#[derive(Clone, Copy)]
 pub enum Operation {
     Sqrt,
     Floor,
@@ -16,7 +16,7 @@ pub enum Operation {
 
 // A line that is right, one that is wrong, with the bits that the operation gives, or one that is
 // off its form.
-#[derive(Drop)]
+#[derive(Clone, Copy)]
 pub enum Verdict {
     Right,
     Wrong(u64),

@@ -10,21 +10,21 @@ pub use reading::read_form;
 pub use writing::{form_length, put_form, put_hex};
 
 // A number that stands at a place, and where the text goes on.
-#[derive(Drop)]
+#[derive(Clone, Copy)]
 pub enum Found {
     Number(u64, usize),
     NoNumber,
 }
 
 // Where the text goes on after a line, if a line stands at a place.
-#[derive(Drop)]
+#[derive(Clone, Copy)]
 pub enum End {
     At(usize),
     Off,
 }
 
 // A line's numbers, with 0 after them, and its end.
-#[derive(Drop)]
+#[derive(Clone, Copy)]
 pub struct Read {
     pub values: [u64; 6],
     pub end: End,

@@ -24,7 +24,7 @@ pub use pruning::{average, decide_child, half_diagonal, highest, is_pruned, lowe
 
 // What a grid is made from: the bounds, the cell's size, and how many children (inner) and leaf
 // points (leaf) a node and a leaf have along an axis.
-#[derive(Drop)]
+#[derive(Clone, Copy)]
 pub struct Grid {
     pub bounds: BoundingBox,
     pub cell: f64,
@@ -33,14 +33,14 @@ pub struct Grid {
 }
 
 // How many nodes a grid has, and how many active children.
-#[derive(Drop)]
+#[derive(Clone, Copy)]
 pub struct GridCounts {
     pub nodes: u64,
     pub active: u64,
 }
 
 // How many corners a list of them holds, or the cause of a refusal.
-#[derive(Drop)]
+#[derive(Clone, Copy)]
 pub enum CornerList {
     Count(usize),
     Refused(u32),
@@ -55,7 +55,7 @@ pub const ACTIVE: u8 = 1;
 pub const LEAF: u8 = 2;
 
 // What an active child becomes: a constant, with its kind and its number, or a leaf.
-#[derive(Drop)]
+#[derive(Clone, Copy)]
 pub enum Verdict {
     Constant(u8, f64),
     Leaf,

@@ -12,7 +12,7 @@ pub use causes::open_refusal;
 pub use needed::needed_lengths;
 
 // What a job is made from.
-#[derive(Drop)]
+#[derive(Clone, Copy)]
 pub struct Input {
     pub grid: Grid,
     pub band: Band,
@@ -20,14 +20,14 @@ pub struct Input {
 }
 
 // The values that matter: a child whose values all lie outside becomes a constant.
-#[derive(Drop)]
+#[derive(Clone, Copy)]
 pub struct Band {
     pub min: f64,
     pub max: f64,
 }
 
 // How long the five slices are that a job is lent.
-#[derive(Drop)]
+#[derive(Clone, Copy)]
 pub struct Lengths {
     pub kinds: usize,
     pub numbers: usize,
@@ -37,7 +37,7 @@ pub struct Lengths {
 }
 
 // The cause of a refusal, if there is one.
-#[derive(Drop)]
+#[derive(Clone, Copy)]
 pub enum Refusal {
     None,
     By(u32),

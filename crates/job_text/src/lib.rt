@@ -16,28 +16,28 @@ pub use reader::read_job;
 pub const LIMIT: u64 = 4294967295;
 
 // The input that a text spells, and the bits of each constant as they are written.
-#[derive(Drop)]
+#[derive(Clone, Copy)]
 pub struct Job {
     pub input: Input,
     pub patterns: [u64; 64],
 }
 
 // Whether a text is on its form, or the first line that is off it.
-#[derive(Drop)]
+#[derive(Clone, Copy)]
 pub enum Judgement {
     OnForm,
     OffAt(u32),
 }
 
 // What a text is read as: a job, which is empty where the text is off its form.
-#[derive(Drop)]
+#[derive(Clone, Copy)]
 pub struct Reading {
     pub judgement: Judgement,
     pub job: Job,
 }
 
 // A part line: the part that it spells, its bits where it is a constant, and where the text goes on.
-#[derive(Drop)]
+#[derive(Clone, Copy)]
 pub struct PartLine {
     pub part: Part,
     pub pattern: u64,

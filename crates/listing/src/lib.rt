@@ -12,7 +12,7 @@ pub use writing::{write_listing, write_off, write_refusal};
 
 // What writing a listing answers: how many bytes it has, the number of a refusal, or that the job is
 // not finished or has a leaf outside the store.
-#[derive(Drop)]
+#[derive(Clone, Copy)]
 pub enum Listing {
     Bytes(usize),
     Refused(u32),
@@ -21,7 +21,7 @@ pub enum Listing {
 
 // How a listing is laid out: its counts, how many children it has in all, how many to a node, how many
 // points to a leaf, and the bits of a NaN leaf value.
-#[derive(Drop)]
+#[derive(Clone, Copy)]
 pub struct Sheet {
     pub counts: Counts,
     pub total: usize,

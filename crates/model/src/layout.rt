@@ -9,7 +9,7 @@ use super::{ImplicitModel, ModelComponent, Part, codes};
 use geometry::Vec3;
 
 // A part's entries: its code of codes.rt, its inputs' places, its vector and its number.
-#[derive(Drop)]
+#[derive(Clone, Copy)]
 pub struct Entry {
     pub code: u32,
     pub first: u32,

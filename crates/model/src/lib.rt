@@ -20,7 +20,7 @@ pub use refusals::{cause_four, inputs_below};
 pub const MOST_PARTS: usize = 64;
 
 // One part of a model. An operation names its inputs by their places in the list.
-#[derive(Drop)]
+#[derive(Clone, Copy)]
 pub enum Part {
     Constant(f64),
     Sphere(Vec3, f64),
@@ -33,20 +33,20 @@ pub enum Part {
 }
 
 // A part as a model holds it.
-#[derive(Drop)]
+#[derive(Clone, Copy)]
 pub struct ModelComponent {
     pub part: Part,
 }
 
 // A model is its first `count` parts.
-#[derive(Drop)]
+#[derive(Clone, Copy)]
 pub struct ImplicitModel {
     pub parts: [ModelComponent; 64],
     pub count: u32,
 }
 
 // A model's value at a point, or the cause of a refusal.
-#[derive(Drop)]
+#[derive(Clone, Copy)]
 pub enum Evaluation {
     Value(f64),
     Refused(u32),

@@ -5,7 +5,7 @@ ghost use Rattle.model_vectors.specs.Case.{longer, started, with_part};
 use geometry::Vec3;
 use model::{ImplicitModel, ModelComponent, Part};
 
-#[derive(Drop)]
+#[derive(Clone, Copy)]
 pub struct Case {
     pub point: Vec3,
     pub model: ImplicitModel,

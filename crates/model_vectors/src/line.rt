@@ -6,7 +6,7 @@ use model::Part;
 use vectors::{Decimal, Hex, Row};
 
 // What a line says. The answer is a value's bits, or a refusal by 4.
-#[derive(Drop)]
+#[derive(Clone, Copy)]
 pub enum Line {
     Point(Vec3),
     Component(Part),
@@ -16,14 +16,14 @@ pub enum Line {
 }
 
 // A shape's vector and number, or none.
-#[derive(Drop)]
+#[derive(Clone, Copy)]
 enum Shape {
     Numbers(Vec3, f64),
     NoShape,
 }
 
 // An operation's inputs, or none.
-#[derive(Drop)]
+#[derive(Clone, Copy)]
 enum Inputs {
     Two(u32, u32),
     NoInputs,

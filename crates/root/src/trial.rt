@@ -12,7 +12,7 @@ ghost use Rattle.root.specs.Inner.Trials.{Near, TriedDigits, Tried};
 use crate::operand;
 
 // The digits that a trial takes for a root's, and how many objections it has to them.
-#[derive(Drop)]
+#[derive(Clone, Copy)]
 pub struct Trial {
     pub digits: u64,
     pub objections: u64,

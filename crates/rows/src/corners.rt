@@ -14,14 +14,14 @@ use crate::budget::allowed;
 use geometry::BoundingBox;
 
 // How many needed corners a search found, and where it ended.
-#[derive(Drop)]
+#[derive(Clone, Copy)]
 pub struct Found {
     pub count: usize,
     pub next: usize,
 }
 
 // Where a run of corners ended, and what is left of its budget.
-#[derive(Drop)]
+#[derive(Clone, Copy)]
 pub struct CornersEnd {
     pub next: usize,
     pub left: u64,

@@ -7,7 +7,7 @@ use grid::GridCounts;
 use input::{Input, Lengths};
 
 // What a record counts: of its grid, leaves so far, their points, and evaluations so far (rule R2).
-#[derive(Drop)]
+#[derive(Clone, Copy)]
 pub struct Counts {
     pub grid: GridCounts,
     pub leaves: u64,
@@ -16,7 +16,7 @@ pub struct Counts {
 }
 
 // Where a job stands (rule S12): at the end, or before a corner of a node or a point of a node's child.
-#[derive(Drop)]
+#[derive(Clone, Copy)]
 pub enum Cursor {
     End,
     Corner(usize, usize),
@@ -25,7 +25,7 @@ pub enum Cursor {
 
 // A job: its input, the lengths of the slices that it was opened with, its counts and its cursor
 // (rule R1).
-#[derive(Drop)]
+#[derive(Clone, Copy)]
 pub struct Job {
     pub input: Input,
     pub lengths: Lengths,
@@ -35,14 +35,14 @@ pub struct Job {
 
 // What calls hand on: whether a job is open, and the job. Where none is, the job counts for nothing
 // (rules R1 and R4).
-#[derive(Drop)]
+#[derive(Clone, Copy)]
 pub struct Record {
     pub opened: bool,
     pub job: Job,
 }
 
 // Whether a call was accepted, or the number of the cause that refused it (rule C51).
-#[derive(Drop)]
+#[derive(Clone, Copy)]
 pub enum Answer {
     Accepted,
     Refused(u32),

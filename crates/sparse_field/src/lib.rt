@@ -19,7 +19,7 @@ pub use judgement::is_impossible;
 pub use records::no_record;
 
 // What a call hands back: its answer, and the record for the next call.
-#[derive(Drop)]
+#[derive(Clone, Copy)]
 pub struct Outcome {
     pub answer: Answer,
     pub next: Record,

@@ -17,21 +17,21 @@ pub use numbers::{decimal_number, hex16, three_numbers};
 pub use words::{has_word, word_end, word_of};
 
 // What stands where a number is looked for.
-#[derive(Drop)]
+#[derive(Clone, Copy)]
 pub enum Hex {
     Number(u64),
     NoNumber,
 }
 
 // The three numbers that end a line.
-#[derive(Drop)]
+#[derive(Clone, Copy)]
 pub enum Row {
     Numbers(u64, u64, u64),
     NoRow,
 }
 
 // A decimal number of 32 bits.
-#[derive(Drop)]
+#[derive(Clone, Copy)]
 pub enum Decimal {
     Whole(u32),
     NoDecimal,

@@ -22,31 +22,35 @@ module _ (a b : BoundingBox) where
   abbrev five : Bool
   five = four && le a.min.z b.max.z
 
-flag_two : (c : tie.Joined1) → let s = c.before.before.before.args in c.if1.if2 ≡ two s.self s.other
-flag_two c = ⊎_elim (λ w. and_then w.0.taken w.3) (λ w. and_else _ w.0.left w.1) c.if1.branch
+flag_two : (c : tie.Joined-self-other) → let s = c.args in c.if-self-other.value ≡ two s.self s.other
+flag_two c = ⊎_elim (λ w. and_then w.0.taken w.3) (λ w. and_else _ w.0.left w.1) c.if-self-other.branch
 
-flag_three : (c : tie.Joined2) → let s = c.before.before.before.before.args in c.if2.if3 ≡ three s.self s.other
+flag_three : (c : tie.Joined-self-other-2) → let s = c.args in c.if-self-other-2.value ≡ three s.self s.other
 flag_three c =
     rw (sym (flag_two c.before))
-    (⊎_elim (λ w. and_then w.0.taken w.3) (λ w. and_else _ w.0.left w.1) c.if2.branch)
+    (⊎_elim (λ w. and_then w.0.taken w.3) (λ w. and_else _ w.0.left w.1) c.if-self-other-2.branch)
 
-flag_four : (c : tie.Joined3) → let s = c.before.before.before.before.before.args in c.if3.if4 ≡ four s.self s.other
+flag_four : (c : tie.Joined-self-other-3) → let s = c.args in c.if-self-other-3.value ≡ four s.self s.other
 flag_four c =
     rw (sym (flag_three c.before))
-    (⊎_elim (λ w. and_then w.0.taken w.3) (λ w. and_else _ w.0.left w.1) c.if3.branch)
+    (⊎_elim (λ w. and_then w.0.taken w.3) (λ w. and_else _ w.0.left w.1) c.if-self-other-3.branch)
 
-flag_five : (c : tie.Joined4) → let s = c.before.before.before.before.before.before.args in c.if4.if5 ≡ five s.self s.other
+flag_five : (c : tie.Joined-self-other-4) → let s = c.args in c.if-self-other-4.value ≡ five s.self s.other
 flag_five c =
     rw (sym (flag_four c.before))
-    (⊎_elim (λ w. and_then w.0.taken w.3) (λ w. and_else _ w.0.left w.1) c.if4.branch)
+    (⊎_elim (λ w. and_then w.0.taken w.3) (λ w. and_else _ w.0.left w.1) c.if-self-other-4.branch)
 
-returns : tie.Need-returns
+returns-then-self-other-5 : tie.Need-returns-then-self-other-5
 unfolding intersects_of
-returns c = rw (sym (flag_five c.before.before.before)) (and_then c.before.before.if5.true refl)
+returns-then-self-other-5 c = rw (sym (flag_five c.before.before.before)) (and_then c.if-self-other-5.true refl)
 
-returns-2 : tie.Need-returns-2
+returns-else-self-other-5 : tie.Need-returns-else-self-other-5
 unfolding intersects_of
-returns-2 c = rw (sym (flag_five c.before)) (and_else _ c.if5.false refl)
+returns-else-self-other-5 c = rw (sym (flag_five c.before)) (and_else _ c.if-self-other-5.false refl)
 
 pub intersects_spec : {M : Type 1} → statement M
-intersects_spec = tie.close (tie.spec returns returns-2)
+intersects_spec =
+    tie.close
+    (tie.spec
+    returns-then-self-other-5
+    returns-else-self-other-5)

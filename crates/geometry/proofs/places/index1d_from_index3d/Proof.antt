@@ -10,89 +10,89 @@ use Rattle.geometry.proofs.Grid.{Accepted, accepted, slab_fits, place_fits}
 use Rattle.geometry.proofs.places.index1d_from_index3d.Statement.{statement}
 use Rattle.geometry.proofs.places.index1d_from_index3d.Tie as tie
 
-dimensions-refused-requires : tie.Need-dimensions-refused-requires
-dimensions-refused-requires c κs = search rules
+dimensions_refused-requires : tie.Need-dimensions_refused-requires
+dimensions_refused-requires c κs = search rules
 
-returns : tie.Need-returns
+returns-then-dimensions_refused : tie.Need-returns-then-dimensions_refused
 unfolding first_of index1d_of place_of
-returns c = simp (sym c.before.dimensions-refused.ensures ∙ c.if1.true)
+returns-then-dimensions_refused c = simp (sym c.dimensions_refused.ensures ∙ c.if-dimensions_refused.true)
 
-returns-2 : tie.Need-returns-2
+returns-then-i-nx : tie.Need-returns-then-i-nx
 unfolding first_of index1d_of place_of
-returns-2 c = simp (sym c.before.before.dimensions-refused.ensures ∙ c.before.if1.false, le-ltb _ _ c.if2.true)
+returns-then-i-nx c = simp (sym c.dimensions_refused.ensures ∙ c.if-dimensions_refused.false, le-ltb _ _ c.if-i-nx.true)
 
-returns-3 : tie.Need-returns-3
+returns-then-j-ny : tie.Need-returns-then-j-ny
 unfolding first_of index1d_of place_of
-returns-3 c =
+returns-then-j-ny c =
     simp (
-      sym c.before.before.before.dimensions-refused.ensures ∙ c.before.before.if1.false,
-      lt-ltb _ _ c.before.if2.false,
-      le-ltb _ _ c.if3.true,
+      sym c.dimensions_refused.ensures ∙ c.if-dimensions_refused.false,
+      lt-ltb _ _ c.if-i-nx.false,
+      le-ltb _ _ c.if-j-ny.true,
     )
 
-returns-4 : tie.Need-returns-4
+returns-then-k-nz : tie.Need-returns-then-k-nz
 unfolding first_of index1d_of place_of
-returns-4 c =
+returns-then-k-nz c =
     simp (
-      sym c.before.before.before.before.dimensions-refused.ensures ∙ c.before.before.before.if1.false,
-      lt-ltb _ _ c.before.before.if2.false,
-      lt-ltb _ _ c.before.if3.false,
-      le-ltb _ _ c.if4.true,
+      sym c.dimensions_refused.ensures ∙ c.if-dimensions_refused.false,
+      lt-ltb _ _ c.if-i-nx.false,
+      lt-ltb _ _ c.if-j-ny.false,
+      le-ltb _ _ c.if-k-nz.true,
     )
 
 -- what the tests have shown where the place is computed
-grid : (c : tie.Else4) → let a = c.before.before.before.before.before.args in Accepted a.nx a.ny a.nz
+grid : (c : tie.Else-k-nz) → let a = c.args in Accepted a.nx a.ny a.nz
 grid c =
     accepted _ _ _
-    (sym c.before.before.before.before.dimensions-refused.ensures ∙ c.before.before.before.if1.false)
+    (sym c.dimensions_refused.ensures ∙ c.if-dimensions_refused.false)
 
-slab : (c : tie.Else4) → let a = c.before.before.before.before.before.args in a.k * a.nx < 2 ^ 64
+slab : (c : tie.Else-k-nz) → let a = c.args in a.k * a.nx < 2 ^ 64
 slab c =
-    let a = c.before.before.before.before.before.args in
-    slab_fits (grid c) a.i a.j a.k c.before.before.if2.false c.before.if3.false c.if4.false
+    let a = c.args in
+    slab_fits (grid c) a.i a.j a.k c.if-i-nx.false c.if-j-ny.false c.if-k-nz.false
 
-place : (c : tie.Else4) → let a = c.before.before.before.before.before.args in a.k * a.nx * a.ny + a.j * a.nx + a.i < 2 ^ 64
+place : (c : tie.Else-k-nz) → let a = c.args in a.k * a.nx * a.ny + a.j * a.nx + a.i < 2 ^ 64
 place c =
-    let a = c.before.before.before.before.before.args in
-    place_fits (grid c) a.i a.j a.k c.before.before.if2.false c.before.if3.false c.if4.false
+    let a = c.args in
+    place_fits (grid c) a.i a.j a.k c.if-i-nx.false c.if-j-ny.false c.if-k-nz.false
 
-mul-t9 : tie.Need-overflow-mul-t9
-mul-t9 c = omega (arith, slab c)
+overflow_mul-result : tie.Need-overflow_mul-result
+overflow_mul-result c = omega (arith, slab c)
 
-mul-t10 : tie.Need-overflow-mul-t10
-mul-t10 c = omega (arith, place c)
+overflow_mul-result-2 : tie.Need-overflow_mul-result-2
+overflow_mul-result-2 c = omega (arith, place c)
 
-mul-t11 : tie.Need-overflow-mul-t11
-mul-t11 c = omega (arith, place c)
+overflow_mul-result-3 : tie.Need-overflow_mul-result-3
+overflow_mul-result-3 c = omega (arith, place c)
 
-add-t12 : tie.Need-overflow-add-t12
-add-t12 c = omega (arith, place c)
+overflow_add-result : tie.Need-overflow_add-result
+overflow_add-result c = omega (arith, place c)
 
-add-t13 : tie.Need-overflow-add-t13
-add-t13 c = omega (arith, place c)
+overflow_add-result-2 : tie.Need-overflow_add-result-2
+overflow_add-result-2 c = omega (arith, place c)
 
-returns-5 : tie.Need-returns-5
+returns : tie.Need-returns
 unfolding first_of index1d_of place_of
-returns-5 c =
+returns c =
     simp (
-      sym c.before.before.before.before.dimensions-refused.ensures ∙ c.before.before.before.if1.false,
-      lt-ltb _ _ c.before.before.if2.false,
-      lt-ltb _ _ c.before.if3.false,
-      lt-ltb _ _ c.if4.false,
+      sym c.dimensions_refused.ensures ∙ c.if-dimensions_refused.false,
+      lt-ltb _ _ c.if-i-nx.false,
+      lt-ltb _ _ c.if-j-ny.false,
+      lt-ltb _ _ c.if-k-nz.false,
     )
 
 pub index1d_from_index3d_spec : {M : Type 1} → statement M
 index1d_from_index3d_spec =
     tie.close
     (tie.spec
-    dimensions-refused-requires
-    returns
-    returns-2
-    returns-3
-    returns-4
-    mul-t9
-    mul-t10
-    mul-t11
-    add-t12
-    add-t13
-    returns-5)
+    dimensions_refused-requires
+    returns-then-dimensions_refused
+    returns-then-i-nx
+    returns-then-j-ny
+    returns-then-k-nz
+    overflow_mul-result
+    overflow_mul-result-2
+    overflow_mul-result-3
+    overflow_add-result
+    overflow_add-result-2
+    returns)

@@ -10,37 +10,37 @@ use Rattle.geometry.proofs.Grid.{Accepted, accepted, area_le}
 use Rattle.geometry.proofs.places.index3d_from_index1d.Statement.{statement}
 use Rattle.geometry.proofs.places.index3d_from_index1d.Tie as tie
 
-dimensions-refused-requires : tie.Need-dimensions-refused-requires
-dimensions-refused-requires c κs = search rules
+dimensions_refused-requires : tie.Need-dimensions_refused-requires
+dimensions_refused-requires c κs = search rules
 
-returns : tie.Need-returns
+returns-then-dimensions_refused : tie.Need-returns-then-dimensions_refused
 unfolding first_of index3d_of indices_of
-returns c = simp (sym c.before.dimensions-refused.ensures ∙ c.if1.true)
+returns-then-dimensions_refused c = simp (sym c.dimensions_refused.ensures ∙ c.if-dimensions_refused.true)
 
 -- what the first test has shown
-grid : (c : tie.Else1) → let a = c.before.before.args in Accepted a.nx a.ny a.nz
-grid c = accepted _ _ _ (sym c.before.dimensions-refused.ensures ∙ c.if1.false)
+grid : (c : tie.Else-dimensions_refused) → let a = c.args in Accepted a.nx a.ny a.nz
+grid c = accepted _ _ _ (sym c.dimensions_refused.ensures ∙ c.if-dimensions_refused.false)
 
-mul-if2 : tie.Need-overflow-mul-if2
-mul-if2 c = omega (arith, area_le (grid c))
+overflow_mul-nx : tie.Need-overflow_mul-nx
+overflow_mul-nx c = omega (arith, area_le (grid c))
 
-mul-if2-2 : tie.Need-overflow-mul-if2-2
-mul-if2-2 c = omega (arith, (grid c).few)
+overflow_mul-nx-2 : tie.Need-overflow_mul-nx-2
+overflow_mul-nx-2 c = omega (arith, (grid c).few)
 
-returns-2 : tie.Need-returns-2
+returns-then-index-nx : tie.Need-returns-then-index-nx
 unfolding first_of index3d_of indices_of
-returns-2 c =
-    simp (sym c.before.before.dimensions-refused.ensures ∙ c.before.if1.false, le-ltb _ _ c.if2.true)
+returns-then-index-nx c =
+    simp (sym c.dimensions_refused.ensures ∙ c.if-dimensions_refused.false, le-ltb _ _ c.if-index-nx.true)
 
 indices-requires : tie.Need-indices-requires
 indices-requires c κs = ((grid c.before).x_above, (grid c.before).y_above)
 
-returns-3 : tie.Need-returns-3
+returns : tie.Need-returns
 unfolding first_of index3d_of
-returns-3 c =
+returns c =
     simp (
-      sym c.before.before.before.dimensions-refused.ensures ∙ c.before.before.if1.false,
-      lt-ltb _ _ c.before.if2.false,
+      sym c.dimensions_refused.ensures ∙ c.if-dimensions_refused.false,
+      lt-ltb _ _ c.if-index-nx.false,
     )
     (ap At c.indices.ensures)
 
@@ -48,10 +48,10 @@ pub index3d_from_index1d_spec : {M : Type 1} → statement M
 index3d_from_index1d_spec =
     tie.close
     (tie.spec
-    dimensions-refused-requires
-    returns
-    mul-if2
-    mul-if2-2
-    returns-2
+    dimensions_refused-requires
+    returns-then-dimensions_refused
+    overflow_mul-nx
+    overflow_mul-nx-2
+    returns-then-index-nx
     indices-requires
-    returns-3)
+    returns)
