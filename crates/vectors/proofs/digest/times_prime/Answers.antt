@@ -4,4 +4,4 @@ use Rattle.vectors.proofs.Digests.{halves}
 use Rattle.vectors.proofs.digest.times_prime.Goals as goal
 
 pub returns : goal.returns
-returns c = c.wrapping_add_u64.ensures ∙ halves _
+returns c = c.wrapping_add_u64.ensures.value ∙ halves _

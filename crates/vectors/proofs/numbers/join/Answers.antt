@@ -17,4 +17,4 @@ returns-in_default-c c = rw (c.in-Number.is, c.in-Number-b.is, c.in_default-c.is
 
 pub returns : goal.returns
 unfolding joined
-returns c = let p = c.before.before.before.before in rw (p.in-Number.is, p.in-Number-b.is, c.in-Number-c.is)
+returns c = rw (c.in-Number.is, c.in-Number-b.is, c.in-Number-c.is)
