@@ -1,5 +1,5 @@
 -- `times_prime` meets its contract.
-use Rattle.std.proofs.Common.{◌∙◌, rules}
+use Rattle.std.proofs.Common.{◌∙◌}
 use Rattle.vectors.proofs.Digests.{halves}
 use Rattle.vectors.proofs.digest.times_prime.Goals as goal
 

@@ -1,6 +1,5 @@
 -- `join` meets its contract: each return is the case that its tests leave.
 use Rattle.vectors.specs.Text.{joined}
-use Rattle.std.proofs.Common.{rules}
 use Rattle.vectors.proofs.numbers.join.Goals as goal
 
 pub returns-in_default : goal.returns-in_default
