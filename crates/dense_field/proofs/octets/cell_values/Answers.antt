@@ -14,7 +14,7 @@ returns-then-refused-ne0 c =
 pub octet-eight-requires : goal.octet-eight-requires
 octet-eight-requires c =
     let f = found _ _ _ (sym c.octet_cause-refused.ensures ∙ c.if-refused-ne0.false) in
-    (f.held, (f.in_field.i_in, f.in_field.j_in, f.in_field.k_in))
+    record { lent = f.held; inside = (f.in_field.i_in, f.in_field.j_in, f.in_field.k_in) }
 
 pub returns : goal.returns
 unfolding cell_values_of

@@ -17,7 +17,7 @@ loop-k-init c =
 pub pad_slab-requires : goal.pad_slab-requires
 pad_slab-requires c =
     let p = c.requires in
-    let long = c.loop-k.invariant.1 in record { lent = as_long p long; k_lt_k = omega arith; }
+    let long = c.loop-k.invariant.1 in record { lent = as_long p long; inside = omega arith; }
 
 pub loop-k-preserved : goal.loop-k-preserved
 loop-k-preserved c =

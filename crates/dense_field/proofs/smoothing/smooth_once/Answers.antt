@@ -14,7 +14,7 @@ loop-k-init c =
 
 pub smooth_slab-requires : goal.smooth_slab-requires
 smooth_slab-requires c =
-    let p = c.requires in record { lent = (p.0, c.loop-k.invariant.1 ∙ p.1); k_lt_k = omega arith; }
+    let p = c.requires in record { lent = (p.0, c.loop-k.invariant.1 ∙ p.1); inside = omega arith; }
 
 pub loop-k-preserved : goal.loop-k-preserved
 loop-k-preserved c =
