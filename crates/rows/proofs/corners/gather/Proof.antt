@@ -18,7 +18,7 @@ use Rattle.rows.proofs.Searching.{gathering_none, gathering_more, gathering_skip
 use borrow.Author.Rules.{rules}
 use Rattle.rows.proofs.corners.gather.Statement.{statement}
 use Rattle.rows.proofs.corners.gather.Tie as tie
-use Rattle.rows.proofs.corners.gather.Lts.{then-has_child, else-has_child}
+use Rattle.rows.proofs.corners.gather.Lts.{then-has_child+else-count-most, else-has_child}
 
 abbrev invariant-loop-corner : tie.invariant-loop-corner
 invariant-loop-corner n kinds i most list₀ side total at₀ corner₀ count₀ list at corner count =
@@ -127,7 +127,7 @@ loop-corner-preserved c =
     ∙ ap (λ v. next_indices v side side) l.invariant.3
     ∙ next_of side side (omega arith) (omega arith) l.corner in
     elim c.if-has_child.branch [
-      then-has_child w ↦ (
+      then-has_child+else-count-most w ↦ (
         omega (arith, below h.before.before.before),
         omega (arith, w.count-is),
         ap length w.list-is ∙ length-set l.list l.count l.corner ∙ l.invariant.2,

@@ -8,7 +8,7 @@ use Rattle.rows.specs.Inner.Around.{slab_has}
 use Rattle.rows.proofs.AroundLaws.{either_before, either_here, either_none, slab_within, rows_small}
 use borrow.Author.Rules.{rules}
 use Rattle.rows.proofs.corners.has_child.Goals as goal
-use Rattle.rows.proofs.corners.has_child.Goals.{then-k-gt0, else-k-gt0}
+use Rattle.rows.proofs.corners.has_child.Goals.{then-k-gt0+else-slab_has, else-k-gt0}
 
 pub overflow_mul-k : goal.overflow_mul-k
 overflow_mul-k c =
@@ -56,7 +56,7 @@ returns-then-k-n c =
     let a = c.args in
     let test : ℕ → Bool = λ m. slab_has a.n (nonzero_at a.kinds.now) (m * a.n * a.n) a.i a.j in
     let before : 0 < a.k → test (a.k - 1) ≡ false =
-    λ h. elim c.if-k-gt0.branch [ then-k-gt0 w ↦ sym w.slab_has.ensures ∙ w.if-slab_has.false | else-k-gt0 w ↦ absurd (omega arith) ] in
+    λ h. elim c.if-k-gt0.branch [ then-k-gt0+else-slab_has w ↦ sym w.slab_has.ensures ∙ w.if-slab_has.false | else-k-gt0 w ↦ absurd (omega arith) ] in
     c.slab_has-then-k-n.ensures ∙ sym (either_here a.n test a.k before c.if-k-n.true)
 
 pub returns : goal.returns
@@ -64,5 +64,5 @@ returns c =
     let a = c.args in
     let test : ℕ → Bool = λ m. slab_has a.n (nonzero_at a.kinds.now) (m * a.n * a.n) a.i a.j in
     let before : 0 < a.k → test (a.k - 1) ≡ false =
-    λ h. elim c.if-k-gt0.branch [ then-k-gt0 w ↦ sym w.slab_has.ensures ∙ w.if-slab_has.false | else-k-gt0 w ↦ absurd (omega arith) ] in
+    λ h. elim c.if-k-gt0.branch [ then-k-gt0+else-slab_has w ↦ sym w.slab_has.ensures ∙ w.if-slab_has.false | else-k-gt0 w ↦ absurd (omega arith) ] in
     sym (either_none a.n test a.k before c.if-k-n.false)

@@ -8,7 +8,7 @@ use Rattle.grid.proofs.MarkLaws.{is_nonzero, is_zero}
 use Rattle.rows.proofs.AroundLaws.{either_before, either_here, either_none}
 use borrow.Author.Rules.{rules}
 use Rattle.rows.proofs.corners.row_has.Goals as goal
-use Rattle.rows.proofs.corners.row_has.Goals.{then-i-gt0, else-i-gt0}
+use Rattle.rows.proofs.corners.row_has.Goals.{then-i-gt0+else-kinds-first-ne0, else-i-gt0}
 
 pub returns-then-kinds-first-ne0 : goal.returns-then-kinds-first-ne0
 returns-then-kinds-first-ne0 c =
@@ -20,12 +20,12 @@ unfolding nonzero_at
 returns-then-i-n c =
     let a = c.args in
     let before : 0 < a.i → nonzero_at a.kinds.now (a.first + (a.i - 1)) ≡ false =
-    λ h. elim c.if-i-gt0.branch [ then-i-gt0 w ↦ is_zero a.kinds.now _ w.if-kinds-first-ne0.false | else-i-gt0 w ↦ absurd (omega arith) ] in
+    λ h. elim c.if-i-gt0.branch [ then-i-gt0+else-kinds-first-ne0 w ↦ is_zero a.kinds.now _ w.if-kinds-first-ne0.false | else-i-gt0 w ↦ absurd (omega arith) ] in
     sym (either_here a.n (λ m. nonzero_at a.kinds.now (a.first + m)) a.i before c.if-i-n.true)
 
 pub returns : goal.returns
 returns c =
     let a = c.args in
     let before : 0 < a.i → nonzero_at a.kinds.now (a.first + (a.i - 1)) ≡ false =
-    λ h. elim c.if-i-gt0.branch [ then-i-gt0 w ↦ is_zero a.kinds.now _ w.if-kinds-first-ne0.false | else-i-gt0 w ↦ absurd (omega arith) ] in
+    λ h. elim c.if-i-gt0.branch [ then-i-gt0+else-kinds-first-ne0 w ↦ is_zero a.kinds.now _ w.if-kinds-first-ne0.false | else-i-gt0 w ↦ absurd (omega arith) ] in
     sym (either_none a.n (λ m. nonzero_at a.kinds.now (a.first + m)) a.i before c.if-i-n.false)

@@ -87,7 +87,7 @@ made : (e : tie.After-evaluate_row_into invariant-loop-next decreases-loop-next)
     let l = (turn g).loop-next in
     let points = (placed e).corner_points.new in
     RowMade a.words.now a.reals.now a.parts g.gather-found.result.count (point g) l.xs l.ys l.zs l.values
-    points.1.1.1.0 points.1.1.1.1.0 points.1.1.1.1.1.0 e.evaluate_row_into.new.results
+    points.xs points.ys points.zs e.evaluate_row_into.new.results
 made e =
     let g = searched (placed e) in
     let l = (turn g).loop-next in

@@ -8,7 +8,7 @@ use Rattle.rows.specs.Inner.Around.{row_has}
 use Rattle.rows.proofs.AroundLaws.{either_before, either_here, either_none, row_within}
 use borrow.Author.Rules.{rules}
 use Rattle.rows.proofs.corners.slab_has.Goals as goal
-use Rattle.rows.proofs.corners.slab_has.Goals.{then-j-gt0, else-j-gt0}
+use Rattle.rows.proofs.corners.slab_has.Goals.{then-j-gt0+else-row_has, else-j-gt0}
 
 pub overflow_mul-j : goal.overflow_mul-j
 overflow_mul-j c =
@@ -56,7 +56,7 @@ returns-then-j-n c =
     let a = c.args in
     let test : ℕ → Bool = λ m. row_has a.n (nonzero_at a.kinds.now) (a.first + m * a.n) a.i in
     let before : 0 < a.j → test (a.j - 1) ≡ false =
-    λ h. elim c.if-j-gt0.branch [ then-j-gt0 w ↦ sym w.row_has.ensures ∙ w.if-row_has.false | else-j-gt0 w ↦ absurd (omega arith) ] in
+    λ h. elim c.if-j-gt0.branch [ then-j-gt0+else-row_has w ↦ sym w.row_has.ensures ∙ w.if-row_has.false | else-j-gt0 w ↦ absurd (omega arith) ] in
     c.row_has-then-j-n.ensures ∙ sym (either_here a.n test a.j before c.if-j-n.true)
 
 pub returns : goal.returns
@@ -64,5 +64,5 @@ returns c =
     let a = c.args in
     let test : ℕ → Bool = λ m. row_has a.n (nonzero_at a.kinds.now) (a.first + m * a.n) a.i in
     let before : 0 < a.j → test (a.j - 1) ≡ false =
-    λ h. elim c.if-j-gt0.branch [ then-j-gt0 w ↦ sym w.row_has.ensures ∙ w.if-row_has.false | else-j-gt0 w ↦ absurd (omega arith) ] in
+    λ h. elim c.if-j-gt0.branch [ then-j-gt0+else-row_has w ↦ sym w.row_has.ensures ∙ w.if-row_has.false | else-j-gt0 w ↦ absurd (omega arith) ] in
     sym (either_none a.n test a.j before c.if-j-n.false)
