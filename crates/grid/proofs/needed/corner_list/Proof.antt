@@ -8,54 +8,54 @@ use Rattle.grid.proofs.ListedCorners.{answer_two, answer_kinds, answer_list, ans
 use Rattle.grid.proofs.needed.corner_list.Statement.{statement}
 use Rattle.grid.proofs.needed.corner_list.Tie as tie
 
-is-block-requires : tie.Need-is-block-requires
-is-block-requires c κs = search rules
+is_block-requires : tie.Need-is_block-requires
+is_block-requires c κs = search rules
 
-returns : tie.Need-returns
-returns c = (sym (answer_two _ _ _ (sym c.before.is_Block.ensures ∙ not-true _ c.if1.true)), refl)
+returns-then-not-is_block : tie.Need-returns-then-not-is_block
+returns-then-not-is_block c = (sym (answer_two _ _ _ (sym c.is_block.ensures ∙ not-true _ c.if-not-is_block.true-raw)), refl)
 
 -- what the first test has shown
-is_a_block : (c : tie.Else1) → is_block c.before.before.before.before.args.inner ≡ true
-is_a_block c = sym c.before.is_Block.ensures ∙ not-false _ c.if1.false
+is_a_block : (c : tie.Else-not-is_block) → is_block c.args.inner ≡ true
+is_a_block c = sym c.is_block.ensures ∙ not-false _ c.if-not-is_block.false-raw
 
-cube-of-requires : tie.Need-cube-of-requires
-cube-of-requires c κs = omega (arith, (block _ (is_a_block c)).most)
+cube_of-children-requires : tie.Need-cube_of-children-requires
+cube_of-children-requires c κs = omega (arith, (block _ (is_a_block c)).most)
 
-returns-2 : tie.Need-returns-2
-returns-2 c = (sym (answer_kinds _ _ _ (is_a_block c.before.before) (λ same. c.if2.true (same ∙ sym c.before.cube-of.ensures))), refl)
+returns-then-kinds-children : tie.Need-returns-then-kinds-children
+returns-then-kinds-children c = (sym (answer_kinds _ _ _ (is_a_block c.before.before) (λ same. c.if-kinds-children.true (same ∙ sym c.cube_of-children.ensures))), refl)
 
-add-cube-of : tie.Need-overflow-add-cube-of
-add-cube-of c = search rules
+overflow_add-n : tie.Need-overflow_add-n
+overflow_add-n c = search rules
 
-cube-of-requires-2 : tie.Need-cube-of-requires-2
-cube-of-requires-2 c κs = omega (arith, (block _ (is_a_block c.before.before)).most)
+cube_of-corners-requires : tie.Need-cube_of-corners-requires
+cube_of-corners-requires c κs = omega (arith, (block _ (is_a_block c.before.before)).most)
 
-returns-3 : tie.Need-returns-3
-returns-3 c = (
+returns-then-list-corners : tie.Need-returns-then-list-corners
+returns-then-list-corners c = (
   sym
       (answer_list _ _ _ (is_a_block c.before.before.before.before)
-      (c.before.before.if2.false ∙ c.before.before.before.cube-of.ensures)
-      (omega (arith, c.before.cube-of2.ensures))),
+      (c.if-kinds-children.false ∙ c.cube_of-children.ensures)
+      (omega (arith, c.cube_of-corners.ensures))),
   refl,
 )
 
-list-needed-requires : tie.Need-list-needed-requires
-list-needed-requires c κs = (
+list_needed-requires : tie.Need-list_needed-requires
+list_needed-requires c κs = (
   omega (arith, (block _ (is_a_block c.before.before.before.before.before)).most),
-  c.before.before.before.if2.false ∙ c.before.before.before.before.cube-of.ensures,
-  omega (arith, c.before.before.cube-of2.ensures),
+  c.if-kinds-children.false ∙ c.cube_of-children.ensures,
+  omega (arith, c.cube_of-corners.ensures),
 )
 
-same_length : tie.Need-same-length
-same_length c = search rules
+shape_of-list : tie.Need-shape_of-list
+shape_of-list c = search rules
 
-returns-4 : tie.Need-returns-4
-returns-4 c =
-    let done = c.before.before.list-needed.ensures in (
+returns : tie.Need-returns
+returns c =
+    let done = c.list_needed.ensures in (
       ap Count done.1 ∙ sym
           (answer_count _ _ _ (is_a_block c.before.before.before.before.before.before.before.before)
-          (c.before.before.before.before.before.before.if2.false ∙ c.before.before.before.before.before.before.before.cube-of.ensures)
-          (omega (arith, c.before.before.before.before.before.cube-of2.ensures))),
+          (c.if-kinds-children.false ∙ c.cube_of-children.ensures)
+          (omega (arith, c.cube_of-corners.ensures))),
       (done.0, done.2),
     )
 
@@ -63,13 +63,13 @@ pub corner_list_spec : {M : Type 1} → statement M
 corner_list_spec =
     tie.close
     (tie.spec
-    is-block-requires
-    returns
-    cube-of-requires
-    returns-2
-    add-cube-of
-    cube-of-requires-2
-    returns-3
-    list-needed-requires
-    same_length
-    returns-4)
+    is_block-requires
+    returns-then-not-is_block
+    cube_of-children-requires
+    returns-then-kinds-children
+    overflow_add-n
+    cube_of-corners-requires
+    returns-then-list-corners
+    list_needed-requires
+    shape_of-list
+    returns)

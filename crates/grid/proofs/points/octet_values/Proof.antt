@@ -8,100 +8,100 @@ use Rattle.grid.proofs.Octets.{octet_below, octet_length}
 use Rattle.grid.proofs.points.octet_values.Statement.{statement}
 use Rattle.grid.proofs.points.octet_values.Tie as tie
 
-inside : (c : tie.After-octet) (q : ℕ) → q < 8 → get_or c.octet.result q 0 < length c.before.before.args.values.now
+inside : (c : tie.After-octet-p) (q : ℕ) → q < 8 → get_or c.octet-p.result q 0 < length c.args.values.now
 inside c q below =
-    let p = c.before.before.requires in
+    let p = c.requires in
     let place = octet_below _ _ p.0 p.2 q below in
-    subst (λ (l : List ℕ). get_or l q 0 < length c.before.before.args.values.now) (sym c.octet.ensures) (omega (arith, place, p.3))
+    subst (λ (l : List ℕ). get_or l q 0 < length c.args.values.now) (sym c.octet-p.ensures) (omega (arith, place, p.3))
 
-octet-requires : tie.Need-octet-requires
-octet-requires c κs = search rules
+octet-p-requires : tie.Need-octet-p-requires
+octet-p-requires c κs = search rules
 
-array-read-value-at : tie.Need-array-read-value-at
-array-read-value-at c = search rules
+bounds-p-0 : tie.Need-bounds-p-0
+bounds-p-0 c = search rules
 
-value-at-requires : tie.Need-value-at-requires
-value-at-requires c κs = inside (c) 0 (omega arith)
+value_at-requires : tie.Need-value_at-requires
+value_at-requires c κs = inside (c) 0 (omega arith)
 
-array-read-value-at-2 : tie.Need-array-read-value-at-2
-array-read-value-at-2 c = search rules
+bounds-p-1 : tie.Need-bounds-p-1
+bounds-p-1 c = search rules
 
-value-at-requires-2 : tie.Need-value-at-requires-2
-value-at-requires-2 c κs = inside c.before 1 (omega arith)
+value_at-requires-2 : tie.Need-value_at-requires-2
+value_at-requires-2 c κs = inside c.before 1 (omega arith)
 
-array-read-value-at-3 : tie.Need-array-read-value-at-3
-array-read-value-at-3 c = search rules
+bounds-p-2 : tie.Need-bounds-p-2
+bounds-p-2 c = search rules
 
-value-at-requires-3 : tie.Need-value-at-requires-3
-value-at-requires-3 c κs = inside c.before.before 2 (omega arith)
+value_at-requires-3 : tie.Need-value_at-requires-3
+value_at-requires-3 c κs = inside c.before.before 2 (omega arith)
 
-array-read-value-at-4 : tie.Need-array-read-value-at-4
-array-read-value-at-4 c = search rules
+bounds-p-3 : tie.Need-bounds-p-3
+bounds-p-3 c = search rules
 
-value-at-requires-4 : tie.Need-value-at-requires-4
-value-at-requires-4 c κs = inside c.before.before.before 3 (omega arith)
+value_at-requires-4 : tie.Need-value_at-requires-4
+value_at-requires-4 c κs = inside c.before.before.before 3 (omega arith)
 
-array-read-value-at-5 : tie.Need-array-read-value-at-5
-array-read-value-at-5 c = search rules
+bounds-p-4 : tie.Need-bounds-p-4
+bounds-p-4 c = search rules
 
-value-at-requires-5 : tie.Need-value-at-requires-5
-value-at-requires-5 c κs = inside c.before.before.before.before 4 (omega arith)
+value_at-requires-5 : tie.Need-value_at-requires-5
+value_at-requires-5 c κs = inside c.before.before.before.before 4 (omega arith)
 
-array-read-value-at-6 : tie.Need-array-read-value-at-6
-array-read-value-at-6 c = search rules
+bounds-p-5 : tie.Need-bounds-p-5
+bounds-p-5 c = search rules
 
-value-at-requires-6 : tie.Need-value-at-requires-6
-value-at-requires-6 c κs = inside c.before.before.before.before.before 5 (omega arith)
+value_at-requires-6 : tie.Need-value_at-requires-6
+value_at-requires-6 c κs = inside c.before.before.before.before.before 5 (omega arith)
 
-array-read-value-at-7 : tie.Need-array-read-value-at-7
-array-read-value-at-7 c = search rules
+bounds-p-6 : tie.Need-bounds-p-6
+bounds-p-6 c = search rules
 
-value-at-requires-7 : tie.Need-value-at-requires-7
-value-at-requires-7 c κs = inside c.before.before.before.before.before.before 6 (omega arith)
+value_at-requires-7 : tie.Need-value_at-requires-7
+value_at-requires-7 c κs = inside c.before.before.before.before.before.before 6 (omega arith)
 
-array-read-value-at-8 : tie.Need-array-read-value-at-8
-array-read-value-at-8 c = search rules
+bounds-p-7 : tie.Need-bounds-p-7
+bounds-p-7 c = search rules
 
-value-at-requires-8 : tie.Need-value-at-requires-8
-value-at-requires-8 c κs = inside c.before.before.before.before.before.before.before 7 (omega arith)
+value_at-requires-8 : tie.Need-value_at-requires-8
+value_at-requires-8 c κs = inside c.before.before.before.before.before.before.before 7 (omega arith)
 
 returns : tie.Need-returns
 unfolding octet_values
 returns c =
-    let v7 = c.before in
-    let v6 = v7.before in
-    let v5 = v6.before in
-    let v4 = v5.before in
-    let v3 = v4.before in
-    let v2 = v3.before in
-    let v1 = v2.before in
-    let o = v1.before in
-    let values = o.before.before.args.values.now in
-    let long : length o.octet.result ≡ 8 = ap length o.octet.ensures ∙ octet_length _ _ in
+    let v7 = c in
+    let v6 = v7 in
+    let v5 = v6 in
+    let v4 = v5 in
+    let v3 = v4 in
+    let v2 = v3 in
+    let v1 = v2 in
+    let o = v1 in
+    let values = o.args.values.now in
+    let long : length o.octet-p.result ≡ 8 = ap length o.octet-p.ensures ∙ octet_length _ _ in
     let read : ◌≡◌ {A = List Float} _ _ =
-    λ t. v1.value-at.ensures t ∷ v2.value-at2.ensures t ∷ v3.value-at3.ensures t ∷ v4.value-at4.ensures t
-    ∷ v5.value-at5.ensures t ∷ v6.value-at6.ensures t ∷ v7.value-at7.ensures t ∷ c.value-at8.ensures t ∷ [] in
-    read ∙ ap (map (λ p. get_or values p plus_zero)) (eight 0 o.octet.result long ∙ o.octet.ensures)
+    λ t. v1.value_at.ensures t ∷ v2.value_at-2.ensures t ∷ v3.value_at-3.ensures t ∷ v4.value_at-4.ensures t
+    ∷ v5.value_at-5.ensures t ∷ v6.value_at-6.ensures t ∷ v7.value_at-7.ensures t ∷ c.value_at-8.ensures t ∷ [] in
+    read ∙ ap (map (λ p. get_or values p plus_zero)) (eight 0 o.octet-p.result long ∙ o.octet-p.ensures)
 
 pub octet_values_spec : {M : Type 1} → statement M
 octet_values_spec =
     tie.close
     (tie.spec
-    octet-requires
-    array-read-value-at
-    value-at-requires
-    array-read-value-at-2
-    value-at-requires-2
-    array-read-value-at-3
-    value-at-requires-3
-    array-read-value-at-4
-    value-at-requires-4
-    array-read-value-at-5
-    value-at-requires-5
-    array-read-value-at-6
-    value-at-requires-6
-    array-read-value-at-7
-    value-at-requires-7
-    array-read-value-at-8
-    value-at-requires-8
+    octet-p-requires
+    bounds-p-0
+    value_at-requires
+    bounds-p-1
+    value_at-requires-2
+    bounds-p-2
+    value_at-requires-3
+    bounds-p-3
+    value_at-requires-4
+    bounds-p-4
+    value_at-requires-5
+    bounds-p-5
+    value_at-requires-6
+    bounds-p-6
+    value_at-requires-7
+    bounds-p-7
+    value_at-requires-8
     returns)

@@ -13,90 +13,90 @@ use native.Mathlib.Omega.{arith}
 use Rattle.model.proofs.lanes.fill_squares.Statement.{statement}
 use Rattle.model.proofs.lanes.fill_squares.Tie as tie
 
-abbrev invariant_loop : tie.invariant_loop
-invariant_loop values₀ p n px py pz cx cy cz row i₀ values i =
+abbrev invariant-loop-i : tie.invariant-loop-i
+invariant-loop-i values₀ p n px py pz cx cy cz row i₀ values i =
     (i ≤ n) × (values ≡ filled_row values₀ p i (λ k. distance_squared_of (vec3 cx cy cz) (get_or px k past) (get_or py k past) (get_or pz k past)))
 
-abbrev decreases_loop : tie.decreases_loop
-decreases_loop values₀ p n px py pz cx cy cz row i₀ values i = n - i
+abbrev decreases-loop-i : tie.decreases-loop-i
+decreases-loop-i values₀ p n px py pz cx cy cz row i₀ values i = n - i
 
 -- the value at lane k
-abbrev square : tie.At-loop invariant_loop decreases_loop → ℕ → Float
-square l k = let a = l.before.args in distance_squared_of a.c (get_or a.px.now k past) (get_or a.py.now k past) (get_or a.pz.now k past)
+abbrev square : tie.At-loop-i invariant-loop-i decreases-loop-i → ℕ → Float
+square l k = let a = l.args in distance_squared_of a.c (get_or a.px.now k past) (get_or a.py.now k past) (get_or a.pz.now k past)
 
-mul-row : tie.Need-overflow-mul-row invariant_loop decreases_loop
-mul-row c = search rules
+overflow_mul-row : tie.Need-overflow_mul-row invariant-loop-i decreases-loop-i
+overflow_mul-row c = search rules
 
-loop-holds : tie.Need-loop-init invariant_loop decreases_loop
-loop-holds c = (omega arith, no_lanes _ _ _)
+loop-i-init : tie.Need-loop-i-init invariant-loop-i decreases-loop-i
+loop-i-init c = (omega arith, no_lanes _ _ _)
 
-mul-square-distance : tie.Need-overflow-mul-square-distance invariant_loop decreases_loop
-mul-square-distance c = search rules
+offset_bounds-px-i : tie.Need-offset_bounds-px-i invariant-loop-i decreases-loop-i
+offset_bounds-px-i c = search rules
 
-element-copy-out-square-distance : tie.Need-element-copy-out-square-distance invariant_loop decreases_loop
-element-copy-out-square-distance c = search rules
+bounds-px-i : tie.Need-bounds-px-i invariant-loop-i decreases-loop-i
+bounds-px-i c = search rules
 
-mul-square-distance-2 : tie.Need-overflow-mul-square-distance-2 invariant_loop decreases_loop
-mul-square-distance-2 c = search rules
+offset_bounds-py-i : tie.Need-offset_bounds-py-i invariant-loop-i decreases-loop-i
+offset_bounds-py-i c = search rules
 
-element-copy-out-square-distance-2 : tie.Need-element-copy-out-square-distance-2 invariant_loop decreases_loop
-element-copy-out-square-distance-2 c = search rules
+bounds-py-i : tie.Need-bounds-py-i invariant-loop-i decreases-loop-i
+bounds-py-i c = search rules
 
-mul-square-distance-3 : tie.Need-overflow-mul-square-distance-3 invariant_loop decreases_loop
-mul-square-distance-3 c = search rules
+offset_bounds-pz-i : tie.Need-offset_bounds-pz-i invariant-loop-i decreases-loop-i
+offset_bounds-pz-i c = search rules
 
-element-copy-out-square-distance-3 : tie.Need-element-copy-out-square-distance-3 invariant_loop decreases_loop
-element-copy-out-square-distance-3 c = search rules
+bounds-pz-i : tie.Need-bounds-pz-i invariant-loop-i decreases-loop-i
+bounds-pz-i c = search rules
 
-square-distance-requires : tie.Need-square-distance-requires invariant_loop decreases_loop
-square-distance-requires c κs = search rules
+square_distance-requires : tie.Need-square_distance-requires invariant-loop-i decreases-loop-i
+square_distance-requires c κs = search rules
 
-add-values : tie.Need-overflow-add-values invariant_loop decreases_loop
-add-values c = search rules
+overflow_add-values : tie.Need-overflow_add-values invariant-loop-i decreases-loop-i
+overflow_add-values c = search rules
 
-mul-values : tie.Need-overflow-mul-values invariant_loop decreases_loop
-mul-values c = search rules
+offset_bounds-values-row : tie.Need-offset_bounds-values-row invariant-loop-i decreases-loop-i
+offset_bounds-values-row c = search rules
 
-element-write-values : tie.Need-element-write-values invariant_loop decreases_loop
-element-write-values c = search rules
+bounds-values-row : tie.Need-bounds-values-row invariant-loop-i decreases-loop-i
+bounds-values-row c = search rules
 
-add-i : tie.Need-overflow-add-i invariant_loop decreases_loop
-add-i c = search rules
+overflow_add-i : tie.Need-overflow_add-i invariant-loop-i decreases-loop-i
+overflow_add-i c = search rules
 
-loop-less : tie.Need-loop-smaller invariant_loop decreases_loop
-loop-less c = search rules
+loop-i-smaller : tie.Need-loop-i-smaller invariant-loop-i decreases-loop-i
+loop-i-smaller c = search rules
 
-loop-again : tie.Need-loop-preserved invariant_loop decreases_loop
-loop-again c =
-    let l = c.before.before.before.before.before in
-    (omega arith, lane_more _ _ l.loop.i (square l) l.loop.invariant.1 c.square-distance.ensures)
+loop-i-preserved : tie.Need-loop-i-preserved invariant-loop-i decreases-loop-i
+loop-i-preserved c =
+    let l = c in
+    (omega arith, lane_more _ _ l.loop-i.i (square l.before.before.before.before.before) l.loop-i.invariant.1 c.square_distance.ensures)
 
-returns : tie.Need-returns invariant_loop decreases_loop
+returns : tie.Need-returns invariant-loop-i decreases-loop-i
 returns c =
-    let l = c.before in
-    let a = l.before.args in
-    let all : l.loop.i ≡ a.n = omega arith in
-    l.loop.invariant.1 ∙ ap (λ (i : ℕ). filled_row a.values.now a.p i (square l)) all
+    let l = c in
+    let a = l.args in
+    let all : l.loop-i.i ≡ a.n = omega arith in
+    l.loop-i.invariant.1 ∙ ap (λ (i : ℕ). filled_row a.values.now a.p i (square l.before)) all
 
 pub fill_squares_spec : {M : Type 1} → statement M
 fill_squares_spec =
     tie.close
     (tie.spec
-    invariant_loop
-    decreases_loop
-    mul-row
-    loop-holds
-    mul-square-distance
-    element-copy-out-square-distance
-    mul-square-distance-2
-    element-copy-out-square-distance-2
-    mul-square-distance-3
-    element-copy-out-square-distance-3
-    square-distance-requires
-    add-values
-    mul-values
-    element-write-values
-    add-i
-    loop-less
-    loop-again
+    invariant-loop-i
+    decreases-loop-i
+    overflow_mul-row
+    loop-i-init
+    offset_bounds-px-i
+    bounds-px-i
+    offset_bounds-py-i
+    bounds-py-i
+    offset_bounds-pz-i
+    bounds-pz-i
+    square_distance-requires
+    overflow_add-values
+    offset_bounds-values-row
+    bounds-values-row
+    overflow_add-i
+    loop-i-smaller
+    loop-i-preserved
     returns)

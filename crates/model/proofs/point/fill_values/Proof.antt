@@ -10,72 +10,72 @@ use native.Mathlib.Omega.{arith}
 use Rattle.model.proofs.point.fill_values.Statement.{statement}
 use Rattle.model.proofs.point.fill_values.Tie as tie
 
-abbrev invariant_loop : tie.invariant_loop
-invariant_loop words numbers count x y z values₀ p₀ values p = (p ≤ count) × (values ≡ written (flat_of words numbers) count x y z values₀ p)
+abbrev invariant-loop-p : tie.invariant-loop-p
+invariant-loop-p words numbers count x y z values₀ p₀ values p = (p ≤ count) × (values ≡ written (flat_of words numbers) count x y z values₀ p)
 
-abbrev decreases_loop : tie.decreases_loop
-decreases_loop words numbers count x y z values₀ p₀ values p = count - p
+abbrev decreases-loop-p : tie.decreases-loop-p
+decreases-loop-p words numbers count x y z values₀ p₀ values p = count - p
 
-abbrev layout : tie.At-loop invariant_loop decreases_loop → Flat
+abbrev layout : tie.At-loop-p invariant-loop-p decreases-loop-p → Flat
 layout c =
-    let a = c.before.before.args in
+    let a = c.args in
     flat_of a.words.now a.numbers.now
 
-same_long : (c : tie.At-loop invariant_loop decreases_loop) → length c.loop.values ≡ length c.before.before.args.values.now
+same_long : (c : tie.At-loop-p invariant-loop-p decreases-loop-p) → length c.loop-p.values ≡ length c.args.values.now
 same_long c =
-    let a = c.before.before.args in
-    ap length c.loop.invariant.1
-    ∙ length_written (layout c) a.count a.x a.y a.z a.values.now c.loop.p (omega arith)
+    let a = c.args in
+    ap length c.loop-p.invariant.1
+    ∙ length_written (layout c) a.count a.x a.y a.z a.values.now c.loop-p.p (omega arith)
 
-loop-holds : tie.Need-loop-init invariant_loop decreases_loop
+loop-p-init : tie.Need-loop-p-init invariant-loop-p decreases-loop-p
 unfolding values_to
-loop-holds c = (omega arith, refl)
+loop-p-init c = (omega arith, refl)
 
-part-value-requires : tie.Need-part-value-requires invariant_loop decreases_loop
-part-value-requires c κs = (omega arith, omega (arith, same_long c.before.before))
+part_value-value-requires : tie.Need-part_value-value-requires invariant-loop-p decreases-loop-p
+part_value-value-requires c κs = (omega arith, omega (arith, same_long c.before))
 
-mul-values : tie.Need-overflow-mul-values invariant_loop decreases_loop
-mul-values c = omega arith
+offset_bounds-values-p : tie.Need-offset_bounds-values-p invariant-loop-p decreases-loop-p
+offset_bounds-values-p c = omega arith
 
-slice-write-values : tie.Need-slice-write-values invariant_loop decreases_loop
-slice-write-values c = omega (arith, same_long c.before.before.before)
+bounds-values-p : tie.Need-bounds-values-p invariant-loop-p decreases-loop-p
+bounds-values-p c = omega (arith, same_long c.before.before)
 
-add-p : tie.Need-overflow-add-p invariant_loop decreases_loop
-add-p c = search rules
+overflow_add-p : tie.Need-overflow_add-p invariant-loop-p decreases-loop-p
+overflow_add-p c = search rules
 
-loop-less : tie.Need-loop-smaller invariant_loop decreases_loop
-loop-less c = search rules
+loop-p-smaller : tie.Need-loop-p-smaller invariant-loop-p decreases-loop-p
+loop-p-smaller c = search rules
 
-loop-again : tie.Need-loop-preserved invariant_loop decreases_loop
-loop-again c =
-    let s = c.before.before.before in
-    let a = s.before.before.args in (
+loop-p-preserved : tie.Need-loop-p-preserved invariant-loop-p decreases-loop-p
+loop-p-preserved c =
+    let s = c in
+    let a = s.args in (
       omega arith,
-      written_more (layout s) a.count a.x a.y a.z a.values.now s.loop.p (omega arith) (omega arith) s.loop.invariant.1 c.part_value.ensures,
+      written_more (layout s.before.before) a.count a.x a.y a.z a.values.now s.loop-p.p (omega arith) (omega arith) s.loop-p.invariant.1 c.part_value-value.ensures,
     )
 
-same_length : tie.Need-same-length invariant_loop decreases_loop
-same_length c = same_long c.before
+shape_of-values : tie.Need-shape_of-values invariant-loop-p decreases-loop-p
+shape_of-values c = same_long c.before
 
-returns : tie.Need-returns invariant_loop decreases_loop
+returns : tie.Need-returns invariant-loop-p decreases-loop-p
 returns c =
-    let s = c.before in
-    let a = s.before.before.args in
-    let last : s.loop.p ≡ a.count = omega arith in
-    (s.loop.invariant.1 ∙ ap (written (layout s) a.count a.x a.y a.z a.values.now) last, s.before.before.requires.1)
+    let s = c in
+    let a = s.args in
+    let last : s.loop-p.p ≡ a.count = omega arith in
+    (s.loop-p.invariant.1 ∙ ap (written (layout s.before) a.count a.x a.y a.z a.values.now) last, s.requires.1)
 
 pub fill_values_spec : {M : Type 1} → statement M
 fill_values_spec =
     tie.close
     (tie.spec
-    invariant_loop
-    decreases_loop
-    loop-holds
-    part-value-requires
-    mul-values
-    slice-write-values
-    add-p
-    loop-less
-    loop-again
-    same_length
+    invariant-loop-p
+    decreases-loop-p
+    loop-p-init
+    part_value-value-requires
+    offset_bounds-values-p
+    bounds-values-p
+    overflow_add-p
+    loop-p-smaller
+    loop-p-preserved
+    shape_of-values
     returns)

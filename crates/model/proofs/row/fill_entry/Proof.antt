@@ -7,171 +7,171 @@ use native.Mathlib.Omega.{arith}
 use Rattle.model.proofs.row.fill_entry.Statement.{statement}
 use Rattle.model.proofs.row.fill_entry.Tie as tie
 
-abbrev given : tie.After-v → tie.Start
+abbrev given : tie.After-v-1 → tie.Start
 given p = p.before.before.before
 
-cast-a : tie.Need-overflow-cast-a
-cast-a c = search rules
+overflow_cast-a : tie.Need-overflow_cast-a
+overflow_cast-a c = search rules
 
-cast-b : tie.Need-overflow-cast-b
-cast-b c = search rules
+overflow_cast-b : tie.Need-overflow_cast-b
+overflow_cast-b c = search rules
 
-fill-constant-requires : tie.Need-fill-constant-requires
-fill-constant-requires c κs = search rules
+fill_constant-requires : tie.Need-fill_constant-requires
+fill_constant-requires c κs = search rules
 
-returns : tie.Need-returns
-returns c =
+returns-then-code-eq-CONSTANT : tie.Need-returns-then-code-eq-CONSTANT
+returns-then-code-eq-CONSTANT c =
     let a = (given c.before.before.before).args in
     let e = a.entry in
     row_constant a.p e.vector e.number e.first e.second a.px.now a.py.now a.pz.now a.n a.values.now e.code
-    c.before.before.if1.true
-    c.fill-constant.ensures
+    c.if-code-eq-CONSTANT.true
+    c.fill_constant.ensures
 
-fill-sphere-requires : tie.Need-fill-sphere-requires
-fill-sphere-requires c κs = search rules
+fill_sphere-requires : tie.Need-fill_sphere-requires
+fill_sphere-requires c κs = search rules
 
-returns-2 : tie.Need-returns-2
-returns-2 c =
+returns-then-code-eq-SPHERE : tie.Need-returns-then-code-eq-SPHERE
+returns-then-code-eq-SPHERE c =
     let a = (given c.before.before.before.before).args in
     let e = a.entry in
     row_sphere a.p e.vector e.number e.first e.second a.px.now a.py.now a.pz.now a.n a.values.now e.code
-    c.before.before.if2.true
-    c.fill-sphere.ensures
+    c.if-code-eq-SPHERE.true
+    c.fill_sphere.ensures
 
-fill-plane-requires : tie.Need-fill-plane-requires
-fill-plane-requires c κs = search rules
+fill_plane-requires : tie.Need-fill_plane-requires
+fill_plane-requires c κs = search rules
 
-returns-3 : tie.Need-returns-3
-returns-3 c =
+returns-then-code-eq-PLANE : tie.Need-returns-then-code-eq-PLANE
+returns-then-code-eq-PLANE c =
     let a = (given c.before.before.before.before.before).args in
     let e = a.entry in
     row_plane a.p e.vector e.number e.first e.second a.px.now a.py.now a.pz.now a.n a.values.now e.code
-    c.before.before.if3.true
-    c.fill-plane.ensures
+    c.if-code-eq-PLANE.true
+    c.fill_plane.ensures
 
-fill-constant-requires-2 : tie.Need-fill-constant-requires-2
-fill-constant-requires-2 c κs = search rules
+fill_constant-requires-then-a-p : tie.Need-fill_constant-requires-then-a-p
+fill_constant-requires-then-a-p c κs = search rules
 
-returns-4 : tie.Need-returns-4
-returns-4 c =
+returns-then-a-p : tie.Need-returns-then-a-p
+returns-then-a-p c =
     let a = (given c.before.before.before.before.before.before).args in
     let e = a.entry in
     row_first_late a.p e.vector e.number e.first e.second a.px.now a.py.now a.pz.now a.n a.values.now e.code
-    (omega arith) c.before.before.if4.true
-    c.fill-constant2.ensures
+    (omega arith) c.if-a-p.true
+    c.fill_constant-then-a-p.ensures
 
-fill-neg-requires : tie.Need-fill-neg-requires
-fill-neg-requires c κs = search rules
+fill_neg-requires : tie.Need-fill_neg-requires
+fill_neg-requires c κs = search rules
 
-returns-5 : tie.Need-returns-5
-returns-5 c =
+returns-then-code-eq-NEG : tie.Need-returns-then-code-eq-NEG
+returns-then-code-eq-NEG c =
     let a = (given c.before.before.before.before.before.before.before).args in
     let e = a.entry in
     row_neg a.p e.vector e.number e.first e.second a.px.now a.py.now a.pz.now a.n a.values.now e.code
-    c.before.before.if5.true c.before.before.before.if4.false
-    c.fill-neg.ensures
+    c.if-code-eq-NEG.true c.if-a-p.false
+    c.fill_neg.ensures
 
-fill-constant-requires-3 : tie.Need-fill-constant-requires-3
-fill-constant-requires-3 c κs = search rules
+fill_constant-requires-then-b-p : tie.Need-fill_constant-requires-then-b-p
+fill_constant-requires-then-b-p c κs = search rules
 
-returns-6 : tie.Need-returns-6
-returns-6 c =
+returns-then-b-p : tie.Need-returns-then-b-p
+returns-then-b-p c =
     let a = (given c.before.before.before.before.before.before.before.before).args in
     let e = a.entry in
     row_second_late a.p e.vector e.number e.first e.second a.px.now a.py.now a.pz.now a.n a.values.now e.code
-    (omega arith) c.before.before.before.if5.false c.before.before.if6.true
-    c.fill-constant3.ensures
+    (omega arith) c.if-code-eq-NEG.false c.if-b-p.true
+    c.fill_constant-then-b-p.ensures
 
-fill-min-requires : tie.Need-fill-min-requires
-fill-min-requires c κs = search rules
+fill_min-requires : tie.Need-fill_min-requires
+fill_min-requires c κs = search rules
 
-returns-7 : tie.Need-returns-7
-returns-7 c =
+returns-then-code-eq-MIN : tie.Need-returns-then-code-eq-MIN
+returns-then-code-eq-MIN c =
     let a = (given c.before.before.before.before.before.before.before.before.before).args in
     let e = a.entry in
     row_min a.p e.vector e.number e.first e.second a.px.now a.py.now a.pz.now a.n a.values.now e.code
-    c.before.before.if7.true c.before.before.before.before.before.if4.false c.before.before.before.if6.false
-    c.fill-min.ensures
+    c.if-code-eq-MIN.true c.if-a-p.false c.if-b-p.false
+    c.fill_min.ensures
 
-fill-max-requires : tie.Need-fill-max-requires
-fill-max-requires c κs = search rules
+fill_max-requires : tie.Need-fill_max-requires
+fill_max-requires c κs = search rules
 
-returns-8 : tie.Need-returns-8
-returns-8 c =
+returns-then-code-eq-MAX : tie.Need-returns-then-code-eq-MAX
+returns-then-code-eq-MAX c =
     let a = (given c.before.before.before.before.before.before.before.before.before.before).args in
     let e = a.entry in
     row_max a.p e.vector e.number e.first e.second a.px.now a.py.now a.pz.now a.n a.values.now e.code
-    c.before.before.if8.true c.before.before.before.before.before.before.if4.false c.before.before.before.before.if6.false
-    c.fill-max.ensures
+    c.if-code-eq-MAX.true c.if-a-p.false c.if-b-p.false
+    c.fill_max.ensures
 
-fill-add-requires : tie.Need-fill-add-requires
-fill-add-requires c κs = search rules
+fill_add-requires : tie.Need-fill_add-requires
+fill_add-requires c κs = search rules
 
-returns-9 : tie.Need-returns-9
-returns-9 c =
+returns-then-code-eq-ADD : tie.Need-returns-then-code-eq-ADD
+returns-then-code-eq-ADD c =
     let a = (given c.before.before.before.before.before.before.before.before.before.before.before).args in
     let e = a.entry in
     row_add a.p e.vector e.number e.first e.second a.px.now a.py.now a.pz.now a.n a.values.now e.code
-    c.before.before.if9.true c.before.before.before.before.before.before.before.if4.false
-    c.before.before.before.before.before.if6.false
-    c.fill-add.ensures
+    c.if-code-eq-ADD.true c.if-a-p.false
+    c.if-b-p.false
+    c.fill_add.ensures
 
-fill-sub-requires : tie.Need-fill-sub-requires
-fill-sub-requires c κs = search rules
+fill_sub-requires : tie.Need-fill_sub-requires
+fill_sub-requires c κs = search rules
 
-returns-10 : tie.Need-returns-10
-returns-10 c =
+returns-then-code-eq-SUB : tie.Need-returns-then-code-eq-SUB
+returns-then-code-eq-SUB c =
     let a = (given c.before.before.before.before.before.before.before.before.before.before.before.before).args in
     let e = a.entry in
     row_sub a.p e.vector e.number e.first e.second a.px.now a.py.now a.pz.now a.n a.values.now e.code
-    c.before.before.if10.true c.before.before.before.before.before.before.before.before.if4.false
-    c.before.before.before.before.before.before.if6.false
-    c.fill-sub.ensures
+    c.if-code-eq-SUB.true c.if-a-p.false
+    c.if-b-p.false
+    c.fill_sub.ensures
 
-fill-constant-requires-4 : tie.Need-fill-constant-requires-4
-fill-constant-requires-4 c κs = search rules
+fill_constant-requires-2 : tie.Need-fill_constant-requires-2
+fill_constant-requires-2 c κs = search rules
 
-returns-11 : tie.Need-returns-11
-returns-11 c =
+returns : tie.Need-returns
+returns c =
     let a = (given c.before.before.before.before.before.before.before.before.before.before.before.before).args in
     let e = a.entry in
     row_other a.p e.vector e.number e.first e.second a.px.now a.py.now a.pz.now a.n a.values.now e.code
     (beyond _
-    c.before.before.before.before.before.before.before.before.before.before.before.if1.false
-    c.before.before.before.before.before.before.before.before.before.before.if2.false
-    c.before.before.before.before.before.before.before.before.before.if3.false
-    c.before.before.before.before.before.if7.false
-    c.before.before.before.before.if8.false
-    c.before.before.before.if9.false
-    c.before.before.if10.false
-    c.before.before.before.before.before.before.before.if5.false)
-    c.fill-constant4.ensures
+    c.if-code-eq-CONSTANT.false
+    c.if-code-eq-SPHERE.false
+    c.if-code-eq-PLANE.false
+    c.if-code-eq-MIN.false
+    c.if-code-eq-MAX.false
+    c.if-code-eq-ADD.false
+    c.if-code-eq-SUB.false
+    c.if-code-eq-NEG.false)
+    c.fill_constant-2.ensures
 
 pub fill_entry_spec : {M : Type 1} → statement M
 fill_entry_spec =
     tie.close
     (tie.spec
-    cast-a
-    cast-b
-    fill-constant-requires
-    returns
-    fill-sphere-requires
-    returns-2
-    fill-plane-requires
-    returns-3
-    fill-constant-requires-2
-    returns-4
-    fill-neg-requires
-    returns-5
-    fill-constant-requires-3
-    returns-6
-    fill-min-requires
-    returns-7
-    fill-max-requires
-    returns-8
-    fill-add-requires
-    returns-9
-    fill-sub-requires
-    returns-10
-    fill-constant-requires-4
-    returns-11)
+    overflow_cast-a
+    overflow_cast-b
+    fill_constant-requires
+    returns-then-code-eq-CONSTANT
+    fill_sphere-requires
+    returns-then-code-eq-SPHERE
+    fill_plane-requires
+    returns-then-code-eq-PLANE
+    fill_constant-requires-then-a-p
+    returns-then-a-p
+    fill_neg-requires
+    returns-then-code-eq-NEG
+    fill_constant-requires-then-b-p
+    returns-then-b-p
+    fill_min-requires
+    returns-then-code-eq-MIN
+    fill_max-requires
+    returns-then-code-eq-MAX
+    fill_add-requires
+    returns-then-code-eq-ADD
+    fill_sub-requires
+    returns-then-code-eq-SUB
+    fill_constant-requires-2
+    returns)

@@ -11,54 +11,63 @@ use native.Mathlib.Omega.{arith}
 use Rattle.model.proofs.row.fill_parts.Statement.{statement}
 use Rattle.model.proofs.row.fill_parts.Tie as tie
 
-abbrev invariant_loop : tie.invariant_loop
-invariant_loop words numbers count px py pz n values₀ p₀ values p = (p ≤ count) × (values ≡ rows_to (flat_of words numbers) n px py pz values₀ p)
+abbrev invariant-loop-p : tie.invariant-loop-p
+invariant-loop-p words numbers count px py pz n values₀ p₀ values p = (p ≤ count) × (values ≡ rows_to (flat_of words numbers) n px py pz values₀ p)
 
-abbrev decreases_loop : tie.decreases_loop
-decreases_loop words numbers count px py pz n values₀ p₀ values p = count - p
+abbrev decreases-loop-p : tie.decreases-loop-p
+decreases-loop-p words numbers count px py pz n values₀ p₀ values p = count - p
 
-abbrev layout : tie.At-loop invariant_loop decreases_loop → Flat
+abbrev layout : tie.At-loop-p invariant-loop-p decreases-loop-p → Flat
 layout c =
-    let a = c.before.args in
+    let a = c.args in
     flat_of a.words.now a.numbers.now
 
-loop-holds : tie.Need-loop-init invariant_loop decreases_loop
+loop-p-init : tie.Need-loop-p-init invariant-loop-p decreases-loop-p
 unfolding rows_to
-loop-holds c = (omega arith, refl)
+loop-p-init c = (omega arith, refl)
 
-entry-at-requires : tie.Need-entry-at-requires invariant_loop decreases_loop
-entry-at-requires c κs = search rules
+entry_at-entry-requires : tie.Need-entry_at-entry-requires invariant-loop-p decreases-loop-p
+entry_at-entry-requires c κs = search rules
 
-fill-entry-requires : tie.Need-fill-entry-requires invariant_loop decreases_loop
-fill-entry-requires c κs = search rules
+fill_entry-requires : tie.Need-fill_entry-requires invariant-loop-p decreases-loop-p
+fill_entry-requires c κs = search rules
 
-add-p : tie.Need-overflow-add-p invariant_loop decreases_loop
-add-p c = search rules
+overflow_add-p : tie.Need-overflow_add-p invariant-loop-p decreases-loop-p
+overflow_add-p c = search rules
 
-loop-less : tie.Need-loop-smaller invariant_loop decreases_loop
-loop-less c = search rules
+loop-p-smaller : tie.Need-loop-p-smaller invariant-loop-p decreases-loop-p
+loop-p-smaller c = search rules
 
-loop-again : tie.Need-loop-preserved invariant_loop decreases_loop
-loop-again c =
-    let l = c.before.before.before.before in
-    let a = l.before.args in
-    let part = ap (λ q. filled_row l.loop.values l.loop.p a.n
-    (λ k. part_value q (get_or a.px.now k past) (get_or a.py.now k past) (get_or a.pz.now k past) (lane l.loop.values k l.loop.p)))
-    c.before.before.entry_at.ensures in (
+loop-p-preserved : tie.Need-loop-p-preserved invariant-loop-p decreases-loop-p
+loop-p-preserved c =
+    let l = c in
+    let a = l.args in
+    let part = ap (λ q. filled_row l.loop-p.values l.loop-p.p a.n
+    (λ k. part_value q (get_or a.px.now k past) (get_or a.py.now k past) (get_or a.pz.now k past) (lane l.loop-p.values k l.loop-p.p)))
+    c.entry_at-entry.ensures in (
       omega arith,
-      rows_more (layout l) a.n a.px.now a.py.now a.pz.now a.values.now l.loop.p l.loop.invariant.1 (c.fill-entry.ensures ∙ part),
+      rows_more (layout l.before.before.before.before) a.n a.px.now a.py.now a.pz.now a.values.now l.loop-p.p l.loop-p.invariant.1 (c.fill_entry.ensures ∙ part),
     )
 
-returns : tie.Need-returns invariant_loop decreases_loop
+returns : tie.Need-returns invariant-loop-p decreases-loop-p
 returns c =
-    let s = c.before in
-    let a = s.before.args in
-    let all : s.loop.p ≡ a.count = omega arith in
-    s.loop.invariant.1
-    ∙ ap (rows_to (layout s) a.n a.px.now a.py.now a.pz.now a.values.now) all
-    ∙ all_rows (layout s) a.n a.px.now a.py.now a.pz.now a.values.now (omega arith) a.count
+    let s = c in
+    let a = s.args in
+    let all : s.loop-p.p ≡ a.count = omega arith in
+    s.loop-p.invariant.1
+    ∙ ap (rows_to (layout s.before) a.n a.px.now a.py.now a.pz.now a.values.now) all
+    ∙ all_rows (layout s.before) a.n a.px.now a.py.now a.pz.now a.values.now (omega arith) a.count
 
 pub fill_parts_spec : {M : Type 1} → statement M
 fill_parts_spec =
     tie.close
-    (tie.spec invariant_loop decreases_loop loop-holds entry-at-requires fill-entry-requires add-p loop-less loop-again returns)
+    (tie.spec
+    invariant-loop-p
+    decreases-loop-p
+    loop-p-init
+    entry_at-entry-requires
+    fill_entry-requires
+    overflow_add-p
+    loop-p-smaller
+    loop-p-preserved
+    returns)

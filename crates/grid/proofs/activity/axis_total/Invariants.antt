@@ -1,0 +1,12 @@
+-- `axis_total` meets its contract: the nodes passed so far are counted.
+use Rattle.std.proofs.Common.{◌≡◌, ◌-◌, ◌≤◌, refl, ap, ◌∙◌, arith, rules}
+use Rattle.lists.specs.Sums.{sum_from}
+use Rattle.grid.specs.Inner.Activity.{axis_total}
+use Rattle.grid.proofs.ActiveCounts.{axis_count_le, total_few, axis_total_more}
+use Rattle.grid.proofs.activity.axis_total.Given as goal
+
+abbrev pub invariant-loop-i : goal.invariant-loop-i
+invariant-loop-i l = (l.i ≤ l.nodes) × (l.total ≡ axis_total l.least l.most l.s l.n l.i)
+
+abbrev pub decreases-loop-i : goal.decreases-loop-i
+decreases-loop-i l = l.nodes - l.i

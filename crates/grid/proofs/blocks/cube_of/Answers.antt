@@ -1,0 +1,13 @@
+-- `cube_of` meets its contract: the cube of 65 fits.
+use Rattle.std.proofs.Common.{refl, arith}
+use Rattle.grid.proofs.BlockLaws.{square_le, cube_le}
+use Rattle.grid.proofs.blocks.cube_of.Goals as goal
+
+pub overflow_mul-result : goal.overflow_mul-result
+overflow_mul-result c = omega (arith, square_le 65 c.args.n c.requires)
+
+pub overflow_mul-result-2 : goal.overflow_mul-result-2
+overflow_mul-result-2 c = omega (arith, cube_le 65 c.args.n c.requires)
+
+pub returns : goal.returns
+returns c = refl

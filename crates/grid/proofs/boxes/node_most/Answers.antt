@@ -1,0 +1,8 @@
+-- `node_most` meets its contract.
+use Rattle.grid.specs.Boxes.{node_most}
+use Rattle.std.proofs.Common.{rules}
+use Rattle.grid.proofs.boxes.node_most.Goals as goal
+
+pub returns : goal.returns
+unfolding node_most
+returns c = cc

@@ -1,0 +1,10 @@
+-- `mark` meets its contract: the rows passed so far are marked.
+use Rattle.std.proofs.Common.{◌≡◌, ℕ, ◌+◌, ◌-◌, ◌*◌, ◌≤◌, length, refl, ◌∙◌, subst, mul-le-mul, zero-mul, arith, rules}
+use Rattle.grid.specs.Inner.CornerMarks.{Marks}
+use Rattle.grid.proofs.needed.mark.Given as goal
+
+abbrev pub invariant-loop-row : goal.invariant-loop-row
+invariant-loop-row l = (l.row ≤ l.n * l.n) × (length l.list ≡ length l.initial.list) × Marks l.n l.kinds (l.row * l.n) l.list
+
+abbrev pub decreases-loop-row : goal.decreases-loop-row
+decreases-loop-row l = l.n * l.n - l.row
