@@ -62,8 +62,8 @@ looped t = t.before.before.before.before
 abbrev evaluated : tie.After-evaluate_from-turn invariant-loop-done decreases-loop-done → Memory
 evaluated t =
     let l = (looped t).loop-done in
-    let last = t.evaluate_from-turn.new.1.1.1.1.1.1 in
-    memory_of l.kinds l.numbers l.places last.0 last.1.0
+    let last = t.evaluate_from-turn.new in
+    memory_of l.kinds l.numbers l.places last.store last.corners
 
 made : (t : tie.After-evaluate_from-turn invariant-loop-done decreases-loop-done) → let l = looped t in
     TurnMade (start l).args.task.grid (plan l) l.loop-done.at (memory l) (evaluated t) t.evaluate_from-turn.result
@@ -98,12 +98,12 @@ ran d = d.before.before.before.before.before.before.before.before
 
 abbrev decided : tie.After-slice_known-in-Children-4-1 invariant-loop-done decreases-loop-done → Memory
 decided d =
-    let last = (ran d).run_children-done.new.1.1.1.1.1 in
-    memory_of last.0 last.1.0 last.1.1.0 last.1.1.1.0 (evaluated (turned (came (ran d)))).corners-1
+    let last = (ran d).run_children-done.new in
+    memory_of last.kinds last.numbers last.places last.store (evaluated (turned (came (ran d)))).corners
 
 kept : (d : tie.After-slice_known-in-Children-4-1 invariant-loop-done decreases-loop-done) → let m = decided d in let a = (start (looped (turned (came (ran d))))).args in
-    (length m.kinds ≡ length a.kinds-1.now) × (length m.numbers ≡ length a.numbers-1.now) × (length m.places ≡ length a.places-1.now)
-    × (length m.store ≡ length a.store-1.now) × (length m.corners ≡ length a.corners-1.now)
+    (length m.kinds ≡ length a.kinds.now) × (length m.numbers ≡ length a.numbers.now) × (length m.places ≡ length a.places.now)
+    × (length m.store ≡ length a.store.now) × (length m.corners ≡ length a.corners.now)
 kept d =
     let k = came (ran d) in
     let l = (looped (turned k)).loop-done in
@@ -246,7 +246,7 @@ clear_corners-requires c κs =
     let d = c in
     let t = turned (came (ran d.before.before)) in
     let l = (looped t).loop-done in
-    let long : length (decided d.before.before).corners-1 ≡ length l.corners = (kept d.before.before).4 ∙ sym l.invariant.5 in
+    let long : length (decided d.before.before).corners ≡ length l.corners = (kept d.before.before).4 ∙ sym l.invariant.5 in
     (omega (arith, l.invariant.10), λ i behind. (made t).past i (omega (arith, l.invariant.9)) ∙ l.invariant.11 i behind)
 
 overflow_add-node : tie.Need-overflow_add-node invariant-loop-done decreases-loop-done
