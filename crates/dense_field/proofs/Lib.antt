@@ -8,4 +8,3 @@ pub mod PadLaws
 pub mod OctetLaws
 pub mod RunLaws
 pub mod SampleLaws
-pub mod WalkerApart

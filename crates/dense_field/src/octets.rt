@@ -107,7 +107,7 @@ pub fn cell_corners(origin: Vec3, cell: f64, n: Vec3i, c: Vec3i) -> CellCorners
 // The values at the corners of a cell that is inside.
 fn octet(n: Vec3i, values: &[f64], c: Vec3i) -> [f64; 8]
     requires lent { Lent n (length values.now) }
-    requires i_bound { (c.i + 1 < n.i) × (c.j + 1 < n.j) × (c.k + 1 < n.k) }
+    requires inside { (c.i + 1 < n.i) × (c.j + 1 < n.j) × (c.k + 1 < n.k) }
     ensures { result ≡ octet_of n values.now c }
 {
     let row = n.i;

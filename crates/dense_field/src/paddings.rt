@@ -13,7 +13,7 @@ use geometry::Vec3i;
 // One row of an inner slab: all of an outer row, and the two ends of an inner one.
 fn pad_row(n: Vec3i, value: f64, values: &mut [f64], j: usize, k: usize)
     requires lent { Lent n (length values.old) }
-    requires j_lt_j { (j < n.j) × (0 < k) × (k + 1 < n.k) }
+    requires inside { (j < n.j) × (0 < k) × (k + 1 < n.k) }
     ensures { values.new
         ≡ filled (k * (n.i * n.j) + j * n.i) n.i (padded_at n value values.old) values.old }
 {
@@ -34,7 +34,7 @@ fn pad_row(n: Vec3i, value: f64, values: &mut [f64], j: usize, k: usize)
 // One slab: all of the first and of the last, and the others row by row.
 fn pad_slab(n: Vec3i, value: f64, values: &mut [f64], k: usize)
     requires lent { Lent n (length values.old) }
-    requires k_lt_k { k < n.k }
+    requires inside { k < n.k }
     ensures { values.new ≡ filled (k * (n.i * n.j)) (n.i * n.j) (padded_at n value values.old) values.old }
 {
     let slab = n.i * n.j;

@@ -52,7 +52,7 @@ fn blend_values(n: Vec3i, factor: f64, old: &[f64], new: &mut [f64], at: usize, 
 // One row of an inner slab: the inner points of an inner row are blended, the others stay.
 fn smooth_row(n: Vec3i, factor: f64, old: &[f64], new: &mut [f64], j: usize, k: usize)
     requires lent { Lent n (length old.now) × (length new.old ≡ length old.now) }
-    requires j_lt_j { (j < n.j) × (0 < k) × (k + 1 < n.k) }
+    requires inside { (j < n.j) × (0 < k) × (k + 1 < n.k) }
     ensures { new.new ≡ filled (k * (n.i * n.j) + j * n.i) n.i (smoothed_at n factor old.now) new.old }
 {
     let row = n.i;
@@ -77,7 +77,7 @@ fn smooth_row(n: Vec3i, factor: f64, old: &[f64], new: &mut [f64], j: usize, k: 
 // One slab: the first and the last stay, and the others are smoothed row by row.
 fn smooth_slab(n: Vec3i, factor: f64, old: &[f64], new: &mut [f64], k: usize)
     requires lent { Lent n (length old.now) × (length new.old ≡ length old.now) }
-    requires k_lt_k { k < n.k }
+    requires inside { k < n.k }
     ensures { new.new ≡ filled (k * (n.i * n.j)) (n.i * n.j) (smoothed_at n factor old.now) new.old }
 {
     let slab = n.i * n.j;

@@ -6,26 +6,32 @@ use Rattle.dense_field.proofs.counts.values_refused.Statement.{statement}
 use Rattle.dense_field.proofs.counts.values_refused.Tie as tie
 
 -- what the first test has shown
-grid : (c : tie.Else1) → let n = c.before.before.args.n in Accepted n.i n.j n.k
-grid c = accepted _ _ _ (sym c.before.dimensions-refused.ensures ∙ c.if1.false)
+grid : (c : tie.Else-dimensions_refused) → let n = c.args.n in Accepted n.i n.j n.k
+grid c = accepted _ _ _ (sym c.dimensions_refused.ensures ∙ c.if-dimensions_refused.false)
 
-dimensions-refused-requires : tie.Need-dimensions-refused-requires
-dimensions-refused-requires c κs = search rules
+dimensions_refused-requires : tie.Need-dimensions_refused-requires
+dimensions_refused-requires c κs = search rules
+
+returns-then-dimensions_refused : tie.Need-returns-then-dimensions_refused
+unfolding values_refused
+returns-then-dimensions_refused c = simp (sym c.dimensions_refused.ensures ∙ c.if-dimensions_refused.true)
+
+overflow_mul-result : tie.Need-overflow_mul-result
+overflow_mul-result c = omega (arith, area_le (grid c.before))
+
+overflow_mul-result-2 : tie.Need-overflow_mul-result-2
+overflow_mul-result-2 c = omega (arith, (grid c.before.before).few)
 
 returns : tie.Need-returns
 unfolding values_refused
-returns c = simp (sym c.before.dimensions-refused.ensures ∙ c.if1.true)
-
-mul-result : tie.Need-overflow-mul-result
-mul-result c = omega (arith, area_le (grid c.before))
-
-mul-result-2 : tie.Need-overflow-mul-result-2
-mul-result-2 c = omega (arith, (grid c.before.before).few)
-
-returns-2 : tie.Need-returns-2
-unfolding values_refused
-returns-2 c = simp (sym c.before.before.before.dimensions-refused.ensures ∙ c.before.before.if1.false)
+returns c = simp (sym c.dimensions_refused.ensures ∙ c.if-dimensions_refused.false)
 
 pub values_refused_spec : {M : Type 1} → statement M
 values_refused_spec =
-    tie.close (tie.spec dimensions-refused-requires returns mul-result mul-result-2 returns-2)
+    tie.close
+    (tie.spec
+    dimensions_refused-requires
+    returns-then-dimensions_refused
+    overflow_mul-result
+    overflow_mul-result-2
+    returns)

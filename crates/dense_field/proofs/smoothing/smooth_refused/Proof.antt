@@ -6,36 +6,42 @@ use Rattle.dense_field.specs.Smoothing.{smooth_refused}
 use Rattle.dense_field.proofs.smoothing.smooth_refused.Statement.{statement}
 use Rattle.dense_field.proofs.smoothing.smooth_refused.Tie as tie
 
-dimensions-refused-requires : tie.Need-dimensions-refused-requires
-dimensions-refused-requires c κs = search rules
+dimensions_refused-requires : tie.Need-dimensions_refused-requires
+dimensions_refused-requires c κs = search rules
 
-returns : tie.Need-returns
+returns-then-dimensions_refused : tie.Need-returns-then-dimensions_refused
 unfolding smooth_refused values_refused
-returns c = simp (sym c.before.dimensions-refused.ensures ∙ c.if1.true)
+returns-then-dimensions_refused c = simp (sym c.dimensions_refused.ensures ∙ c.if-dimensions_refused.true)
 
 -- what the first test has shown
-grid : (c : tie.Else1) → let n = c.before.before.args.n in Accepted n.i n.j n.k
-grid c = accepted _ _ _ (sym c.before.dimensions-refused.ensures ∙ c.if1.false)
+grid : (c : tie.Else-dimensions_refused) → let n = c.args.n in Accepted n.i n.j n.k
+grid c = accepted _ _ _ (sym c.dimensions_refused.ensures ∙ c.if-dimensions_refused.false)
 
-mul-points : tie.Need-overflow-mul-points
-mul-points c = omega (arith, area_le (grid c.before))
+overflow_mul-points : tie.Need-overflow_mul-points
+overflow_mul-points c = omega (arith, area_le (grid c.before))
 
-mul-points-2 : tie.Need-overflow-mul-points-2
-mul-points-2 c = omega (arith, (grid c.before.before).few)
+overflow_mul-points-2 : tie.Need-overflow_mul-points-2
+overflow_mul-points-2 c = omega (arith, (grid c.before.before).few)
 
-returns-2 : tie.Need-returns-2
+returns-then-values-points : tie.Need-returns-then-values-points
 unfolding smooth_refused values_refused
-returns-2 c =
-    let e = c.before.before.before in
-    simp (sym e.before.dimensions-refused.ensures ∙ e.if1.false, ne_eqb _ _ c.if2.true)
+returns-then-values-points c =
+    let e = c in
+    simp (sym e.dimensions_refused.ensures ∙ e.if-dimensions_refused.false, ne_eqb _ _ c.if-values-points.true)
 
-returns-3 : tie.Need-returns-3
+returns : tie.Need-returns
 unfolding smooth_refused values_refused scratch_needed
-returns-3 c =
-    let e = c.before.before.before in
-    simp (sym e.before.dimensions-refused.ensures ∙ e.if1.false, eq-eqb _ _ c.if2.false)
+returns c =
+    let e = c in
+    simp (sym e.dimensions_refused.ensures ∙ e.if-dimensions_refused.false, eq-eqb _ _ c.if-values-points.false)
 
 pub smooth_refused_spec : {M : Type 1} → statement M
 smooth_refused_spec =
     tie.close
-    (tie.spec dimensions-refused-requires returns mul-points mul-points-2 returns-2 returns-3)
+    (tie.spec
+    dimensions_refused-requires
+    returns-then-dimensions_refused
+    overflow_mul-points
+    overflow_mul-points-2
+    returns-then-values-points
+    returns)

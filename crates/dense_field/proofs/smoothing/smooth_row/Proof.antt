@@ -11,148 +11,148 @@ use Rattle.dense_field.proofs.smoothing.smooth_row.Tie as tie
 within_of : (s : tie.Start) → Within s.args.n s.args.j s.args.k (length s.args.old.now)
 within_of s = within s.requires.0.0 s.args.j s.args.k (omega arith) (omega arith)
 
-mul_at : tie.Need-overflow-mul-at
-mul_at c = omega (arith, within_of c.before.before.before)
+overflow_mul-at : tie.Need-overflow_mul-at
+overflow_mul-at c = omega (arith, within_of c.before.before.before)
 
-mul-at-2 : tie.Need-overflow-mul-at-2
-mul-at-2 c = omega (arith, within_of c.before.before.before)
+overflow_mul-at-2 : tie.Need-overflow_mul-at-2
+overflow_mul-at-2 c = omega (arith, within_of c.before.before.before)
 
-mul-at-3 : tie.Need-overflow-mul-at-3
-mul-at-3 c = omega (arith, within_of c.before.before.before)
+overflow_mul-at-3 : tie.Need-overflow_mul-at-3
+overflow_mul-at-3 c = omega (arith, within_of c.before.before.before)
 
-add_at : tie.Need-overflow-add-at
-add_at c = omega (arith, within_of c.before.before.before)
+overflow_add-at : tie.Need-overflow_add-at
+overflow_add-at c = omega (arith, within_of c.before.before.before)
 
-copy-values-requires : tie.Need-copy-values-requires
-copy-values-requires c κs =
+copy_values-requires : tie.Need-copy_values-requires
+copy_values-requires c κs =
     let w = within_of c.before.before.before.before.before in
     (omega arith, omega arith)
 
-same_length : tie.Need-same-length
-same_length c = search rules
+shape_of-new-then-row-lt3 : tie.Need-shape_of-new-then-row-lt3
+shape_of-new-then-row-lt3 c = search rules
 
-returns : tie.Need-returns
-returns c =
-    let a = c.before.before.before.before.before.before.before.before.args in
-    thin_row a.n a.factor a.old.now a.j a.k a.new.now (omega arith) (omega arith) c.before.before.copy-values.ensures
+returns-then-row-lt3 : tie.Need-returns-then-row-lt3
+returns-then-row-lt3 c =
+    let a = c.args in
+    thin_row a.n a.factor a.old.now a.j a.k a.new.now (omega arith) (omega arith) c.copy_values.ensures
 
-copy-values-requires-2 : tie.Need-copy-values-requires-2
-copy-values-requires-2 c κs =
+copy_values-requires-then-j-eq0 : tie.Need-copy_values-requires-then-j-eq0
+copy_values-requires-then-j-eq0 c κs =
     let w = within_of c.before.before.before.before.before.before in
     (omega arith, omega arith)
 
-same-length-2 : tie.Need-same-length-2
-same-length-2 c = search rules
+shape_of-new-then-j-eq0 : tie.Need-shape_of-new-then-j-eq0
+shape_of-new-then-j-eq0 c = search rules
 
-returns-2 : tie.Need-returns-2
-returns-2 c =
-    let a = c.before.before.before.before.before.before.before.before.before.args in
+returns-then-j-eq0 : tie.Need-returns-then-j-eq0
+returns-then-j-eq0 c =
+    let a = c.args in
     edge_row a.n a.factor a.old.now a.j a.k a.new.now (omega arith) (edge_first _ _ (omega arith))
-    c.before.before.copy-values2.ensures
+    c.copy_values-then-j-eq0.ensures
 
-add-if3 : tie.Need-overflow-add-if3
-add-if3 c = search rules
+overflow_add-j : tie.Need-overflow_add-j
+overflow_add-j c = search rules
 
-copy-values-requires-3 : tie.Need-copy-values-requires-3
-copy-values-requires-3 c κs =
+copy_values-requires-then-j-n : tie.Need-copy_values-requires-then-j-n
+copy_values-requires-then-j-n c κs =
     let w = within_of c.before.before.before.before.before.before.before.before in
     (omega arith, omega arith)
 
-same-length-3 : tie.Need-same-length-3
-same-length-3 c = search rules
+shape_of-new-then-j-n : tie.Need-shape_of-new-then-j-n
+shape_of-new-then-j-n c = search rules
 
-returns-3 : tie.Need-returns-3
-returns-3 c =
-    let a = c.before.before.before.before.before.before.before.before.before.before.before.args in
-    edge_row a.n a.factor a.old.now a.j a.k a.new.now (omega arith) (edge_last _ _ (omega arith)) c.before.before.copy-values3.ensures
+returns-then-j-n : tie.Need-returns-then-j-n
+returns-then-j-n c =
+    let a = c.args in
+    edge_row a.n a.factor a.old.now a.j a.k a.new.now (omega arith) (edge_last _ _ (omega arith)) c.copy_values-then-j-n.ensures
 
-copy-values-requires-4 : tie.Need-copy-values-requires-4
-copy-values-requires-4 c κs =
+copy_values-requires-2 : tie.Need-copy_values-requires-2
+copy_values-requires-2 c κs =
     let w = within_of c.before.before.before.before.before.before.before.before in
     (omega arith, omega arith)
 
-add-blend-values : tie.Need-overflow-add-blend-values
-add-blend-values c = omega (arith, within_of c.before.before.before.before.before.before.before.before.before.before.before.before)
+overflow_add-at-2 : tie.Need-overflow_add-at-2
+overflow_add-at-2 c = omega (arith, within_of c.before.before.before.before.before.before.before.before.before.before.before.before)
 
-sub-blend-values : tie.Need-overflow-sub-blend-values
-sub-blend-values c = search rules
+overflow_sub-row : tie.Need-overflow_sub-row
+overflow_sub-row c = search rules
 
-blend-values-requires : tie.Need-blend-values-requires
-blend-values-requires c κs =
-    let s = c.before.before.before.before.before.before.before.before.before.before.before.before in
-    let w = within_of s in
+blend_values-requires : tie.Need-blend_values-requires
+blend_values-requires c κs =
+    let s = c in
+    let w = within_of s.before.before.before.before.before.before.before.before.before.before.before.before in
     let e = s.requires.0.1 in
     record {
       x_above = omega arith;
       rows = w.rows;
       before = omega (arith, mul-le-mul_right (s.args.n.i * s.args.n.j) s.requires.1.1);
       behind = omega (arith, mul-le-mul_right (s.args.n.i * s.args.n.j) s.requires.1.2);
-      same = ap length c.before.before.before.copy-values4.ensures ∙ filled_length _ _ _ _ ∙ e;
+      same = ap length c.copy_values-2.ensures ∙ filled_length _ _ _ _ ∙ e;
     }
 
-add-copy-values : tie.Need-overflow-add-copy-values
-add-copy-values c =
-    let s = c.before.before.before.before.before.before.before.before.before.before.before.before.before.before.before.before in
-    omega (arith, within_of s)
+overflow_add-at-3 : tie.Need-overflow_add-at-3
+overflow_add-at-3 c =
+    let s = c in
+    omega (arith, within_of s.before.before.before.before.before.before.before.before.before.before.before.before.before.before.before.before)
 
-sub-copy-values : tie.Need-overflow-sub-copy-values
-sub-copy-values c = search rules
+overflow_sub-row-2 : tie.Need-overflow_sub-row-2
+overflow_sub-row-2 c = search rules
 
-add-copy-values-2 : tie.Need-overflow-add-copy-values-2
-add-copy-values-2 c =
-    let s = c.before.before.before.before.before.before.before.before.before.before.before.before.before.before.before.before in
-    omega (arith, within_of s)
+overflow_add-at-4 : tie.Need-overflow_add-at-4
+overflow_add-at-4 c =
+    let s = c in
+    omega (arith, within_of s.before.before.before.before.before.before.before.before.before.before.before.before.before.before.before.before)
 
-copy-values-requires-5 : tie.Need-copy-values-requires-5
-copy-values-requires-5 c κs =
-    let s = c.before.before.before.before.before.before.before.before.before.before.before.before.before.before.before.before in
-    let w = within_of s in
+copy_values-requires-3 : tie.Need-copy_values-requires-3
+copy_values-requires-3 c κs =
+    let s = c in
+    let w = within_of s.before.before.before.before.before.before.before.before.before.before.before.before.before.before.before.before in
     let e = s.requires.0.1 in
     let long =
-    ap length c.before.before.before.blend-values.ensures
+    ap length c.blend_values.ensures
     ∙ filled_length _ _ _ _
-    ∙ ap length c.before.before.before.before.before.before.before.copy-values4.ensures
+    ∙ ap length c.copy_values-2.ensures
     ∙ filled_length _ _ _ _
     ∙ e in
     (omega arith, long)
 
-same-length-4 : tie.Need-same-length-4
-same-length-4 c = search rules
+shape_of-new : tie.Need-shape_of-new
+shape_of-new c = search rules
 
-returns-4 : tie.Need-returns-4
-returns-4 c =
-    let copied = c.before.before.before.before.before.before.before.before.before.before in
-    let a = copied.before.before.before.before.before.before.before.before.before.args in
+returns : tie.Need-returns
+returns c =
+    let copied = c in
+    let a = copied.args in
     inner_row a.n a.factor a.old.now a.j a.k a.new.now (omega arith) (omega arith) (omega arith) (omega arith) (omega arith)
-    copied.copy-values4.ensures
-    c.before.before.before.before.before.before.blend-values.ensures
-    c.before.before.copy-values5.ensures
+    copied.copy_values-2.ensures
+    c.blend_values.ensures
+    c.copy_values-3.ensures
 
 pub smooth_row_spec : {M : Type 1} → statement M
 smooth_row_spec =
     tie.close
     (tie.spec
-    mul_at
-    mul-at-2
-    mul-at-3
-    add_at
-    copy-values-requires
-    same_length
-    returns
-    copy-values-requires-2
-    same-length-2
-    returns-2
-    add-if3
-    copy-values-requires-3
-    same-length-3
-    returns-3
-    copy-values-requires-4
-    add-blend-values
-    sub-blend-values
-    blend-values-requires
-    add-copy-values
-    sub-copy-values
-    add-copy-values-2
-    copy-values-requires-5
-    same-length-4
-    returns-4)
+    overflow_mul-at
+    overflow_mul-at-2
+    overflow_mul-at-3
+    overflow_add-at
+    copy_values-requires
+    shape_of-new-then-row-lt3
+    returns-then-row-lt3
+    copy_values-requires-then-j-eq0
+    shape_of-new-then-j-eq0
+    returns-then-j-eq0
+    overflow_add-j
+    copy_values-requires-then-j-n
+    shape_of-new-then-j-n
+    returns-then-j-n
+    copy_values-requires-2
+    overflow_add-at-2
+    overflow_sub-row
+    blend_values-requires
+    overflow_add-at-3
+    overflow_sub-row-2
+    overflow_add-at-4
+    copy_values-requires-3
+    shape_of-new
+    returns)

@@ -16,96 +16,96 @@ use Rattle.input.proofs.causes.open_refusal.Tie as tie
 abbrev Passed : tie.Start → (passed : ℕ) → Type 0
 Passed s passed = refusal_of s.args.input s.args.lengths ≡ first_of (drop passed (open_causes s.args.input s.args.lengths)) By None
 
-past_one : (c : tie.Else1) → Passed c.before.before.before 1
+past_one : (c : tie.Else-cause_one) → Passed c.before.before.before 1
 unfolding refusal_of open_causes
-past_one c = first_passed By None _ 1 _ (sym c.before.cause-one.ensures ∙ c.if1.false)
+past_one c = first_passed By None _ 1 _ (sym c.cause_one.ensures ∙ c.if-cause_one.false)
 
-past_two : (c : tie.Else2) → Passed c.before.before.before.before.before 2
+past_two : (c : tie.Else-cause_two) → Passed c.before.before.before.before.before 2
 unfolding refusal_of open_causes
-past_two c = past_one c.before.before ∙ first_passed By None _ 2 _ (sym c.before.cause-two.ensures ∙ c.if2.false)
+past_two c = past_one c.before.before ∙ first_passed By None _ 2 _ (sym c.cause_two.ensures ∙ c.if-cause_two.false)
 
-past_three : (c : tie.Else3) → Passed c.before.before.before.before.before.before.before 3
+past_three : (c : tie.Else-cause_three) → Passed c.before.before.before.before.before.before.before.before 3
 unfolding refusal_of open_causes
-past_three c = past_two c.before.before ∙ first_passed By None _ 3 _ (sym c.before.cause-three.ensures ∙ c.if3.false)
+past_three c = past_two c.before.before.before ∙ first_passed By None _ 3 _ (sym c.cause_three.ensures ∙ c.if-cause_three.false)
 
-past_four : (c : tie.Else4) → Passed c.before.before.before.before.before.before.before.before.before 4
+past_four : (c : tie.Else-cause_four) → Passed c.before.before.before.before.before.before.before.before.before.before.before 4
 unfolding refusal_of open_causes
-past_four c = past_three c.before.before ∙ first_passed By None _ 4 _ (sym c.before.cause-four.ensures ∙ c.if4.false)
+past_four c = past_three c.before.before.before ∙ first_passed By None _ 4 _ (sym c.cause_four.ensures ∙ c.if-cause_four.false)
 
-past_five : (c : tie.Else5) → Passed c.before.before.before.before.before.before.before.before.before.before.before 5
+past_five : (c : tie.Else-cause_five) → Passed c.before.before.before.before.before.before.before.before.before.before.before.before.before 5
 unfolding refusal_of open_causes
-past_five c = past_four c.before.before ∙ first_passed By None _ 5 _ (sym c.before.cause-five.ensures ∙ c.if5.false)
+past_five c = past_four c.before.before ∙ first_passed By None _ 5 _ (sym c.cause_five.ensures ∙ c.if-cause_five.false)
 
-past_six : (c : tie.Else6) → Passed c.before.before.before.before.before.before.before.before.before.before.before.before.before 6
+past_six : (c : tie.Else-cause_six) → Passed c.before.before.before.before.before.before.before.before.before.before.before.before.before.before.before 6
 unfolding refusal_of open_causes
-past_six c = past_five c.before.before ∙ first_passed By None _ 6 _ (sym c.before.cause-six.ensures ∙ c.if6.false)
+past_six c = past_five c.before.before ∙ first_passed By None _ 6 _ (sym c.cause_six.ensures ∙ c.if-cause_six.false)
 
 -- ---- what is left
 
-cause-one-requires : tie.Need-cause-one-requires
-cause-one-requires c κs = search rules
+cause_one-requires : tie.Need-cause_one-requires
+cause_one-requires c κs = search rules
 
-returns : tie.Need-returns
+returns-then-cause_one : tie.Need-returns-then-cause_one
 unfolding refusal_of open_causes
-returns c = sym (first_applies By None _ 1 _ (sym c.before.cause-one.ensures ∙ c.if1.true))
+returns-then-cause_one c = sym (first_applies By None _ 1 _ (sym c.cause_one.ensures ∙ c.if-cause_one.true))
 
-cause-two-requires : tie.Need-cause-two-requires
-cause-two-requires c κs = search rules
+cause_two-requires : tie.Need-cause_two-requires
+cause_two-requires c κs = search rules
 
-returns-2 : tie.Need-returns-2
+returns-then-cause_two : tie.Need-returns-then-cause_two
 unfolding refusal_of open_causes
-returns-2 c = sym (past_one c.before.before ∙ first_applies By None _ 2 _ (sym c.before.cause-two.ensures ∙ c.if2.true))
+returns-then-cause_two c = sym (past_one c.before.before ∙ first_applies By None _ 2 _ (sym c.cause_two.ensures ∙ c.if-cause_two.true))
 
 -- the sizes are blocks'
-blocks : (c : tie.Else2) → refused_by_two c.before.before.before.before.before.args.input.grid ≡ false
-blocks c = sym c.before.cause-two.ensures ∙ c.if2.false
+blocks : (c : tie.Else-cause_two) → refused_by_two c.args.input.grid ≡ false
+blocks c = sym c.cause_two.ensures ∙ c.if-cause_two.false
 
-cause-three-requires : tie.Need-cause-three-requires
-cause-three-requires c κs = search rules
+cause_three-requires : tie.Need-cause_three-requires
+cause_three-requires c κs = search rules
 
-returns-3 : tie.Need-returns-3
+returns-then-cause_three : tie.Need-returns-then-cause_three
 unfolding refusal_of open_causes
-returns-3 c = sym (past_two c.before.before ∙ first_applies By None _ 3 _ (sym c.before.cause-three.ensures ∙ c.if3.true))
+returns-then-cause_three c = sym (past_two c.before.before.before ∙ first_applies By None _ 3 _ (sym c.cause_three.ensures ∙ c.if-cause_three.true))
 
-cause-four-requires : tie.Need-cause-four-requires
-cause-four-requires c κs = search rules
+cause_four-requires : tie.Need-cause_four-requires
+cause_four-requires c κs = search rules
 
-returns-4 : tie.Need-returns-4
+returns-then-cause_four : tie.Need-returns-then-cause_four
 unfolding refusal_of open_causes
-returns-4 c = sym (past_three c.before.before ∙ first_applies By None _ 4 _ (sym c.before.cause-four.ensures ∙ c.if4.true))
+returns-then-cause_four c = sym (past_three c.before.before.before ∙ first_applies By None _ 4 _ (sym c.cause_four.ensures ∙ c.if-cause_four.true))
 
-cause-five-requires : tie.Need-cause-five-requires
-cause-five-requires c κs = blocks c.before.before.before.before
+cause_five-requires : tie.Need-cause_five-requires
+cause_five-requires c κs = blocks c.before.before.before.before.before.before
 
-returns-5 : tie.Need-returns-5
+returns-then-cause_five : tie.Need-returns-then-cause_five
 unfolding refusal_of open_causes
-returns-5 c = sym (past_four c.before.before ∙ first_applies By None _ 5 _ (sym c.before.cause-five.ensures ∙ c.if5.true))
+returns-then-cause_five c = sym (past_four c.before.before ∙ first_applies By None _ 5 _ (sym c.cause_five.ensures ∙ c.if-cause_five.true))
 
-cause-six-requires : tie.Need-cause-six-requires
-cause-six-requires c κs = (blocks c.before.before.before.before.before.before, sym c.before.cause-five.ensures ∙ c.if5.false)
+cause_six-requires : tie.Need-cause_six-requires
+cause_six-requires c κs = (blocks c.before.before.before.before.before.before.before.before, sym c.cause_five.ensures ∙ c.if-cause_five.false)
 
-returns-6 : tie.Need-returns-6
+returns-then-cause_six : tie.Need-returns-then-cause_six
 unfolding refusal_of open_causes
-returns-6 c = sym (past_five c.before.before ∙ first_applies By None _ 6 _ (sym c.before.cause-six.ensures ∙ c.if6.true))
+returns-then-cause_six c = sym (past_five c.before.before ∙ first_applies By None _ 6 _ (sym c.cause_six.ensures ∙ c.if-cause_six.true))
 
-returns-7 : tie.Need-returns-7
+returns : tie.Need-returns
 unfolding open_causes first_of
-returns-7 c = sym (past_six c)
+returns c = sym (past_six c)
 
 pub open_refusal_spec : {M : Type 1} → statement M
 open_refusal_spec =
     tie.close
     (tie.spec
-    cause-one-requires
-    returns
-    cause-two-requires
-    returns-2
-    cause-three-requires
-    returns-3
-    cause-four-requires
-    returns-4
-    cause-five-requires
-    returns-5
-    cause-six-requires
-    returns-6
-    returns-7)
+    cause_one-requires
+    returns-then-cause_one
+    cause_two-requires
+    returns-then-cause_two
+    cause_three-requires
+    returns-then-cause_three
+    cause_four-requires
+    returns-then-cause_four
+    cause_five-requires
+    returns-then-cause_five
+    cause_six-requires
+    returns-then-cause_six
+    returns)

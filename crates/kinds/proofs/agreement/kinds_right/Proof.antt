@@ -12,66 +12,66 @@ use Rattle.kinds.proofs.agreement.kinds_right.Tie as tie
 
 -- ---- where the number of all children is known
 
-abbrev start : tie.After-child-total → tie.Start
+abbrev start : tie.After-child_total-total → tie.Start
 start p = p.before.before
 
-abbrev total : tie.After-child-total → ℕ
-total p = p.child-total.result
+abbrev total : tie.After-child_total-total → ℕ
+total p = p.child_total-total.result
 
 -- they are inside the slice
-long : (p : tie.After-child-total) → total p ≤ length (start p).args.kinds.now
-long p = omega (arith, p.child-total.ensures, (start p).requires.2)
+long : (p : tie.After-child_total-total) → total p ≤ length (start p).args.kinds.now
+long p = omega (arith, p.child_total-total.ensures, (start p).requires.2)
 
 -- ---- what is left
 
-child-total-requires : tie.Need-child-total-requires
-child-total-requires c κs = (c.before.requires.0, c.before.requires.1)
+child_total-total-requires : tie.Need-child_total-total-requires
+child_total-total-requires c κs = (c.requires.0, c.requires.1)
 
-slice-aggregate-nodes-right : tie.Need-slice-aggregate-nodes-right
-slice-aggregate-nodes-right c = sym (length-take-le (total c.before) _ (long c.before))
+slice_bounds-nodes_right-end : tie.Need-slice_bounds-nodes_right-end
+slice_bounds-nodes_right-end c = sym (length-take-le (total c) _ (long c))
 
-nodes-right-requires : tie.Need-nodes-right-requires
-nodes-right-requires c κs =
-    let p = c.before in
-    ((start p).requires.0, (start p).requires.1, length-take-le (total p) _ (long p) ∙ p.child-total.ensures)
+nodes_right-requires : tie.Need-nodes_right-requires
+nodes_right-requires c κs =
+    let p = c in
+    ((start p).requires.0, (start p).requires.1, length-take-le (total p) _ (long p) ∙ p.child_total-total.ensures)
+
+returns-then-not-nodes_right : tie.Need-returns-then-not-nodes_right
+returns-then-not-nodes_right c =
+    let p = c in
+    let a = (start p.before.before).args in
+    all_differ a.g (total p.before.before) p.child_total-total.ensures a.kinds.now (long p.before.before) (sym c.nodes_right.ensures ∙ not-true _ c.if-not-nodes_right.true-raw)
+
+slice_bounds-all_zero-count : tie.Need-slice_bounds-all_zero-count
+slice_bounds-all_zero-count c = let within = long c.before.before in search rules
+
+slice_bounds-all_zero-start : tie.Need-slice_bounds-all_zero-start
+slice_bounds-all_zero-start c = let within = long c.before.before in search rules
+
+slice_bounds-all_zero-end : tie.Need-slice_bounds-all_zero-end
+slice_bounds-all_zero-end c = search rules
+
+all_zero-requires : tie.Need-all_zero-requires
+all_zero-requires c κs = search rules
 
 returns : tie.Need-returns
 returns c =
-    let p = c.before.before.before in
-    let a = (start p).args in
-    all_differ a.g (total p) p.child-total.ensures a.kinds.now (long p) (sym c.before.nodes_right.ensures ∙ not-true _ c.if1.true)
-
-sub-all-zero : tie.Need-overflow-sub-all-zero
-sub-all-zero c = let within = long c.before.before.before in search rules
-
-part-all-zero-start : tie.Need-slice-bounds-all-zero-start
-part-all-zero-start c = let within = long c.before.before.before in search rules
-
-part-all-zero-end : tie.Need-slice-bounds-all-zero-end
-part-all-zero-end c = search rules
-
-all-zero-requires : tie.Need-all-zero-requires
-all-zero-requires c κs = search rules
-
-returns-2 : tie.Need-returns-2
-returns-2 c =
-    let tested = c.before.before in
-    let p = tested.before.before.before in
-    let a = (start p).args in
-    c.all-zero.ensures
-    ∙ all_agree a.g (total p) p.child-total.ensures a.kinds.now (long p)
-    (sym tested.before.nodes_right.ensures ∙ not-false _ tested.if1.false)
+    let tested = c in
+    let p = tested in
+    let a = (start p.before.before.before.before).args in
+    c.all_zero.ensures
+    ∙ all_agree a.g (total p.before.before.before.before) p.child_total-total.ensures a.kinds.now (long p.before.before.before.before)
+    (sym tested.nodes_right.ensures ∙ not-false _ tested.if-not-nodes_right.false-raw)
 
 pub kinds_right_spec : {M : Type 1} → statement M
 kinds_right_spec =
     tie.close
     (tie.spec
-    child-total-requires
-    slice-aggregate-nodes-right
-    nodes-right-requires
-    returns
-    sub-all-zero
-    part-all-zero-start
-    part-all-zero-end
-    all-zero-requires
-    returns-2)
+    child_total-total-requires
+    slice_bounds-nodes_right-end
+    nodes_right-requires
+    returns-then-not-nodes_right
+    slice_bounds-all_zero-count
+    slice_bounds-all_zero-start
+    slice_bounds-all_zero-end
+    all_zero-requires
+    returns)

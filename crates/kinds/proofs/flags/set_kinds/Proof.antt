@@ -11,67 +11,67 @@ use Rattle.kinds.proofs.flags.set_kinds.Tie as tie
 
 -- ---- where the number of all children is known
 
-abbrev start : tie.After-child-total → tie.Start
+abbrev start : tie.After-child_total-total → tie.Start
 start p = p.before.before
 
-abbrev total : tie.After-child-total → ℕ
-total p = p.child-total.result
+abbrev total : tie.After-child_total-total → ℕ
+total p = p.child_total-total.result
 
 -- they are inside the slice
-long : (p : tie.After-child-total) → total p ≤ length (start p).args.kinds.now
-long p = omega (arith, p.child-total.ensures, (start p).requires.2)
+long : (p : tie.After-child_total-total) → total p ≤ length (start p).args.kinds.now
+long p = omega (arith, p.child_total-total.ensures, (start p).requires.2)
 
 -- ---- what is left
 
-child-total-requires : tie.Need-child-total-requires
-child-total-requires c κs = (c.before.requires.0, c.before.requires.1)
+child_total-total-requires : tie.Need-child_total-total-requires
+child_total-total-requires c κs = (c.requires.0, c.requires.1)
 
-slice-relend-prefix-set-nodes : tie.Need-slice-relend-prefix-set-nodes
-slice-relend-prefix-set-nodes c = omega (arith, long c)
+slice_bounds-set_nodes-end : tie.Need-slice_bounds-set_nodes-end
+slice_bounds-set_nodes-end c = omega (arith, long c)
 
-slice-aggregate-set-nodes : tie.Need-slice-aggregate-set-nodes
-slice-aggregate-set-nodes c = sym (length-take-le (total c.before) _ (long c.before))
+slice_bounds-set_nodes-end-2 : tie.Need-slice_bounds-set_nodes-end-2
+slice_bounds-set_nodes-end-2 c = sym (length-take-le (total c.before) _ (long c.before))
 
-set-nodes-requires : tie.Need-set-nodes-requires
-set-nodes-requires c κs =
-    let p = c.before in
-    ((start p).requires.0, (start p).requires.1, length-take-le (total p) _ (long p) ∙ p.child-total.ensures)
+set_nodes-requires : tie.Need-set_nodes-requires
+set_nodes-requires c κs =
+    let p = c in
+    ((start p.before).requires.0, (start p.before).requires.1, length-take-le (total p.before) _ (long p.before) ∙ p.child_total-total.ensures)
 
-sub-zero-bytes : tie.Need-overflow-sub-zero-bytes
-sub-zero-bytes c = let within = long c.before.before.before.before in search rules
+slice_bounds-zero_bytes-count : tie.Need-slice_bounds-zero_bytes-count
+slice_bounds-zero_bytes-count c = let within = long c.before.before.before.before in search rules
 
-part-zero-bytes-start : tie.Need-slice-bounds-zero-bytes-start
-part-zero-bytes-start c = let within = long c.before.before.before.before in search rules
+slice_bounds-zero_bytes-start : tie.Need-slice_bounds-zero_bytes-start
+slice_bounds-zero_bytes-start c = let within = long c.before.before.before.before in search rules
 
-part-zero-bytes-end : tie.Need-slice-bounds-zero-bytes-end
-part-zero-bytes-end c = search rules
+slice_bounds-zero_bytes-end : tie.Need-slice_bounds-zero_bytes-end
+slice_bounds-zero_bytes-end c = search rules
 
-zero-bytes-requires : tie.Need-zero-bytes-requires
-zero-bytes-requires c κs = search rules
+zero_bytes-requires : tie.Need-zero_bytes-requires
+zero_bytes-requires c κs = search rules
 
-same_length : tie.Need-same-length
-same_length c = search rules
+shape_of-kinds : tie.Need-shape_of-kinds
+shape_of-kinds c = search rules
 
 returns : tie.Need-returns
 returns c =
-    let zeroed = c.before.before in
-    let set = zeroed.before.before.before.before in
-    let p = set.before.before in
-    let a = (start p).args in
-    all_set a.g (total p) p.child-total.ensures a.kinds.now set.set-nodes.new.1.0 zeroed.zero-bytes.new.0 (long p)
-    set.set-nodes.ensures refl zeroed.zero-bytes.ensures
+    let zeroed = c in
+    let set = zeroed in
+    let p = set in
+    let a = (start p.before.before.before.before.before.before.before.before).args in
+    all_set a.g (total p.before.before.before.before.before.before.before.before) p.child_total-total.ensures a.kinds.now set.set_nodes.new.kinds zeroed.zero_bytes.new.bytes (long p.before.before.before.before.before.before.before.before)
+    set.set_nodes.ensures refl zeroed.zero_bytes.ensures
 
 pub set_kinds_spec : {M : Type 1} → statement M
 set_kinds_spec =
     tie.close
     (tie.spec
-    child-total-requires
-    slice-relend-prefix-set-nodes
-    slice-aggregate-set-nodes
-    set-nodes-requires
-    sub-zero-bytes
-    part-zero-bytes-start
-    part-zero-bytes-end
-    zero-bytes-requires
-    same_length
+    child_total-total-requires
+    slice_bounds-set_nodes-end
+    slice_bounds-set_nodes-end-2
+    set_nodes-requires
+    slice_bounds-zero_bytes-count
+    slice_bounds-zero_bytes-start
+    slice_bounds-zero_bytes-end
+    zero_bytes-requires
+    shape_of-kinds
     returns)

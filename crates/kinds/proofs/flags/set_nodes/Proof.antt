@@ -14,125 +14,125 @@ use borrow.Author.Rules.{rules}
 use Rattle.kinds.proofs.flags.set_nodes.Statement.{statement}
 use Rattle.kinds.proofs.flags.set_nodes.Tie as tie
 
-abbrev invariant_loop : tie.invariant_loop
-invariant_loop g kinds₀ nodes children v₀ kinds v = (v ≤ nodes) × (kinds ≡ flagged (in_rows children (active g)) (v * children) kinds₀)
+abbrev invariant-loop-v : tie.invariant-loop-v
+invariant-loop-v g kinds₀ nodes children v₀ kinds v = (v ≤ nodes) × (kinds ≡ flagged (in_rows children (active g)) (v * children) kinds₀)
 
-abbrev decreases_loop : tie.decreases_loop
-decreases_loop g kinds₀ nodes children v₀ kinds v = nodes - v
+abbrev decreases-loop-v : tie.decreases-loop-v
+decreases-loop-v g kinds₀ nodes children v₀ kinds v = nodes - v
 
 -- ---- where the numbers of nodes and of a node's children are known
 
-abbrev start : tie.After-cube-of invariant_loop decreases_loop → tie.Start invariant_loop decreases_loop
+abbrev start : tie.After-cube_of-children invariant-loop-v decreases-loop-v → tie.Start invariant-loop-v decreases-loop-v
 start p = p.before.before.before.before
 
-whole : (p : tie.After-cube-of invariant_loop decreases_loop) → length (start p).args.kinds.now ≡ p.before.before.node-total.result * p.cube-of.result
-whole p = of_nodes (start p).args.g (start p).args.kinds.now p.before.before.node-total.ensures p.cube-of.ensures (start p).requires.2
+whole : (p : tie.After-cube_of-children invariant-loop-v decreases-loop-v) → length (start p).args.kinds.now ≡ p.node_total-nodes.result * p.cube_of-children.result
+whole p = of_nodes (start p).args.g (start p).args.kinds.now p.node_total-nodes.ensures p.cube_of-children.ensures (start p).requires.2
 
 -- ---- in the loop
 
 -- the kinds keep their length
-kept : (l : tie.At-loop invariant_loop decreases_loop) → length l.loop.kinds ≡ length (start l.before).args.kinds.now
+kept : (l : tie.At-loop-v invariant-loop-v decreases-loop-v) → length l.loop-v.kinds ≡ length (start l.before).args.kinds.now
 kept l =
-    let p = l.before in
-    kept_length p.cube-of.result p.before.before.node-total.result l.loop.v (start p).args.kinds.now (whole p) (active (start p).args.g)
-    l.loop.invariant.1 l.loop.invariant.0
+    let p = l in
+    kept_length p.cube_of-children.result p.node_total-nodes.result l.loop-v.v (start p.before).args.kinds.now (whole p.before) (active (start p.before).args.g)
+    l.loop-v.invariant.1 l.loop-v.invariant.0
 
 -- the node's part ends inside them
-inside : (t : tie.In-loop invariant_loop decreases_loop) → let p = t.before.before in
-    t.before.loop.v * p.cube-of.result + p.cube-of.result ≤ length (start p).args.kinds.now
+inside : (t : tie.In-loop-v invariant-loop-v decreases-loop-v) → let p = t in
+    t.loop-v.v * p.cube_of-children.result + p.cube_of-children.result ≤ length (start p.before.before).args.kinds.now
 inside t =
-    let p = t.before.before in
-    part_inside p.cube-of.result p.before.before.node-total.result t.before.loop.v (start p).args.kinds.now (whole p) (omega arith)
+    let p = t in
+    part_inside p.cube_of-children.result p.node_total-nodes.result t.loop-v.v (start p.before.before).args.kinds.now (whole p.before.before) (omega arith)
 
 -- ---- what is left
 
-node-total-requires : tie.Need-node-total-requires invariant_loop decreases_loop
-node-total-requires c κs = omega (arith, nodes_few _ (few_nodes _ c.before.requires.1))
+node_total-nodes-requires : tie.Need-node_total-nodes-requires invariant-loop-v decreases-loop-v
+node_total-nodes-requires c κs = omega (arith, nodes_few _ (few_nodes _ c.requires.1))
 
-cast-cube-of : tie.Need-overflow-cast-cube-of invariant_loop decreases_loop
-cast-cube-of c = search rules
+overflow_cast-g : tie.Need-overflow_cast-g invariant-loop-v decreases-loop-v
+overflow_cast-g c = search rules
 
-cube-of-requires : tie.Need-cube-of-requires invariant_loop decreases_loop
-cube-of-requires c κs = omega (arith, (inner_block _ c.before.before.before.requires.0).most)
+cube_of-children-requires : tie.Need-cube_of-children-requires invariant-loop-v decreases-loop-v
+cube_of-children-requires c κs = omega (arith, (inner_block _ c.requires.0).most)
 
-loop-holds : tie.Need-loop-init invariant_loop decreases_loop
-loop-holds c =
+loop-v-init : tie.Need-loop-v-init invariant-loop-v decreases-loop-v
+loop-v-init c =
     let a = (start c).args in
-    (search rules, rw (zero-mul c.cube-of.result) (flagged_none (in_rows c.cube-of.result (active a.g)) a.kinds.now))
+    (search rules, rw (zero-mul c.cube_of-children.result) (flagged_none (in_rows c.cube_of-children.result (active a.g)) a.kinds.now))
 
-mul-from : tie.Need-overflow-mul-from invariant_loop decreases_loop
-mul-from c = omega (arith, inside c)
+overflow_mul-from : tie.Need-overflow_mul-from invariant-loop-v decreases-loop-v
+overflow_mul-from c = omega (arith, inside c)
 
-add-to : tie.Need-overflow-add-to invariant_loop decreases_loop
-add-to c = omega (arith, inside c)
+overflow_add-to : tie.Need-overflow_add-to invariant-loop-v decreases-loop-v
+overflow_add-to c = omega (arith, inside c)
 
-sub-set-node : tie.Need-overflow-sub-set-node invariant_loop decreases_loop
-sub-set-node c = search rules
+slice_bounds-set_node-count : tie.Need-slice_bounds-set_node-count invariant-loop-v decreases-loop-v
+slice_bounds-set_node-count c = search rules
 
-part-set-node-start : tie.Need-slice-bounds-set-node-start invariant_loop decreases_loop
-part-set-node-start c = search rules
+slice_bounds-set_node-start : tie.Need-slice_bounds-set_node-start invariant-loop-v decreases-loop-v
+slice_bounds-set_node-start c = search rules
 
-part-set-node-end : tie.Need-slice-bounds-set-node-end invariant_loop decreases_loop
-part-set-node-end c = omega (arith, inside c, kept c.before)
+slice_bounds-set_node-end : tie.Need-slice_bounds-set_node-end invariant-loop-v decreases-loop-v
+slice_bounds-set_node-end c = omega (arith, inside c, kept c.before)
 
-set-node-requires : tie.Need-set-node-requires invariant_loop decreases_loop
-set-node-requires c κs =
-    let l = c.before.before in
-    let p = l.before in
-    let s = start p in (
-      (inner_block _ s.pre.0).most,
-      next_long p.cube-of.result p.before.before.node-total.result l.loop.v s.args.kinds.now (whole p) (active s.args.g)
-          l.loop.invariant.1 (omega arith)
-          ∙ p.cube-of.ensures,
+set_node-requires : tie.Need-set_node-requires invariant-loop-v decreases-loop-v
+set_node-requires c κs =
+    let l = c in
+    let p = l in
+    let s = start p.before.before.before in (
+      (inner_block _ s.requires.0).most,
+      next_long p.cube_of-children.result p.node_total-nodes.result l.loop-v.v s.args.kinds.now (whole p.before.before.before) (active s.args.g)
+          l.loop-v.invariant.1 (omega arith)
+          ∙ p.cube_of-children.ensures,
     )
 
-add-v : tie.Need-overflow-add-v invariant_loop decreases_loop
-add-v c = search rules
+overflow_add-v : tie.Need-overflow_add-v invariant-loop-v decreases-loop-v
+overflow_add-v c = search rules
 
-loop-less : tie.Need-loop-smaller invariant_loop decreases_loop
-loop-less c = search rules
+loop-v-smaller : tie.Need-loop-v-smaller invariant-loop-v decreases-loop-v
+loop-v-smaller c = search rules
 
-loop-again : tie.Need-loop-preserved invariant_loop decreases_loop
-loop-again c =
-    let l = c.before.before.before.before.before in
-    let p = l.before in
-    let s = start p in (
+loop-v-preserved : tie.Need-loop-v-preserved invariant-loop-v decreases-loop-v
+loop-v-preserved c =
+    let l = c in
+    let p = l in
+    let s = start p.before.before.before.before.before.before in (
       omega arith,
-      part_set p.cube-of.result p.before.before.node-total.result l.loop.v s.args.kinds.now (whole p) (active s.args.g)
-          l.loop.invariant.1 (omega arith) (sym p.cube-of.ensures) c.before.before.set-node.ensures,
+      part_set p.cube_of-children.result p.node_total-nodes.result l.loop-v.v s.args.kinds.now (whole p.before.before.before.before.before.before) (active s.args.g)
+          l.loop-v.invariant.1 (omega arith) (sym p.cube_of-children.ensures) c.set_node.ensures,
     )
 
-same_length : tie.Need-same-length invariant_loop decreases_loop
-same_length c = kept c.before
+shape_of-kinds : tie.Need-shape_of-kinds invariant-loop-v decreases-loop-v
+shape_of-kinds c = kept c.before
 
-returns : tie.Need-returns invariant_loop decreases_loop
+returns : tie.Need-returns invariant-loop-v decreases-loop-v
 returns c =
-    let l = c.before in
-    let p = l.before in
-    let s = start p in
-    parts_set p.cube-of.result p.before.before.node-total.result l.loop.v s.args.kinds.now (whole p) (active s.args.g)
-    l.loop.invariant.1 l.loop.invariant.0 (omega arith)
-    ∙ ap (λ n. flags_from (in_rows p.cube-of.result (active s.args.g)) n 0) (sym (whole p) ∙ s.pre.2)
-    ∙ ap (λ n. flags_from (in_rows n (active s.args.g)) (children_of s.args.g) 0) p.cube-of.ensures
+    let l = c in
+    let p = l in
+    let s = start p.before.before in
+    parts_set p.cube_of-children.result p.node_total-nodes.result l.loop-v.v s.args.kinds.now (whole p.before.before) (active s.args.g)
+    l.loop-v.invariant.1 l.loop-v.invariant.0 (omega arith)
+    ∙ ap (λ n. flags_from (in_rows p.cube_of-children.result (active s.args.g)) n 0) (sym (whole p.before.before) ∙ s.requires.2)
+    ∙ ap (λ n. flags_from (in_rows n (active s.args.g)) (children_of s.args.g) 0) p.cube_of-children.ensures
 
 pub set_nodes_spec : {M : Type 1} → statement M
 set_nodes_spec =
     tie.close
     (tie.spec
-    invariant_loop
-    decreases_loop
-    node-total-requires
-    cast-cube-of
-    cube-of-requires
-    loop-holds
-    mul-from
-    add-to
-    sub-set-node
-    part-set-node-start
-    part-set-node-end
-    set-node-requires
-    add-v
-    loop-less
-    loop-again
-    same_length
+    invariant-loop-v
+    decreases-loop-v
+    node_total-nodes-requires
+    overflow_cast-g
+    cube_of-children-requires
+    loop-v-init
+    overflow_mul-from
+    overflow_add-to
+    slice_bounds-set_node-count
+    slice_bounds-set_node-start
+    slice_bounds-set_node-end
+    set_node-requires
+    overflow_add-v
+    loop-v-smaller
+    loop-v-preserved
+    shape_of-kinds
     returns)

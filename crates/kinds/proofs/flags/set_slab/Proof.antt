@@ -14,128 +14,128 @@ use borrow.Author.Rules.{rules}
 use Rattle.kinds.proofs.flags.set_slab.Statement.{statement}
 use Rattle.kinds.proofs.flags.set_slab.Tie as tie
 
-abbrev invariant_loop : tie.invariant_loop
-invariant_loop n xs ys met slab₀ j₀ slab j = (j ≤ n) × (slab ≡ flagged (slab_test n xs ys) (j * n) slab₀)
+abbrev invariant-loop-j : tie.invariant-loop-j
+invariant-loop-j n xs ys met slab₀ j₀ slab j = (j ≤ n) × (slab ≡ flagged (slab_test n xs ys) (j * n) slab₀)
 
-abbrev decreases_loop : tie.decreases_loop
-decreases_loop n xs ys met slab₀ j₀ slab j = n - j
+abbrev decreases-loop-j : tie.decreases-loop-j
+decreases-loop-j n xs ys met slab₀ j₀ slab j = n - j
 
 -- ---- in the loop
 
-abbrev start : tie.At-loop invariant_loop decreases_loop → tie.Start invariant_loop decreases_loop
+abbrev start : tie.At-loop-j invariant-loop-j decreases-loop-j → tie.Start invariant-loop-j decreases-loop-j
 start l = l.before.before.before
 
 -- the slab keeps its length
-kept : (l : tie.At-loop invariant_loop decreases_loop) → length l.loop.slab ≡ length (start l).args.slab.now
+kept : (l : tie.At-loop-j invariant-loop-j decreases-loop-j) → length l.loop-j.slab ≡ length (start l).args.slab.now
 kept l =
     let s = start l in
-    kept_length s.args.n s.args.n l.loop.j s.args.slab.now s.pre.1
-    (row_test s.args.xs.now s.args.ys.now) l.loop.invariant.1 l.loop.invariant.0
+    kept_length s.args.n s.args.n l.loop-j.j s.args.slab.now s.requires.1
+    (row_test s.args.xs.now s.args.ys.now) l.loop-j.invariant.1 l.loop-j.invariant.0
 
 -- the row ends inside the slab
-inside : (t : tie.In-loop invariant_loop decreases_loop) →
-    t.before.loop.j * (start t.before).args.n + (start t.before).args.n ≤ length (start t.before).args.slab.now
-inside t = let s = start t.before in part_inside s.args.n s.args.n t.before.loop.j s.args.slab.now s.pre.1 (omega arith)
+inside : (t : tie.In-loop-j invariant-loop-j decreases-loop-j) →
+    t.loop-j.j * (start t.before).args.n + (start t.before).args.n ≤ length (start t.before).args.slab.now
+inside t = let s = start t.before in part_inside s.args.n s.args.n t.loop-j.j s.args.slab.now s.requires.1 (omega arith)
 
 -- ---- what is left
 
-zero-bytes-requires : tie.Need-zero-bytes-requires invariant_loop decreases_loop
-zero-bytes-requires c κs = search rules
+zero_bytes-requires : tie.Need-zero_bytes-requires invariant-loop-j decreases-loop-j
+zero_bytes-requires c κs = search rules
 
-same_length : tie.Need-same-length invariant_loop decreases_loop
-same_length c = search rules
+shape_of-slab-then-not-met : tie.Need-shape_of-slab-then-not-met invariant-loop-j decreases-loop-j
+shape_of-slab-then-not-met c = search rules
 
-returns : tie.Need-returns invariant_loop decreases_loop
-returns c =
-    let b = c.before.before.before.before in
-    let a = b.before.before.args in
-    c.before.before.zero-bytes.ensures
+returns-then-not-met : tie.Need-returns-then-not-met invariant-loop-j decreases-loop-j
+returns-then-not-met c =
+    let b = c in
+    let a = b.args in
+    c.zero_bytes.ensures
     ∙ flags_none (length a.slab.now) 0
-    ∙ ap (λ (r : ℕ). flags_from (λ _. false) r 0) b.before.before.requires.1
-    ∙ ap (λ (b : Bool). flags_from (λ i. b && slab_test a.n a.xs.now a.ys.now i) (a.n * a.n) 0) (sym (not-true a.met b.if1.true))
+    ∙ ap (λ (r : ℕ). flags_from (λ _. false) r 0) b.requires.1
+    ∙ ap (λ (b : Bool). flags_from (λ i. b && slab_test a.n a.xs.now a.ys.now i) (a.n * a.n) 0) (sym (not-true a.met b.if-not-met.true-raw))
 
-loop-holds : tie.Need-loop-init invariant_loop decreases_loop
-loop-holds c =
-    let a = c.before.before.args in
+loop-j-init : tie.Need-loop-j-init invariant-loop-j decreases-loop-j
+loop-j-init c =
+    let a = c.args in
     (search rules, rw (zero-mul a.n) (flagged_none (slab_test a.n a.xs.now a.ys.now) a.slab.now))
 
-mul-from : tie.Need-overflow-mul-from invariant_loop decreases_loop
-mul-from c = omega (arith, inside c)
+overflow_mul-from : tie.Need-overflow_mul-from invariant-loop-j decreases-loop-j
+overflow_mul-from c = omega (arith, inside c)
 
-add-to : tie.Need-overflow-add-to invariant_loop decreases_loop
-add-to c = omega (arith, inside c)
+overflow_add-to : tie.Need-overflow_add-to invariant-loop-j decreases-loop-j
+overflow_add-to c = omega (arith, inside c)
 
-element-copy-out-set-row : tie.Need-element-copy-out-set-row invariant_loop decreases_loop
-element-copy-out-set-row c = search rules
+bounds-ys-j : tie.Need-bounds-ys-j invariant-loop-j decreases-loop-j
+bounds-ys-j c = search rules
 
-sub-set-row : tie.Need-overflow-sub-set-row invariant_loop decreases_loop
-sub-set-row c = search rules
+slice_bounds-set_row-count : tie.Need-slice_bounds-set_row-count invariant-loop-j decreases-loop-j
+slice_bounds-set_row-count c = search rules
 
-part-set-row-start : tie.Need-slice-bounds-set-row-start invariant_loop decreases_loop
-part-set-row-start c = search rules
+slice_bounds-set_row-start : tie.Need-slice_bounds-set_row-start invariant-loop-j decreases-loop-j
+slice_bounds-set_row-start c = search rules
 
-part-set-row-end : tie.Need-slice-bounds-set-row-end invariant_loop decreases_loop
-part-set-row-end c = omega (arith, inside c.before, kept c.before.before)
+slice_bounds-set_row-end : tie.Need-slice_bounds-set_row-end invariant-loop-j decreases-loop-j
+slice_bounds-set_row-end c = omega (arith, inside c.before.before, kept c.before.before.before)
 
-set-row-requires : tie.Need-set-row-requires invariant_loop decreases_loop
-set-row-requires c κs =
-    let l = c.before.before.before in
-    let s = start l in
+set_row-requires : tie.Need-set_row-requires invariant-loop-j decreases-loop-j
+set_row-requires c κs =
+    let l = c in
+    let s = start l.before.before.before.before in
     omega (
       arith,
-      next_long s.args.n s.args.n l.loop.j s.args.slab.now s.pre.1
-          (row_test s.args.xs.now s.args.ys.now) l.loop.invariant.1 (omega arith),
+      next_long s.args.n s.args.n l.loop-j.j s.args.slab.now s.requires.1
+          (row_test s.args.xs.now s.args.ys.now) l.loop-j.invariant.1 (omega arith),
     )
 
-add-j : tie.Need-overflow-add-j invariant_loop decreases_loop
-add-j c = search rules
+overflow_add-j : tie.Need-overflow_add-j invariant-loop-j decreases-loop-j
+overflow_add-j c = search rules
 
-loop-less : tie.Need-loop-smaller invariant_loop decreases_loop
-loop-less c = search rules
+loop-j-smaller : tie.Need-loop-j-smaller invariant-loop-j decreases-loop-j
+loop-j-smaller c = search rules
 
-loop-again : tie.Need-loop-preserved invariant_loop decreases_loop
-loop-again c =
-    let l = c.before.before.before.before.before.before in
-    let s = start l in
-    let long = next_long s.args.n s.args.n l.loop.j s.args.slab.now s.pre.1
-    (row_test s.args.xs.now s.args.ys.now) l.loop.invariant.1 (omega arith) in (
+loop-j-preserved : tie.Need-loop-j-preserved invariant-loop-j decreases-loop-j
+loop-j-preserved c =
+    let l = c in
+    let s = start l.before.before.before.before.before.before.before in
+    let long = next_long s.args.n s.args.n l.loop-j.j s.args.slab.now s.requires.1
+    (row_test s.args.xs.now s.args.ys.now) l.loop-j.invariant.1 (omega arith) in (
       omega arith,
-      part_set s.args.n s.args.n l.loop.j s.args.slab.now s.pre.1
-          (row_test s.args.xs.now s.args.ys.now) l.loop.invariant.1 (omega arith) long
-          c.before.before.set-row.ensures,
+      part_set s.args.n s.args.n l.loop-j.j s.args.slab.now s.requires.1
+          (row_test s.args.xs.now s.args.ys.now) l.loop-j.invariant.1 (omega arith) long
+          c.set_row.ensures,
     )
 
-same-length-2 : tie.Need-same-length-2 invariant_loop decreases_loop
-same-length-2 c = kept c.before
+shape_of-slab : tie.Need-shape_of-slab invariant-loop-j decreases-loop-j
+shape_of-slab c = kept c.before
 
-returns-2 : tie.Need-returns-2 invariant_loop decreases_loop
-returns-2 c =
-    let l = c.before in
-    let s = start l in
+returns : tie.Need-returns invariant-loop-j decreases-loop-j
+returns c =
+    let l = c in
+    let s = start l.before in
     let a = s.args in
-    parts_set a.n a.n l.loop.j a.slab.now s.pre.1
-    (row_test s.args.xs.now s.args.ys.now) l.loop.invariant.1 l.loop.invariant.0 (omega arith)
-    ∙ ap (λ (b : Bool). flags_from (λ i. b && slab_test a.n a.xs.now a.ys.now i) (a.n * a.n) 0) (sym (not-false a.met l.before.if1.false))
+    parts_set a.n a.n l.loop-j.j a.slab.now s.requires.1
+    (row_test s.args.xs.now s.args.ys.now) l.loop-j.invariant.1 l.loop-j.invariant.0 (omega arith)
+    ∙ ap (λ (b : Bool). flags_from (λ i. b && slab_test a.n a.xs.now a.ys.now i) (a.n * a.n) 0) (sym (not-false a.met l.if-not-met.false-raw))
 
 pub set_slab_spec : {M : Type 1} → statement M
 set_slab_spec =
     tie.close
     (tie.spec
-    invariant_loop
-    decreases_loop
-    zero-bytes-requires
-    same_length
-    returns
-    loop-holds
-    mul-from
-    add-to
-    element-copy-out-set-row
-    sub-set-row
-    part-set-row-start
-    part-set-row-end
-    set-row-requires
-    add-j
-    loop-less
-    loop-again
-    same-length-2
-    returns-2)
+    invariant-loop-j
+    decreases-loop-j
+    zero_bytes-requires
+    shape_of-slab-then-not-met
+    returns-then-not-met
+    loop-j-init
+    overflow_mul-from
+    overflow_add-to
+    bounds-ys-j
+    slice_bounds-set_row-count
+    slice_bounds-set_row-start
+    slice_bounds-set_row-end
+    set_row-requires
+    overflow_add-j
+    loop-j-smaller
+    loop-j-preserved
+    shape_of-slab
+    returns)

@@ -16,100 +16,100 @@ use borrow.Author.Rules.{rules}
 use Rattle.rows.proofs.points.place_points.Statement.{statement}
 use Rattle.rows.proofs.points.place_points.Tie as tie
 
-abbrev invariant_loop : tie.invariant_loop
-invariant_loop l p count axes xs₀ ys₀ zs₀ side at₀ q₀ xs ys zs at q =
+abbrev invariant-loop-q : tie.invariant-loop-q
+invariant-loop-q l p count axes xs₀ ys₀ zs₀ side at₀ q₀ xs ys zs at q =
     (q ≤ count)
     × (at ≡ indices_of (p + q) side side)
     × (xs ≡ filled 0 q (λ q. (axes_point l axes (p + q)).x) xs₀)
     × (ys ≡ filled 0 q (λ q. (axes_point l axes (p + q)).y) ys₀)
     × (zs ≡ filled 0 q (λ q. (axes_point l axes (p + q)).z) zs₀)
 
-abbrev decreases_loop : tie.decreases_loop
-decreases_loop l p count axes xs₀ ys₀ zs₀ side at₀ q₀ xs ys zs at q = count - q
+abbrev decreases-loop-q : tie.decreases-loop-q
+decreases-loop-q l p count axes xs₀ ys₀ zs₀ side at₀ q₀ xs ys zs at q = count - q
 
 -- the indices are a point's of the leaf
-inside : (c : tie.In-loop invariant_loop decreases_loop) → Within c.before.before.before.args.l c.before.loop.at
+inside : (c : tie.In-loop-q invariant-loop-q decreases-loop-q) → Within c.args.l c.loop-q.at
 inside c =
-    let l = c.before.loop in
-    let start = c.before.before.before in
+    let l = c.loop-q in
+    let start = c in
     let a = start.args in
-    subst (Within a.l) (sym l.invariant.1) (within a.l (a.p + l.q) start.requires.0 (omega (arith, c.loop-test.true, start.requires.3)))
+    subst (Within a.l) (sym l.invariant.1) (within a.l (a.p + l.q) start.requires.0 (omega (arith, c.loop-q-test.true, start.requires.3)))
 
-indices-requires : tie.Need-indices-requires invariant_loop decreases_loop
-indices-requires c κs = search rules
+indices-at-requires : tie.Need-indices-at-requires invariant-loop-q decreases-loop-q
+indices-at-requires c κs = search rules
 
-loop-holds : tie.Need-loop-init invariant_loop decreases_loop
-loop-holds c =
-    let a = c.before.args in
-    let at_first = c.indices.ensures ∙ ap (λ m. indices_of m a.l a.l) (sym (add-zero _)) in
+loop-q-init : tie.Need-loop-q-init invariant-loop-q decreases-loop-q
+loop-q-init c =
+    let a = c.args in
+    let at_first = c.indices-at.ensures ∙ ap (λ m. indices_of m a.l a.l) (sym (add-zero _)) in
     (search rules, at_first, sym (filled_none _ _ _), sym (filled_none _ _ _), sym (filled_none _ _ _))
 
-mul-xs : tie.Need-overflow-mul-xs invariant_loop decreases_loop
-mul-xs c = omega (arith, (inside c).i_below, c.before.before.before.requires.1)
+offset_bounds-axes-i : tie.Need-offset_bounds-axes-i invariant-loop-q decreases-loop-q
+offset_bounds-axes-i c = omega (arith, (inside c).i_below, c.requires.1)
 
-element-copy-out-xs : tie.Need-element-copy-out-xs invariant_loop decreases_loop
-element-copy-out-xs c = omega (arith, (inside c).i_below, c.before.before.before.requires.1)
+bounds-axes-i : tie.Need-bounds-axes-i invariant-loop-q decreases-loop-q
+bounds-axes-i c = omega (arith, (inside c).i_below, c.requires.1)
 
-mul-xs-2 : tie.Need-overflow-mul-xs-2 invariant_loop decreases_loop
-mul-xs-2 c = search rules
+offset_bounds-xs-q : tie.Need-offset_bounds-xs-q invariant-loop-q decreases-loop-q
+offset_bounds-xs-q c = search rules
 
-element-write-xs : tie.Need-element-write-xs invariant_loop decreases_loop
-element-write-xs c = search rules
+bounds-xs-q : tie.Need-bounds-xs-q invariant-loop-q decreases-loop-q
+bounds-xs-q c = search rules
 
-add-ys : tie.Need-overflow-add-ys invariant_loop decreases_loop
-add-ys c = omega (arith, (inside c.before).j_below, c.before.before.before.before.requires.1)
+overflow_add-ys : tie.Need-overflow_add-ys invariant-loop-q decreases-loop-q
+overflow_add-ys c = omega (arith, (inside c.before).j_below, c.requires.1)
 
-mul-ys : tie.Need-overflow-mul-ys invariant_loop decreases_loop
-mul-ys c = omega (arith, (inside c.before).j_below, c.before.before.before.before.requires.1)
+offset_bounds-axes-j : tie.Need-offset_bounds-axes-j invariant-loop-q decreases-loop-q
+offset_bounds-axes-j c = omega (arith, (inside c.before).j_below, c.requires.1)
 
-element-copy-out-ys : tie.Need-element-copy-out-ys invariant_loop decreases_loop
-element-copy-out-ys c = omega (arith, (inside c.before).j_below, c.before.before.before.before.requires.1)
+bounds-axes-j : tie.Need-bounds-axes-j invariant-loop-q decreases-loop-q
+bounds-axes-j c = omega (arith, (inside c.before).j_below, c.requires.1)
 
-mul-ys-2 : tie.Need-overflow-mul-ys-2 invariant_loop decreases_loop
-mul-ys-2 c = search rules
+offset_bounds-ys-q : tie.Need-offset_bounds-ys-q invariant-loop-q decreases-loop-q
+offset_bounds-ys-q c = search rules
 
-element-write-ys : tie.Need-element-write-ys invariant_loop decreases_loop
-element-write-ys c = search rules
+bounds-ys-q : tie.Need-bounds-ys-q invariant-loop-q decreases-loop-q
+bounds-ys-q c = search rules
 
-add-zs : tie.Need-overflow-add-zs invariant_loop decreases_loop
-add-zs c = omega (arith, (inside c.before.before).k_below, c.before.before.before.before.before.requires.1)
+overflow_add-zs : tie.Need-overflow_add-zs invariant-loop-q decreases-loop-q
+overflow_add-zs c = omega (arith, (inside c.before.before).k_below, c.requires.1)
 
-mul-zs : tie.Need-overflow-mul-zs invariant_loop decreases_loop
-mul-zs c = omega (arith, (inside c.before.before).k_below, c.before.before.before.before.before.requires.1)
+offset_bounds-axes-k : tie.Need-offset_bounds-axes-k invariant-loop-q decreases-loop-q
+offset_bounds-axes-k c = omega (arith, (inside c.before.before).k_below, c.requires.1)
 
-element-copy-out-zs : tie.Need-element-copy-out-zs invariant_loop decreases_loop
-element-copy-out-zs c = omega (arith, (inside c.before.before).k_below, c.before.before.before.before.before.requires.1)
+bounds-axes-k : tie.Need-bounds-axes-k invariant-loop-q decreases-loop-q
+bounds-axes-k c = omega (arith, (inside c.before.before).k_below, c.requires.1)
 
-mul-zs-2 : tie.Need-overflow-mul-zs-2 invariant_loop decreases_loop
-mul-zs-2 c = search rules
+offset_bounds-zs-q : tie.Need-offset_bounds-zs-q invariant-loop-q decreases-loop-q
+offset_bounds-zs-q c = search rules
 
-element-write-zs : tie.Need-element-write-zs invariant_loop decreases_loop
-element-write-zs c = search rules
+bounds-zs-q : tie.Need-bounds-zs-q invariant-loop-q decreases-loop-q
+bounds-zs-q c = search rules
 
-next-indices-requires : tie.Need-next-indices-requires invariant_loop decreases_loop
-next-indices-requires c κs =
-    let t = c.before.before.before in
-    let w = inside t in
-    (w.i_below, w.j_below, omega (arith, w.k_below, t.before.before.before.requires.1))
+next_indices-at-requires : tie.Need-next_indices-at-requires invariant-loop-q decreases-loop-q
+next_indices-at-requires c κs =
+    let t = c in
+    let w = inside t.before.before.before in
+    (w.i_below, w.j_below, omega (arith, w.k_below, t.requires.1))
 
-add-q : tie.Need-overflow-add-q invariant_loop decreases_loop
-add-q c = search rules
+overflow_add-q : tie.Need-overflow_add-q invariant-loop-q decreases-loop-q
+overflow_add-q c = search rules
 
-loop-less : tie.Need-loop-smaller invariant_loop decreases_loop
-loop-less c = search rules
+loop-q-smaller : tie.Need-loop-q-smaller invariant-loop-q decreases-loop-q
+loop-q-smaller c = search rules
 
-loop-again : tie.Need-loop-preserved invariant_loop decreases_loop
+loop-q-preserved : tie.Need-loop-q-preserved invariant-loop-q decreases-loop-q
 unfolding axes_point
-loop-again c =
-    let t = c.before.before.before.before in
-    let l = t.before.loop in
-    let start = t.before.before.before in
+loop-q-preserved c =
+    let t = c in
+    let l = t.loop-q in
+    let start = t in
     let a = start.args in
     let q = l.q in
     let inv = l.invariant in
     let point : ℕ → Vec3 = λ q. axes_point a.l a.axes.now (a.p + q) in (
-      omega (arith, t.loop-test.true),
-      c.next-indices.ensures
+      omega (arith, t.loop-q-test.true),
+      c.next_indices-at.ensures
           ∙ ap (λ v. next_indices v a.l a.l) inv.1
           ∙ next_of a.l a.l start.requires.0 start.requires.0 (a.p + q)
           ∙ ap (λ m. indices_of m a.l a.l) (add_assoc a.p q 1),
@@ -118,35 +118,35 @@ loop-again c =
       front_store q (λ q. (point q).z) a.zs.now inv.4 (ap (λ v. get_or a.axes.now (128 + v.k) past) inv.1),
     )
 
-returns : tie.Need-returns invariant_loop decreases_loop
+returns : tie.Need-returns invariant-loop-q decreases-loop-q
 returns c =
-    let inv = c.before.loop.invariant in
+    let inv = c.loop-q.invariant in
     (filled_done 0 _ _ inv.2 (omega arith), (filled_done 0 _ _ inv.3 (omega arith), filled_done 0 _ _ inv.4 (omega arith)))
 
 pub place_points_spec : {M : Type 1} → statement M
 place_points_spec =
     tie.close
     (tie.spec
-    invariant_loop
-    decreases_loop
-    indices-requires
-    loop-holds
-    mul-xs
-    element-copy-out-xs
-    mul-xs-2
-    element-write-xs
-    add-ys
-    mul-ys
-    element-copy-out-ys
-    mul-ys-2
-    element-write-ys
-    add-zs
-    mul-zs
-    element-copy-out-zs
-    mul-zs-2
-    element-write-zs
-    next-indices-requires
-    add-q
-    loop-less
-    loop-again
+    invariant-loop-q
+    decreases-loop-q
+    indices-at-requires
+    loop-q-init
+    offset_bounds-axes-i
+    bounds-axes-i
+    offset_bounds-xs-q
+    bounds-xs-q
+    overflow_add-ys
+    offset_bounds-axes-j
+    bounds-axes-j
+    offset_bounds-ys-q
+    bounds-ys-q
+    overflow_add-zs
+    offset_bounds-axes-k
+    bounds-axes-k
+    offset_bounds-zs-q
+    bounds-zs-q
+    next_indices-at-requires
+    overflow_add-q
+    loop-q-smaller
+    loop-q-preserved
     returns)

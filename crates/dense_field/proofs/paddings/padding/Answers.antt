@@ -1,0 +1,19 @@
+-- `padding` meets its contract: a refusal changes nothing, and else the outside is set.
+use Rattle.std.proofs.Common.{sym, refl, ◌∙◌, rules}
+use Rattle.geometry.specs.Causes.{first_of}
+use Rattle.dense_field.specs.Outcomes.{outcome_of}
+use Rattle.dense_field.proofs.Lending.{lent}
+use Rattle.dense_field.proofs.paddings.padding.Goals as goal
+
+pub returns-then-values_refused : goal.returns-then-values_refused
+unfolding first_of outcome_of
+returns-then-values_refused c =
+    let refused = sym c.values_refused.ensures ∙ c.if-values_refused.true in record { answer = rw refused refl; values = rw refused refl; }
+
+pub pad_slabs-requires : goal.pad_slabs-requires
+pad_slabs-requires c = lent _ _ (sym c.values_refused.ensures ∙ c.if-values_refused.false)
+
+pub returns : goal.returns
+unfolding first_of outcome_of
+returns c =
+    let passed = sym c.values_refused.ensures ∙ c.if-values_refused.false in record { answer = rw passed refl; values = rw passed c.pad_slabs.ensures; }

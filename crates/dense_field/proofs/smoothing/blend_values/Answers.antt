@@ -1,0 +1,24 @@
+-- `smoothing::blend_values` meets its contract: at each turn the first i values are blended.
+use Rattle.std.proofs.Common.{◌≡◌, ◌+◌, ◌-◌, ◌≤◌, length, sym, ap, ◌∙◌, arith, rules}
+use lib.Ieee.{Float, binary64, sub}
+use Rattle.lists.specs.Filled.{filled}
+use Rattle.lists.proofs.Filling.{filled_none, filled_store_lem, filled_done}
+use Rattle.geometry.specs.Axis.{as_float}
+use Rattle.dense_field.specs.Inner.Offsets.{offset_blend}
+use Rattle.dense_field.proofs.SmoothingLaws.{one_as_float, blended_read}
+use Rattle.dense_field.proofs.smoothing.blend_values.Goals as goal
+
+pub loop-i-init : goal.loop-i-init
+loop-i-init c = (search rules, search rules, ap (λ (x : Float). sub binary64 x c.args.factor) one_as_float, sym (filled_none _ _ _))
+
+pub loop-i-preserved : goal.loop-i-preserved
+loop-i-preserved c =
+    let b = c in
+    let a = b.args in
+    let value =
+    c.computed.ensures
+    ∙ blended_read a.n a.factor a.old.now (a.at + b.loop-i.i) (omega arith) b.loop-i.invariant.2 c.neighbour_sum-sum.ensures in
+    (search rules, search rules, search rules, filled_store_lem _ _ _ _ b.loop-i.invariant.3 value)
+
+pub returns : goal.returns
+returns c = filled_done _ _ _ c.loop-i.invariant.3 (omega arith)

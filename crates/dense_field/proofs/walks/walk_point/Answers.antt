@@ -1,0 +1,13 @@
+-- `walks::walk_point` meets its contract: the three coordinates of a point.
+use Rattle.std.proofs.Common.{◌∙◌, rules}
+use Rattle.geometry.specs.Values.{vec3}
+use Rattle.dense_field.specs.Walks.{walk_point}
+use Rattle.dense_field.proofs.walks.walk_point.Goals as goal
+
+pub returns : goal.returns
+unfolding walk_point
+returns c =
+    let x = c.along.ensures in
+    let y = c.along-2.ensures in
+    let z = c.along-3.ensures in
+    c.new.ensures ∙ (λ i. vec3 (x i) (y i) (z i))
