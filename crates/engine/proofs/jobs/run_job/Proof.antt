@@ -18,60 +18,60 @@ memory s = memory_of s.args.kinds.now s.args.numbers.now s.args.places.now s.arg
 
 -- ---- where the model is laid out
 
-abbrev start : tie.After-lay-out → tie.Start
+abbrev start : tie.After-lay_out → tie.Start
 start o = o.before.before.before.before.before.before.before.before.before
 
 -- ---- what is left
 
-lay-out-requires : tie.Need-lay-out-requires
-lay-out-requires c κs = search rules
+lay_out-requires : tie.Need-lay_out-requires
+lay_out-requires c κs = search rules
 
-cast-parts : tie.Need-overflow-cast-parts
-cast-parts c = search rules
+overflow_cast-parts : tie.Need-overflow_cast-parts
+overflow_cast-parts c = search rules
 
-run-from-requires : tie.Need-run-from-requires
-run-from-requires c κs =
-    let o = c.before.before.before.before.before.before.before.before.before.before.before in
-    let s = start o in
+run_from-requires : tie.Need-run_from-requires
+run_from-requires c κs =
+    let o = c in
+    let s = start o.before.before.before.before.before.before.before.before.before.before.before in
     let a = s.args in
-    let same = same_plan a.input _ _ s.pre.0.1 o.lay-out.ensures.1 o.lay-out.ensures.0 in
-    let ok = subst (λ P. Lent P (memory s) × Startable P a.cursor a.leaves × (a.leaves ≤ active_all P)) same s.pre.1 in
-    ((s.pre.0.0, count_le a.input.model s.pre.0.1), record { lent = ok.0; startable = ok.1; few = ok.2 })
+    let same = same_plan a.input _ _ s.requires.0.1 o.lay_out.ensures.1 o.lay_out.ensures.0 in
+    let ok = subst (λ P. Lent P (memory s) × Startable P a.cursor a.leaves × (a.leaves ≤ active_all P)) same s.requires.1 in
+    ((s.requires.0.0, count_le a.input.model s.requires.0.1), record { lent = ok.0; startable = ok.1; few = ok.2 })
 
-same_length : tie.Need-same-length
-same_length c = search rules
+shape_of-kinds : tie.Need-shape_of-kinds
+shape_of-kinds c = search rules
 
-same-length-2 : tie.Need-same-length-2
-same-length-2 c = search rules
+shape_of-numbers : tie.Need-shape_of-numbers
+shape_of-numbers c = search rules
 
-same-length-3 : tie.Need-same-length-3
-same-length-3 c = search rules
+shape_of-places : tie.Need-shape_of-places
+shape_of-places c = search rules
 
-same-length-4 : tie.Need-same-length-4
-same-length-4 c = search rules
+shape_of-store : tie.Need-shape_of-store
+shape_of-store c = search rules
 
-same-length-5 : tie.Need-same-length-5
-same-length-5 c = search rules
+shape_of-corners : tie.Need-shape_of-corners
+shape_of-corners c = search rules
 
 returns : tie.Need-returns
 returns c =
-    let r = c.before.before.before.before.before.before.before.before.before.before in
-    let o = r.before.before.before.before.before.before.before.before.before.before.before.before in
-    let s = start o in
+    let r = c in
+    let o = r in
+    let s = start o.before.before.before.before.before.before.before.before.before.before.before.before.before.before.before.before.before.before.before.before.before.before in
     let a = s.args in
-    let same = same_plan a.input _ _ s.pre.0.1 o.lay-out.ensures.1 o.lay-out.ensures.0 in
-    with_plan _ _ _ _ a.cursor (memory s) same r.run-from.ensures
+    let same = same_plan a.input _ _ s.requires.0.1 o.lay_out.ensures.1 o.lay_out.ensures.0 in
+    with_plan _ _ _ _ a.cursor (memory s) same r.run_from.ensures
 
 pub run_job_spec : {M : Type 1} → statement M
 run_job_spec =
     tie.close
     (tie.spec
-    lay-out-requires
-    cast-parts
-    run-from-requires
-    same_length
-    same-length-2
-    same-length-3
-    same-length-4
-    same-length-5
+    lay_out-requires
+    overflow_cast-parts
+    run_from-requires
+    shape_of-kinds
+    shape_of-numbers
+    shape_of-places
+    shape_of-store
+    shape_of-corners
     returns)

@@ -10,79 +10,79 @@ use Rattle.job_text.proofs.PartTurns.{Among, among_off, among_none, found_fits, 
 use Rattle.job_text.proofs.parts.part_line.Statement.{statement}
 use Rattle.job_text.proofs.parts.part_line.Tie as tie
 
-abbrev invariant_loop : tie.invariant_loop
-invariant_loop text at kind₀ kind = (kind ≤ 8) × Among kind (drop at text)
+abbrev invariant-loop-kind : tie.invariant-loop-kind
+invariant-loop-kind text at kind₀ kind = (kind ≤ 8) × Among kind (drop at text)
 
-abbrev decreases_loop : tie.decreases_loop
-decreases_loop text at kind₀ kind = 8 - kind
+abbrev decreases-loop-kind : tie.decreases-loop-kind
+decreases-loop-kind text at kind₀ kind = 8 - kind
 
-abbrev start : tie.At-loop invariant_loop decreases_loop → tie.Start invariant_loop decreases_loop
+abbrev start : tie.At-loop-kind invariant-loop-kind decreases-loop-kind → tie.Start invariant-loop-kind decreases-loop-kind
 start p = p.before.before
 
-abbrev turn : tie.After-values2 invariant_loop decreases_loop → tie.At-loop invariant_loop decreases_loop
+abbrev turn : tie.After-values-in-At-1 invariant-loop-kind decreases-loop-kind → tie.At-loop-kind invariant-loop-kind decreases-loop-kind
 turn p = p.before.before.before.before.before.before.before
 
-loop-holds : tie.Need-loop-init invariant_loop decreases_loop
-loop-holds c = (omega arith, refl)
+loop-kind-init : tie.Need-loop-kind-init invariant-loop-kind decreases-loop-kind
+loop-kind-init c = (omega arith, refl)
 
-read-kind-requires : tie.Need-read-kind-requires invariant_loop decreases_loop
-read-kind-requires c κs = search rules
+read_kind-read-requires : tie.Need-read_kind-read-requires invariant-loop-kind decreases-loop-kind
+read_kind-read-requires c κs = search rules
 
-enum-known-end : tie.Need-enum-known-end invariant_loop decreases_loop
-enum-known-end c = search rules
+enum_known-end : tie.Need-enum_known-end invariant-loop-kind decreases-loop-kind
+enum_known-end c = search rules
 
-part-of-requires : tie.Need-part-of-requires invariant_loop decreases_loop
-part-of-requires c κs =
-    found_fits _ c.before.before.before.before.before.read-kind.result.values (start (turn c)).args.at _ _ _
-    c.before.before.before.before.before.read-kind.ensures c.before.before.end.given.1
+part_of-part-requires : tie.Need-part_of-part-requires invariant-loop-kind decreases-loop-kind
+part_of-part-requires c κs =
+    found_fits _ c.read_kind-read.result.values (start (turn c)).args.at _ _ _
+    c.read_kind-read.ensures c.end-1.given.1
 
-pattern-of-requires : tie.Need-pattern-of-requires invariant_loop decreases_loop
-pattern-of-requires c κs = search rules
+pattern_of-pattern-requires : tie.Need-pattern_of-pattern-requires invariant-loop-kind decreases-loop-kind
+pattern_of-pattern-requires c κs = search rules
 
-returns : tie.Need-returns invariant_loop decreases_loop
+returns-in-At : tie.Need-returns-in-At invariant-loop-kind decreases-loop-kind
 unfolding ReadsPartTo
-returns c =
-    rw (c.before.before.part_of.ensures, c.pattern-of.ensures)
+returns-in-At c =
+    rw (c.part_of-part.ensures, c.pattern_of-pattern.ensures)
     (found_part _ _ (start (turn c.before.before.before)).args.at _ _ _
-    c.before.before.before.before.before.before.before.before.read-kind.ensures
-    c.before.before.before.before.before.end.given.1
-    c.before.before.before.before.before.before.before.before.before.loop-test.true
-    (turn c.before.before.before).loop.inv.1)
+    c.read_kind-read.ensures
+    c.end-1.given.1
+    c.loop-kind-test.true
+    (turn c.before.before.before).loop-kind.invariant.1)
 
-enum_told : tie.Need-enum-told invariant_loop decreases_loop
-enum_told c = search rules
+enum_told-1 : tie.Need-enum_told-1 invariant-loop-kind decreases-loop-kind
+enum_told-1 c = search rules
 
-add-kind : tie.Need-overflow-add-kind invariant_loop decreases_loop
-add-kind c = search rules
+overflow_add-kind : tie.Need-overflow_add-kind invariant-loop-kind decreases-loop-kind
+overflow_add-kind c = search rules
 
-loop-less : tie.Need-loop-smaller invariant_loop decreases_loop
-loop-less c = search rules
+loop-kind-smaller : tie.Need-loop-kind-smaller invariant-loop-kind decreases-loop-kind
+loop-kind-smaller c = search rules
 
-loop-again : tie.Need-loop-preserved invariant_loop decreases_loop
-loop-again c = (
+loop-kind-preserved : tie.Need-loop-kind-preserved invariant-loop-kind decreases-loop-kind
+loop-kind-preserved c = (
   omega arith,
-  among_off _ _ c.before.before.before.before.loop-test.true c.before.before.before.before.before.loop.invariant.1
-      (reads_off _ _ _ _ _ c.before.before.before.read-kind.ensures c.enum_told.given.1).0,
+  among_off _ _ c.loop-kind-test.true c.loop-kind.invariant.1
+      (reads_off _ _ _ _ _ c.read_kind-read.ensures c.enum_told-1.given.1).0,
 )
 
-returns-2 : tie.Need-returns-2 invariant_loop decreases_loop
+returns : tie.Need-returns invariant-loop-kind decreases-loop-kind
 unfolding ReadsPartTo
-returns-2 c = among_none _ _ c.before.loop.invariant.0 c.loop-test.false c.before.loop.invariant.1
+returns c = among_none _ _ c.loop-kind.invariant.0 c.loop-kind-test.false c.loop-kind.invariant.1
 
 pub part_line_spec : {M : Type 1} → statement M
 part_line_spec =
     tie.close
     (tie.spec
-    invariant_loop
-    decreases_loop
-    loop-holds
-    read-kind-requires
-    enum-known-end
-    part-of-requires
-    pattern-of-requires
-    returns
-    enum_told
-    add-kind
-    loop-less
-    loop-again
-    returns-2)
+    invariant-loop-kind
+    decreases-loop-kind
+    loop-kind-init
+    read_kind-read-requires
+    enum_known-end
+    part_of-part-requires
+    pattern_of-pattern-requires
+    returns-in-At
+    enum_told-1
+    overflow_add-kind
+    loop-kind-smaller
+    loop-kind-preserved
+    returns)

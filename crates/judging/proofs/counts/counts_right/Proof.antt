@@ -10,39 +10,39 @@ use Rattle.judging.proofs.counts.counts_right.Statement.{statement}
 use Rattle.judging.proofs.counts.counts_right.Tie as tie
 
 -- where the grid's counts are compared
-abbrev start : tie.After-same-grid → tie.Start
+abbrev start : tie.After-same_grid → tie.Start
 start p = p.before.before.before
 
-compared : (p : tie.After-same-grid) → p.same-grid.result ≡ same_grid (start p).args.counts.grid (counts_of (start p).args.g)
-compared p = p.same-grid.ensures ∙ ap (same_grid (start p).args.counts.grid) p.before.grid-counts.ensures
+compared : (p : tie.After-same_grid) → p.same_grid.result ≡ same_grid (start p).args.counts.grid (counts_of (start p).args.g)
+compared p = p.same_grid.ensures ∙ ap (same_grid (start p).args.counts.grid) p.grid_counts.ensures
 
-grid-counts-requires : tie.Need-grid-counts-requires
-grid-counts-requires c κs = c.before.requires
+grid_counts-requires : tie.Need-grid_counts-requires
+grid_counts-requires c κs = c.requires
 
-same-grid-requires : tie.Need-same-grid-requires
-same-grid-requires c κs = search rules
+same_grid-requires : tie.Need-same_grid-requires
+same_grid-requires c κs = search rules
+
+returns-then-not-same_grid : tie.Need-returns-then-not-same_grid
+returns-then-not-same_grid c =
+    let p = c in
+    let a = (start p.before).args in
+    counts_other a.g a.counts (sym (compared p.before) ∙ not-true _ c.if-not-same_grid.true-raw)
+
+sampled_right-requires : tie.Need-sampled_right-requires
+sampled_right-requires c κs = let l = leaf_block _ (start c.before).requires.0 in (omega (arith, l.least), l.most)
 
 returns : tie.Need-returns
 returns c =
-    let p = c.before in
-    let a = (start p).args in
-    counts_other a.g a.counts (sym (compared p) ∙ not-true _ c.if1.true)
-
-sampled-right-requires : tie.Need-sampled-right-requires
-sampled-right-requires c κs = let l = leaf_block _ (start c.before).requires.0 in (omega (arith, l.least), l.most)
-
-returns-2 : tie.Need-returns-2
-returns-2 c =
-    let p = c.before.before in
-    let a = (start p).args in
-    counts_sampled a.g a.counts (sym (compared p) ∙ not-false _ c.before.if1.false) c.sampled-right.ensures
+    let p = c in
+    let a = (start p.before.before).args in
+    counts_sampled a.g a.counts (sym (compared p.before.before) ∙ not-false _ c.if-not-same_grid.false-raw) c.sampled_right.ensures
 
 pub counts_right_spec : {M : Type 1} → statement M
 counts_right_spec =
     tie.close
     (tie.spec
-    grid-counts-requires
-    same-grid-requires
-    returns
-    sampled-right-requires
-    returns-2)
+    grid_counts-requires
+    same_grid-requires
+    returns-then-not-same_grid
+    sampled_right-requires
+    returns)

@@ -13,63 +13,63 @@ use Rattle.judging.proofs.counts.evaluations_bound.Tie as tie
 
 -- ---- where all sizes are known
 
-abbrev start : tie.After-cube-of3 → tie.Start
+abbrev start : tie.After-cube_of-points → tie.Start
 start p = p.before.before.before.before.before
 
-fits : (p : tie.After-cube-of3) → BoundFits (start p).args.g
-fits p = let s = start p in bound_fits s.args.g s.pre.0 s.pre.1
+fits : (p : tie.After-cube_of-points) → BoundFits (start p).args.g
+fits p = let s = start p in bound_fits s.args.g s.requires.0 s.requires.1
 
 -- the points of a node's children
-product : (p : tie.After-cube-of3) →
-    p.before.before.cube-of2.result * p.cube-of3.result ≡ cube (start p).args.g.inner * cube (start p).args.g.leaf
+product : (p : tie.After-cube_of-points) →
+    p.cube_of-children.result * p.cube_of-points.result ≡ cube (start p).args.g.inner * cube (start p).args.g.leaf
 product p =
-    let children = p.before.before.cube-of2.ensures in
-    let points = p.cube-of3.ensures in
+    let children = p.cube_of-children.ensures in
+    let points = p.cube_of-points.ensures in
     λ t. children t * points t
 
 -- the whole bound
-whole : (p : tie.After-cube-of3) →
-    p.before.before.before.before.node-total.result * (p.before.before.before.cube-of.result + p.before.before.cube-of2.result * p.cube-of3.result)
+whole : (p : tie.After-cube_of-points) →
+    p.node_total-nodes.result * (p.cube_of-corners.result + p.cube_of-children.result * p.cube_of-points.result)
     ≡ nodes_of (start p).args.g * (cube ((start p).args.g.inner + 1) + cube (start p).args.g.inner * cube (start p).args.g.leaf)
 whole p =
-    let nodes = p.before.before.before.before.node-total.ensures in
-    let corners = p.before.before.before.cube-of.ensures in
+    let nodes = p.node_total-nodes.ensures in
+    let corners = p.cube_of-corners.ensures in
     λ t. nodes t * (corners t + product p t)
 
 -- ---- what is left
 
-node-total-requires : tie.Need-node-total-requires
-node-total-requires c κs = omega (arith, nodes_few _ (few_nodes _ c.requires.1))
+node_total-nodes-requires : tie.Need-node_total-nodes-requires
+node_total-nodes-requires c κs = omega (arith, nodes_few _ (few_nodes _ c.requires.1))
 
-cast-cube-of : tie.Need-overflow-cast-cube-of
-cast-cube-of c = search rules
+overflow_cast-n : tie.Need-overflow_cast-n
+overflow_cast-n c = search rules
 
-add-cube-of : tie.Need-overflow-add-cube-of
-add-cube-of c = search rules
+overflow_add-n : tie.Need-overflow_add-n
+overflow_add-n c = search rules
 
-cube-of-requires : tie.Need-cube-of-requires
-cube-of-requires c κs = omega (arith, (inner_block _ c.before.requires.0).most)
+cube_of-corners-requires : tie.Need-cube_of-corners-requires
+cube_of-corners-requires c κs = omega (arith, (inner_block _ c.requires.0).most)
 
-cast-cube-of-2 : tie.Need-overflow-cast-cube-of-2
-cast-cube-of-2 c = search rules
+overflow_cast-n-2 : tie.Need-overflow_cast-n-2
+overflow_cast-n-2 c = search rules
 
-cube-of-requires-2 : tie.Need-cube-of-requires-2
-cube-of-requires-2 c κs = omega (arith, (inner_block _ c.before.before.requires.0).most)
+cube_of-children-requires : tie.Need-cube_of-children-requires
+cube_of-children-requires c κs = omega (arith, (inner_block _ c.requires.0).most)
 
-cast-cube-of-3 : tie.Need-overflow-cast-cube-of-3
-cast-cube-of-3 c = search rules
+overflow_cast-g : tie.Need-overflow_cast-g
+overflow_cast-g c = search rules
 
-cube-of-requires-3 : tie.Need-cube-of-requires-3
-cube-of-requires-3 c κs = omega (arith, (leaf_block _ c.before.before.before.before.requires.0).most)
+cube_of-points-requires : tie.Need-cube_of-points-requires
+cube_of-points-requires c κs = omega (arith, (leaf_block _ c.requires.0).most)
 
-mul-result : tie.Need-overflow-mul-result
-mul-result c = omega (arith, product c, (fits c).product)
+overflow_mul-result : tie.Need-overflow_mul-result
+overflow_mul-result c = omega (arith, product c, (fits c).product)
 
-add-result : tie.Need-overflow-add-result
-add-result c = omega (arith, product c, (fits c).product, (fits c).corners, c.before.before.before.cube-of.ensures)
+overflow_add-result : tie.Need-overflow_add-result
+overflow_add-result c = omega (arith, product c, (fits c).product, (fits c).corners, c.cube_of-corners.ensures)
 
-mul-result-2 : tie.Need-overflow-mul-result-2
-mul-result-2 c = omega (arith, whole c, (fits c).bound)
+overflow_mul-result-2 : tie.Need-overflow_mul-result-2
+overflow_mul-result-2 c = omega (arith, whole c, (fits c).bound)
 
 returns : tie.Need-returns
 unfolding evaluations_bound plan_with
@@ -79,15 +79,15 @@ pub evaluations_bound_spec : {M : Type 1} → statement M
 evaluations_bound_spec =
     tie.close
     (tie.spec
-    node-total-requires
-    cast-cube-of
-    add-cube-of
-    cube-of-requires
-    cast-cube-of-2
-    cube-of-requires-2
-    cast-cube-of-3
-    cube-of-requires-3
-    mul-result
-    add-result
-    mul-result-2
+    node_total-nodes-requires
+    overflow_cast-n
+    overflow_add-n
+    cube_of-corners-requires
+    overflow_cast-n-2
+    cube_of-children-requires
+    overflow_cast-g
+    cube_of-points-requires
+    overflow_mul-result
+    overflow_add-result
+    overflow_mul-result-2
     returns)

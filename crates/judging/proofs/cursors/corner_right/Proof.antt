@@ -15,105 +15,105 @@ use Rattle.judging.proofs.cursors.corner_right.Tie as tie
 
 -- ---- where a node's children are known
 
-abbrev start : tie.After-cube-of2 → tie.Start
+abbrev start : tie.After-cube_of-children → tie.Start
 start p = p.before.before.before.before.before.before
 
 -- the node is one of the grid's
-inside : (p : tie.After-cube-of2) → (start p).args.v < nodes_of (start p).args.g
-inside p = omega (arith, p.before.before.before.before.node-total.ensures, p.before.before.before.if1.false)
+inside : (p : tie.After-cube_of-children) → (start p).args.v < nodes_of (start p).args.g
+inside p = omega (arith, p.node_total.ensures, p.if-v-node_total.false)
 
 -- its part is inside the kinds
-part : (p : tie.After-cube-of2) →
-    (start p).args.v * p.cube-of2.result + p.cube-of2.result ≤ length (start p).args.kinds.now
+part : (p : tie.After-cube_of-children) →
+    (start p).args.v * p.cube_of-children.result + p.cube_of-children.result ≤ length (start p).args.kinds.now
 part p =
     let s = start p in
-    let r = p.cube-of2.result in
+    let r = p.cube_of-children.result in
     let nodes : ℕ = nodes_of s.args.g in
-    let whole : nodes * r ≡ nodes * cube s.args.g.inner = ap (λ (x : ℕ). nodes * x) p.cube-of2.ensures in
-    omega (arith, row_below r s.args.v nodes (inside p), s.pre.long)
+    let whole : nodes * r ≡ nodes * cube s.args.g.inner = ap (λ (x : ℕ). nodes * x) p.cube_of-children.ensures in
+    omega (arith, row_below r s.args.v nodes (inside p), s.requires.long)
 
 -- ---- what is left
 
-node-total-requires : tie.Need-node-total-requires
-node-total-requires c κs = omega (arith, nodes_few _ (few_nodes _ c.before.requires.five))
+node_total-requires : tie.Need-node_total-requires
+node_total-requires c κs = omega (arith, nodes_few _ (few_nodes _ c.requires.five))
 
-returns : tie.Need-returns
-returns c = let a = c.before.before.before.args in corner_node a.g a.v a.i (omega (arith, c.before.node-total.ensures))
+returns-then-v-node_total : tie.Need-returns-then-v-node_total
+returns-then-v-node_total c = let a = c.args in corner_node a.g a.v a.i (omega (arith, c.node_total.ensures))
 
-cast-cube-of : tie.Need-overflow-cast-cube-of
-cast-cube-of c = search rules
+overflow_cast-n : tie.Need-overflow_cast-n
+overflow_cast-n c = search rules
 
-add-cube-of : tie.Need-overflow-add-cube-of
-add-cube-of c = search rules
+overflow_add-n : tie.Need-overflow_add-n
+overflow_add-n c = search rules
 
-cube-of-requires : tie.Need-cube-of-requires
-cube-of-requires c κs = omega (arith, (inner_block _ c.before.before.before.requires.two).most)
+cube_of-requires : tie.Need-cube_of-requires
+cube_of-requires c κs = omega (arith, (inner_block _ c.requires.two).most)
 
-returns-2 : tie.Need-returns-2
-returns-2 c =
-    let a = c.before.before.before.before.before.args in
-    corner_place a.g a.v a.i (omega (arith, c.before.before.before.node-total.ensures)) (omega (arith, c.before.cube-of.ensures))
+returns-then-i-cube_of : tie.Need-returns-then-i-cube_of
+returns-then-i-cube_of c =
+    let a = c.args in
+    corner_place a.g a.v a.i (omega (arith, c.node_total.ensures)) (omega (arith, c.cube_of.ensures))
 
-cast-cube-of-2 : tie.Need-overflow-cast-cube-of-2
-cast-cube-of-2 c = search rules
+overflow_cast-n-2 : tie.Need-overflow_cast-n-2
+overflow_cast-n-2 c = search rules
 
-cube-of-requires-2 : tie.Need-cube-of-requires-2
-cube-of-requires-2 c κs = omega (arith, (inner_block _ c.before.before.before.before.before.requires.two).most)
+cube_of-children-requires : tie.Need-cube_of-children-requires
+cube_of-children-requires c κs = omega (arith, (inner_block _ c.requires.two).most)
 
-mul-from : tie.Need-overflow-mul-from
-mul-from c = omega (arith, part c)
+overflow_mul-from : tie.Need-overflow_mul-from
+overflow_mul-from c = omega (arith, part c)
 
-add-to : tie.Need-overflow-add-to
-add-to c = omega (arith, part c)
+overflow_add-to : tie.Need-overflow_add-to
+overflow_add-to c = omega (arith, part c)
 
-sub-is-needed : tie.Need-overflow-sub-is-needed
-sub-is-needed c = search rules
+slice_bounds-is_needed-count : tie.Need-slice_bounds-is_needed-count
+slice_bounds-is_needed-count c = search rules
 
-part-is-needed-start : tie.Need-slice-bounds-is-needed-start
-part-is-needed-start c = search rules
+slice_bounds-is_needed-start : tie.Need-slice_bounds-is_needed-start
+slice_bounds-is_needed-start c = search rules
 
-part-is-needed-end : tie.Need-slice-bounds-is-needed-end
-part-is-needed-end c = omega (arith, part c)
+slice_bounds-is_needed-end : tie.Need-slice_bounds-is_needed-end
+slice_bounds-is_needed-end c = omega (arith, part c)
 
-is-needed-requires : tie.Need-is-needed-requires
-is-needed-requires c κs =
-    let p = c.before in
-    let n = inner_block _ (start p).requires.two in (
+is_needed-requires : tie.Need-is_needed-requires
+is_needed-requires c κs =
+    let p = c in
+    let n = inner_block _ (start p.before).requires.two in (
       omega (arith, n.least),
       n.most,
-      simp (length-take, length-drop) (omega (arith, part p, p.cube-of2.ensures)),
+      simp (length-take, length-drop) (omega (arith, part p.before, p.cube_of-children.ensures)),
       omega
-          (arith, p.before.before.cube-of.ensures),
+          (arith, p.cube_of.ensures),
     )
 
-returns-3 : tie.Need-returns-3
-returns-3 c =
-    let p = c.before.before in
-    let s = start p in
+returns : tie.Need-returns
+returns c =
+    let p = c in
+    let s = start p.before.before in
     let a = s.args in
-    let r = p.cube-of2.result in
+    let r = p.cube_of-children.result in
     let size : a.v * r + r - a.v * r ≡ r = omega arith in
-    corner_needed a.g a.v a.i (inside p) (omega (arith, p.before.before.cube-of.ensures))
-    (c.is-needed.ensures
-    ∙ part_needed a.g _ _ a.kinds.now s.pre.right s.pre.long a.v (inside p) (ap (λ n. a.v * n) p.cube-of2.ensures)
-    (size ∙ p.cube-of2.ensures) a.i)
+    corner_needed a.g a.v a.i (inside p.before.before) (omega (arith, p.cube_of.ensures))
+    (c.is_needed.ensures
+    ∙ part_needed a.g _ _ a.kinds.now s.requires.right s.requires.long a.v (inside p.before.before) (ap (λ n. a.v * n) p.cube_of-children.ensures)
+    (size ∙ p.cube_of-children.ensures) a.i)
 
 pub corner_right_spec : {M : Type 1} → statement M
 corner_right_spec =
     tie.close
     (tie.spec
-    node-total-requires
-    returns
-    cast-cube-of
-    add-cube-of
-    cube-of-requires
-    returns-2
-    cast-cube-of-2
-    cube-of-requires-2
-    mul-from
-    add-to
-    sub-is-needed
-    part-is-needed-start
-    part-is-needed-end
-    is-needed-requires
-    returns-3)
+    node_total-requires
+    returns-then-v-node_total
+    overflow_cast-n
+    overflow_add-n
+    cube_of-requires
+    returns-then-i-cube_of
+    overflow_cast-n-2
+    cube_of-children-requires
+    overflow_mul-from
+    overflow_add-to
+    slice_bounds-is_needed-count
+    slice_bounds-is_needed-start
+    slice_bounds-is_needed-end
+    is_needed-requires
+    returns)

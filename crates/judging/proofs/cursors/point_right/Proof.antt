@@ -14,70 +14,70 @@ use Rattle.judging.proofs.cursors.point_right.Tie as tie
 
 -- ---- where the child is one of the node's
 
-abbrev start : tie.Else2 → tie.Start
+abbrev start : tie.Else-c-cube_of → tie.Start
 start p = p.before.before.before.before.before
 
-node : (p : tie.Else2) → (start p).args.v < nodes_of (start p).args.g
-node p = omega (arith, p.before.before.before.if1.false, p.before.before.before.before.node-total.ensures)
+node : (p : tie.Else-c-cube_of) → (start p).args.v < nodes_of (start p).args.g
+node p = omega (arith, p.if-v-node_total.false, p.node_total.ensures)
 
-child : (p : tie.Else2) → (start p).args.c < cube (start p).args.g.inner
-child p = omega (arith, p.if2.false, p.before.cube-of.ensures)
+child : (p : tie.Else-c-cube_of) → (start p).args.c < cube (start p).args.g.inner
+child p = omega (arith, p.if-c-cube_of.false, p.cube_of.ensures)
 
 -- ---- what is left
 
-node-total-requires : tie.Need-node-total-requires
-node-total-requires c κs = omega (arith, nodes_few _ (few_nodes _ c.requires.1))
+node_total-requires : tie.Need-node_total-requires
+node_total-requires c κs = omega (arith, nodes_few _ (few_nodes _ c.requires.1))
+
+returns-then-v-node_total : tie.Need-returns-then-v-node_total
+returns-then-v-node_total c =
+    let a = c.args in
+    point_node a.g a.v a.c a.p (omega (arith, c.node_total.ensures))
+
+overflow_cast-g : tie.Need-overflow_cast-g
+overflow_cast-g c = search rules
+
+cube_of-requires : tie.Need-cube_of-requires
+cube_of-requires c κs = omega (arith, (inner_block _ c.requires.0).most)
+
+returns-then-c-cube_of : tie.Need-returns-then-c-cube_of
+returns-then-c-cube_of c =
+    let a = c.args in
+    point_child a.g a.v a.c a.p (omega (arith, c.node_total.ensures)) (omega (arith, c.cube_of.ensures))
+
+is_active-requires : tie.Need-is_active-requires
+is_active-requires c κs = omega (arith, (inner_block _ (start c).requires.0).least)
+
+returns-then-not-is_active : tie.Need-returns-then-not-is_active
+returns-then-not-is_active c =
+    let p = c in
+    let a = (start p.before.before).args in
+    point_active a.g a.v a.c a.p (node p.before.before) (child p.before.before) (sym c.is_active.ensures ∙ not-true _ c.if-not-is_active.true-raw)
+
+overflow_cast-g-2 : tie.Need-overflow_cast-g-2
+overflow_cast-g-2 c = search rules
+
+cube_of-requires-2 : tie.Need-cube_of-requires-2
+cube_of-requires-2 c κs = omega (arith, (leaf_block _ (start c.before.before.before).requires.0).most)
 
 returns : tie.Need-returns
 returns c =
-    let a = c.before.before.args in
-    point_node a.g a.v a.c a.p (omega (arith, c.before.node-total.ensures))
-
-cast-cube-of : tie.Need-overflow-cast-cube-of
-cast-cube-of c = search rules
-
-cube-of-requires : tie.Need-cube-of-requires
-cube-of-requires c κs = omega (arith, (inner_block _ c.before.before.before.requires.0).most)
-
-returns-2 : tie.Need-returns-2
-returns-2 c =
-    let a = c.before.before.before.before.before.args in
-    point_child a.g a.v a.c a.p (omega (arith, c.before.before.before.before.node-total.ensures)) (omega (arith, c.before.cube-of.ensures))
-
-is-active-requires : tie.Need-is-active-requires
-is-active-requires c κs = omega (arith, (inner_block _ (start c).requires.0).least)
-
-returns-3 : tie.Need-returns-3
-returns-3 c =
-    let p = c.before.before in
-    let a = (start p).args in
-    point_active a.g a.v a.c a.p (node p) (child p) (sym c.before.is_active.ensures ∙ not-true _ c.if3.true)
-
-cast-cube-of-2 : tie.Need-overflow-cast-cube-of-2
-cast-cube-of-2 c = search rules
-
-cube-of-requires-2 : tie.Need-cube-of-requires-2
-cube-of-requires-2 c κs = omega (arith, (leaf_block _ (start c.before.before.before).requires.0).most)
-
-returns-4 : tie.Need-returns-4
-returns-4 c =
-    let active = c.before.before in
-    let p = active.before.before in
-    let a = (start p).args in
-    point_place a.g a.v a.c a.p (node p) (child p) (sym active.before.is_active.ensures ∙ not-false _ active.if3.false)
-    (ap (λ (x : ℕ). ltb a.p x) c.cube-of2.ensures)
+    let active = c in
+    let p = active in
+    let a = (start p.before.before.before.before).args in
+    point_place a.g a.v a.c a.p (node p.before.before.before.before) (child p.before.before.before.before) (sym active.is_active.ensures ∙ not-false _ active.if-not-is_active.false-raw)
+    (ap (λ (x : ℕ). ltb a.p x) c.cube_of-2.ensures)
 
 pub point_right_spec : {M : Type 1} → statement M
 point_right_spec =
     tie.close
     (tie.spec
-    node-total-requires
-    returns
-    cast-cube-of
-    cube-of-requires
-    returns-2
-    is-active-requires
-    returns-3
-    cast-cube-of-2
-    cube-of-requires-2
-    returns-4)
+    node_total-requires
+    returns-then-v-node_total
+    overflow_cast-g
+    cube_of-requires
+    returns-then-c-cube_of
+    is_active-requires
+    returns-then-not-is_active
+    overflow_cast-g-2
+    cube_of-requires-2
+    returns)

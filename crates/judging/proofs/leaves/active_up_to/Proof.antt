@@ -18,114 +18,114 @@ use Rattle.judging.proofs.leaves.active_up_to.Tie as tie
 
 -- ---- where the cursor is known
 
-abbrev counted : tie.After-known-told → tie.After-cube-of
+abbrev counted : tie.In-Corner → tie.After-cube_of-children
 counted p = p.before.before.before
 
-abbrev counted2 : tie.After-known-told2 → tie.After-cube-of
+abbrev counted2 : tie.In-Point → tie.After-cube_of-children
 counted2 p = p.before.before.before
 
-abbrev start : tie.After-cube-of → tie.Start
+abbrev start : tie.After-cube_of-children → tie.Start
 start p = p.before.before.before
 
 -- the children before a corner's node
-at_corner : (p : tie.After-known-told) → let s = start (counted p) in let x = p.before.cursor.given.0 in
-    UpTo (grid_plan s.args.g) s.args.kinds.now (x.0 * (counted p).cube-of.result) (Corner x.0 x.1.0)
+at_corner : (p : tie.In-Corner) → let s = start (counted p) in let x = p.cursor-1.given.0 in
+    UpTo (grid_plan s.args.g) s.args.kinds.now (x.0 * (counted p).cube_of-children.result) (Corner x.0 x.1.0)
 at_corner p =
     let s = start (counted p) in
-    let x = p.before.cursor.given in
-    corner_up_to s.args.g s.args.kinds.now s.pre.0 x.0.0 (counted p).cube-of.result (counted p).cube-of.ensures x.0.1.0
-    (ap (λ (y : Cursor). valid_cursor (grid_plan s.args.g) y) (sym x.1) ∙ s.pre.1)
+    let x = p.cursor-1.given in
+    corner_up_to s.args.g s.args.kinds.now s.requires.0 x.0.0 (counted p).cube_of-children.result (counted p).cube_of-children.ensures x.0.1.0
+    (ap (λ (y : Cursor). valid_cursor (grid_plan s.args.g) y) (sym x.1) ∙ s.requires.1)
 
 -- and up to a point's child
-at_point : (p : tie.After-known-told2) → let s = start (counted2 p) in let x = p.before.cursor2.given.0 in
-    UpTo (grid_plan s.args.g) s.args.kinds.now (x.0 * (counted2 p).cube-of.result + (x.1.0 + 1)) (Point x.0 x.1.0 x.1.1.0)
+at_point : (p : tie.In-Point) → let s = start (counted2 p) in let x = p.cursor-in-Point-1.given.0 in
+    UpTo (grid_plan s.args.g) s.args.kinds.now (x.0 * (counted2 p).cube_of-children.result + (x.1.0 + 1)) (Point x.0 x.1.0 x.1.1.0)
 at_point p =
     let s = start (counted2 p) in
-    let x = p.before.cursor2.given in
-    point_up_to s.args.g s.args.kinds.now s.pre.0 x.0.0 (counted2 p).cube-of.result (counted2 p).cube-of.ensures
+    let x = p.cursor-in-Point-1.given in
+    point_up_to s.args.g s.args.kinds.now s.requires.0 x.0.0 (counted2 p).cube_of-children.result (counted2 p).cube_of-children.ensures
     x.0.1.0 x.0.1.1.0
-    (ap (λ (y : Cursor). valid_cursor (grid_plan s.args.g) y) (sym x.1) ∙ s.pre.1)
+    (ap (λ (y : Cursor). valid_cursor (grid_plan s.args.g) y) (sym x.1) ∙ s.requires.1)
 
 -- ---- what is left
 
-cast-cube-of : tie.Need-overflow-cast-cube-of
-cast-cube-of c = search rules
+overflow_cast-g : tie.Need-overflow_cast-g
+overflow_cast-g c = search rules
 
-cube-of-requires : tie.Need-cube-of-requires
-cube-of-requires c κs = omega (arith, (inner_block _ c.before.before.requires.0.two).most)
+cube_of-children-requires : tie.Need-cube_of-children-requires
+cube_of-children-requires c κs = omega (arith, (inner_block _ c.requires.0.two).most)
 
-enum_told : tie.Need-enum-told
-enum_told c = search rules
+enum_told-1 : tie.Need-enum_told-1
+enum_told-1 c = search rules
 
-active-children-requires : tie.Need-active-children-requires
-active-children-requires c κs = let p = c.before.before.before.before.before.requires.0 in (p.two, p.five)
+active_children-requires : tie.Need-active_children-requires
+active_children-requires c κs = let p = c.requires.0 in (p.two, p.five)
 
-enum-known-cursor : tie.Need-enum-known-cursor
-enum-known-cursor c = search rules
+enum_known-cursor : tie.Need-enum_known-cursor
+enum_known-cursor c = search rules
 
-mul-to : tie.Need-overflow-mul-to
-mul-to c = omega (arith, (at_corner c).inside)
+overflow_mul-to : tie.Need-overflow_mul-to
+overflow_mul-to c = omega (arith, (at_corner c).inside)
 
-slice-aggregate-count-nonzero : tie.Need-slice-aggregate-count-nonzero
-slice-aggregate-count-nonzero c = sym (length-take-le _ _ (at_corner c.before).inside)
+slice_bounds-count_nonzero-end : tie.Need-slice_bounds-count_nonzero-end
+slice_bounds-count_nonzero-end c = sym (length-take-le _ _ (at_corner c).inside)
 
-count-nonzero-requires : tie.Need-count-nonzero-requires
-count-nonzero-requires c κs = search rules
+count_nonzero-requires : tie.Need-count_nonzero-requires
+count_nonzero-requires c κs = search rules
 
-enum-known-cursor-2 : tie.Need-enum-known-cursor-2
-enum-known-cursor-2 c = search rules
+enum_known-cursor-in-Point-1 : tie.Need-enum_known-cursor-in-Point-1
+enum_known-cursor-in-Point-1 c = search rules
 
-mul-to-2 : tie.Need-overflow-mul-to-2
-mul-to-2 c = omega (arith, (at_point c).inside)
+overflow_mul-to-in-Point : tie.Need-overflow_mul-to-in-Point
+overflow_mul-to-in-Point c = omega (arith, (at_point c).inside)
 
-add-to : tie.Need-overflow-add-to
-add-to c = omega (arith, (at_point c).inside)
+overflow_add-to : tie.Need-overflow_add-to
+overflow_add-to c = omega (arith, (at_point c).inside)
 
-add-to-2 : tie.Need-overflow-add-to-2
-add-to-2 c = omega (arith, (at_point c).inside)
+overflow_add-to-in-Point : tie.Need-overflow_add-to-in-Point
+overflow_add-to-in-Point c = omega (arith, (at_point c).inside)
 
-slice-aggregate-count-nonzero-2 : tie.Need-slice-aggregate-count-nonzero-2
-slice-aggregate-count-nonzero-2 c = sym (length-take-le _ _ (at_point c.before).inside)
+slice_bounds-count_nonzero-end-in-Point : tie.Need-slice_bounds-count_nonzero-end-in-Point
+slice_bounds-count_nonzero-end-in-Point c = sym (length-take-le _ _ (at_point c).inside)
 
-count-nonzero-requires-2 : tie.Need-count-nonzero-requires-2
-count-nonzero-requires-2 c κs = search rules
+count_nonzero-requires-in-Point : tie.Need-count_nonzero-requires-in-Point
+count_nonzero-requires-in-Point c κs = search rules
 
-returns : tie.Need-returns
+returns-in-End : tie.Need-returns-in-End
 unfolding active_up_to
-returns c =
+returns-in-End c =
     let g = (start c.before.before.before).args.g in
-    c.active-children.ensures ∙ sym (active_all_lem g _ _) ∙ ap (λ (y : Cursor). active_up_to (grid_plan g) y) (sym c.before.enum_told.given.1)
+    c.active_children.ensures ∙ sym (active_all_lem g _ _) ∙ ap (λ (y : Cursor). active_up_to (grid_plan g) y) (sym c.enum_told-1.given.1)
 
-returns-2 : tie.Need-returns-2
-returns-2 c =
-    let p = c.before.before in
-    let g = (start (counted p)).args.g in
-    c.count-nonzero.ensures ∙ (at_corner p).count ∙ ap (λ (y : Cursor). active_up_to (grid_plan g) y) (sym p.before.cursor.given.1)
+returns-in-Corner : tie.Need-returns-in-Corner
+returns-in-Corner c =
+    let p = c in
+    let g = (start (counted p.before)).args.g in
+    c.count_nonzero.ensures ∙ (at_corner p.before).count ∙ ap (λ (y : Cursor). active_up_to (grid_plan g) y) (sym p.cursor-1.given.1)
 
-returns-3 : tie.Need-returns-3
-returns-3 c =
-    let p = c.before.before in
-    let g = (start (counted2 p)).args.g in
-    c.count-nonzero2.ensures ∙ (at_point p).count ∙ ap (λ (y : Cursor). active_up_to (grid_plan g) y) (sym p.before.cursor2.given.1)
+returns-in-Point : tie.Need-returns-in-Point
+returns-in-Point c =
+    let p = c in
+    let g = (start (counted2 p.before)).args.g in
+    c.count_nonzero-in-Point.ensures ∙ (at_point p.before).count ∙ ap (λ (y : Cursor). active_up_to (grid_plan g) y) (sym p.cursor-in-Point-1.given.1)
 
 pub active_up_to_spec : {M : Type 1} → statement M
 active_up_to_spec =
     tie.close
     (tie.spec
-    cast-cube-of
-    cube-of-requires
-    enum_told
-    active-children-requires
-    enum-known-cursor
-    mul-to
-    slice-aggregate-count-nonzero
-    count-nonzero-requires
-    enum-known-cursor-2
-    mul-to-2
-    add-to
-    add-to-2
-    slice-aggregate-count-nonzero-2
-    count-nonzero-requires-2
-    returns
-    returns-2
-    returns-3)
+    overflow_cast-g
+    cube_of-children-requires
+    enum_told-1
+    active_children-requires
+    enum_known-cursor
+    overflow_mul-to
+    slice_bounds-count_nonzero-end
+    count_nonzero-requires
+    enum_known-cursor-in-Point-1
+    overflow_mul-to-in-Point
+    overflow_add-to
+    overflow_add-to-in-Point
+    slice_bounds-count_nonzero-end-in-Point
+    count_nonzero-requires-in-Point
+    returns-in-End
+    returns-in-Corner
+    returns-in-Point)

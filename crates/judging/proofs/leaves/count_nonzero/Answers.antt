@@ -1,0 +1,32 @@
+-- `count_nonzero` meets its contract: the kinds passed so far are counted.
+use mathlib.Core.Path.{◌≡◌, refl, ap, ◌∙◌}
+use mathlib.Core.Logic.{⊎_elim}
+use Prim.Native.Nat.{◌-◌, ◌≤◌}
+use native.Mathlib.Omega.{arith}
+use lib.ListN.{length, get_or}
+use Rattle.lists.specs.Sums.{sum_from, sum_below, bit}
+use Rattle.lists.specs.Flags.{nonzero}
+use Rattle.judging.proofs.Judgement.{count_more, count_skip}
+use borrow.Author.Rules.{rules}
+use Rattle.judging.proofs.leaves.count_nonzero.Goals as goal
+
+pub loop-i-init : goal.loop-i-init
+unfolding sum_from
+loop-i-init c = (omega arith, omega arith, refl)
+
+pub loop-i-preserved : goal.loop-i-preserved
+loop-i-preserved c =
+    let b = c in
+    let l = b.args.kinds.now in (
+      omega arith,
+      ⊎_elim (λ w. omega arith) (λ w. omega arith) c.if-kinds-i-ne0.branch,
+      ⊎_elim (λ w. count_more l b.loop-i.i b.loop-i.invariant.2 w.0.taken w.1)
+          (λ w. count_skip l b.loop-i.i b.loop-i.invariant.2 w.0.left w.1) c.if-kinds-i-ne0.branch,
+    )
+
+pub returns : goal.returns
+returns c =
+    let l = c.loop-i in
+    let a = c.args.kinds.now in
+    let all : l.i ≡ length a = omega arith in
+    l.invariant.2 ∙ ap (sum_below (λ p. bit (nonzero (get_or a p 0)))) all

@@ -1,0 +1,17 @@
+-- `count_nonzero` meets its contract: the kinds passed so far are counted.
+use mathlib.Core.Path.{◌≡◌, refl, ap, ◌∙◌}
+use mathlib.Core.Logic.{⊎_elim}
+use Prim.Native.Nat.{◌-◌, ◌≤◌}
+use native.Mathlib.Omega.{arith}
+use lib.ListN.{length, get_or}
+use Rattle.lists.specs.Sums.{sum_from, sum_below, bit}
+use Rattle.lists.specs.Flags.{nonzero}
+use Rattle.judging.proofs.Judgement.{count_more, count_skip}
+use borrow.Author.Rules.{rules}
+use Rattle.judging.proofs.leaves.count_nonzero.Given as goal
+
+abbrev pub invariant-loop-i : goal.invariant-loop-i
+invariant-loop-i l = (l.i ≤ length l.kinds) × (l.count ≤ l.i) × (l.count ≡ sum_below (λ p. bit (nonzero (get_or l.kinds p 0))) l.i)
+
+abbrev pub decreases-loop-i : goal.decreases-loop-i
+decreases-loop-i l = length l.kinds - l.i
