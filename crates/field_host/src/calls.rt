@@ -36,8 +36,7 @@ fn hand_back(
 
 // Opens a job, in place of the one that the record has. The settings are the bounds' least end and
 // their most, the cell's size, and the band.
-#[unsafe(no_mangle)]
-pub extern "C" fn jisampode_open(
+pub fn jisampode_open(
     settings: &[f64; 9],
     inner: u32,
     leaf: u32,
@@ -77,8 +76,7 @@ pub extern "C" fn jisampode_open(
 }
 
 // Makes as many evaluations as the budget allows and the job has left.
-#[unsafe(no_mangle)]
-pub extern "C" fn jisampode_step(
+pub fn jisampode_step(
     budget: u64,
     record_words: &mut [u64; 18],
     record_parts: &mut [u32; 192],
@@ -112,8 +110,7 @@ pub extern "C" fn jisampode_step(
 }
 
 // Ends the job, if there is one, and zeroes all five slices.
-#[unsafe(no_mangle)]
-pub extern "C" fn jisampode_drop(
+pub fn jisampode_drop(
     record_words: &mut [u64; 18],
     record_parts: &mut [u32; 192],
     record_settings: &mut [f64; 9],
