@@ -10,49 +10,68 @@ mod case;
 mod tally;
 
 use case::{Operation, Verdict};
+use std::io;
+use std::io::Print;
 
 // At most so many lines of a kind are named.
 const SHOWN: u64 = 10;
 
-fn show_wrong(line: u64, given: u64) {
-    io::write_all(1, b"line ");
-    io::print_decimal(1, line);
-    io::write_all(1, b" is wrong: it gives ");
-    io::print_hex(1, given, 16);
-    io::write_all(1, b"\n");
+fn show_wrong(rt: &impl Print, line: u64, given: u64) -> io::Result<()> {
+    println!(rt; "line {line} is wrong: it gives {given:016x}")
 }
 
-fn show_off(line: u64) {
-    io::write_all(1, b"line ");
-    io::print_decimal(1, line);
-    io::write_all(1, b" is off its form\n");
+fn show_off(rt: &impl Print, line: u64) -> io::Result<()> {
+    println!(rt; "line {line} is off its form")
+}
+
+// Counts a verdict on a line with this operation.
+fn count(verdict: Verdict, op: Operation, cases: &mut [u64; 6], wrong: &mut [u64; 6])
+    ensures cases { cases.new ≡ cases_after verdict op cases.old }
+    ensures wrong { wrong.new ≡ wrong_after verdict op wrong.old }
+{
+    match verdict {
+        Verdict::Right => tally::add(cases, op),
+        Verdict::Wrong(_) => {
+            tally::add(cases, op);
+            tally::add(wrong, op);
+        }
+        Verdict::Off => tally::add(cases, Operation::Other),
+    }
+}
+
+// Names a counted line where it is wrong or off its form.
+fn show(
+    rt: &impl Print,
+    verdict: Verdict,
+    line: u64,
+    cases: &[u64; 6],
+    wrong: &[u64; 6],
+) -> io::Result<()> {
+    match verdict {
+        Verdict::Wrong(given) if tally::total(wrong) <= SHOWN => show_wrong(rt, line, given),
+        Verdict::Off if cases[5] <= SHOWN => show_off(rt, line),
+        _ => Ok(()),
+    }
 }
 
 // Counts one line, and names it where it is wrong or off its form.
-fn count_line(text: &[u8], line: u64, cases: &mut [u64; 6], wrong: &mut [u64; 6])
+fn count_line(
+    rt: &impl Print,
+    text: &[u8],
+    line: u64,
+    cases: &mut [u64; 6],
+    wrong: &mut [u64; 6],
+) -> io::Result<()>
     ensures cases { cases.new ≡ cases_after (verdict_of text.now) (operation_of text.now) cases.old }
     ensures wrong { wrong.new ≡ wrong_after (verdict_of text.now) (operation_of text.now) wrong.old }
 {
     let op = case::named_operation(text);
-    match case::check_line(text) {
-        Verdict::Right => tally::add(cases, op),
-        Verdict::Wrong(given) => {
-            tally::add(cases, op);
-            tally::add(wrong, op);
-            if tally::total(wrong) <= SHOWN {
-                show_wrong(line, given);
-            }
-        }
-        Verdict::Off => {
-            tally::add(cases, Operation::Other);
-            if cases[5] <= SHOWN {
-                show_off(line);
-            }
-        }
-    }
+    let verdict = case::check_line(text);
+    count(verdict, op, cases, wrong);
+    show(rt, verdict, line, cases, wrong)
 }
 
-fn count_lines(text: &[u8]) {
+fn count_lines(rt: &impl Print, text: &[u8]) -> io::Result<()> {
     let mut cases = [0u64; 6];
     let mut wrong = [0u64; 6];
     let mut line: u64 = 0;
@@ -60,14 +79,19 @@ fn count_lines(text: &[u8]) {
     while at < text.len() {
         let end = vectors::line_end(text, at);
         line = std::num::wrapping_add_u64(line, 1);
-        count_line(&text[at..end], line, &mut cases, &mut wrong);
+        count_line(rt, &text[at..end], line, &mut cases, &mut wrong)?;
         at = end;
     }
-    tally::report(&cases, &wrong);
+    tally::report(rt, &cases, &wrong)
 }
 
-fn main() {
-    let mut text = [0u8; 524288];
-    let n = io::read_full(0, &mut text);
-    count_lines(&text[..n]);
+// Room for the whole of standard input.
+fn room() -> [u8; 524288] {
+    [0; 524288]
+}
+
+fn main(rt: HostRuntime) -> io::Result<()> {
+    let mut text = room();
+    let n = streams::read_text(&mut rt.stdin(), &mut text)?;
+    count_lines(&rt, &text[..n])
 }

@@ -3,6 +3,8 @@ ghost use Rattle.std.specs.Prelude.{◌≡◌};
 ghost use Rattle.float_vectors.specs.Tally.{counted, number_of, total_of};
 
 use crate::case::Operation;
+use std::io;
+use std::io::Print;
 
 // Which count an operation has. The last is for the lines that are off their form.
 fn number(op: Operation) -> usize
@@ -36,29 +38,21 @@ pub fn total(counts: &[u64; 6]) -> u64
     std::num::wrapping_add_u64(c, counts[4])
 }
 
-fn print_counts(cases: u64, wrong: u64) {
-    io::print_decimal(1, cases);
-    io::write_all(1, b" cases, ");
-    io::print_decimal(1, wrong);
-    io::write_all(1, b" wrong\n");
+fn print_counts(rt: &impl Print, kind: &str, cases: u64, wrong: u64) -> io::Result<()> {
+    println!(rt; "{kind} {cases} cases, {wrong} wrong")
 }
 
 // A line for each operation, and one for all of them.
-pub fn report(cases: &[u64; 6], wrong: &[u64; 6]) {
-    io::write_all(1, b"sqrt ");
-    print_counts(cases[0], wrong[0]);
-    io::write_all(1, b"floor ");
-    print_counts(cases[1], wrong[1]);
-    io::write_all(1, b"ceil ");
-    print_counts(cases[2], wrong[2]);
-    io::write_all(1, b"min ");
-    print_counts(cases[3], wrong[3]);
-    io::write_all(1, b"max ");
-    print_counts(cases[4], wrong[4]);
-    io::write_all(1, b"total ");
-    print_counts(total(cases), total(wrong));
-    if cases[5] > 0 {
-        io::print_decimal(1, cases[5]);
-        io::write_all(1, b" lines off their form\n");
+pub fn report(rt: &impl Print, cases: &[u64; 6], wrong: &[u64; 6]) -> io::Result<()> {
+    print_counts(rt, "sqrt", cases[0], wrong[0])?;
+    print_counts(rt, "floor", cases[1], wrong[1])?;
+    print_counts(rt, "ceil", cases[2], wrong[2])?;
+    print_counts(rt, "min", cases[3], wrong[3])?;
+    print_counts(rt, "max", cases[4], wrong[4])?;
+    print_counts(rt, "total", total(cases), total(wrong))?;
+    let off = cases[5];
+    if off > 0 {
+        println!(rt; "{off} lines off their form")?;
     }
+    Ok(())
 }

@@ -5,6 +5,8 @@ use crate::Hex;
 use crate::digest::digest_with;
 use crate::digits::byte_at;
 use crate::numbers::hex16;
+use std::io;
+use std::io::Print;
 
 // The answer to a line that is no case: a number that no call gives.
 const OFF: u64 = 0xffff_ffff_ffff_ffff;
@@ -86,12 +88,12 @@ fn put_line(answers: &[u64; 160], count: usize, line: &mut [u8]) -> usize
 }
 
 // Writes a line to standard output: the first numbers of the answers, with single spaces between.
-pub fn write_fields(answers: &[u64; 160], count: usize)
+pub fn write_fields(rt: &impl Print, answers: &[u64; 160], count: usize) -> io::Result<()>
     requires { (0 < count) × (count ≤ 160) }
 {
     let mut line = [32u8; 2720];
     let end = put_line(answers, count, &mut line);
-    io::write_all(1, &line[..end]);
+    rt.write_all(&line[..end])
 }
 
 // The digest of a text whose digest so far is known, and of the line that `write_fields` would write.
@@ -104,8 +106,8 @@ pub fn digest_fields(answers: &[u64; 160], count: usize, digest: u64) -> u64
 }
 
 // Writes a line of one number to standard output.
-pub fn write_number(n: u64) {
+pub fn write_number(rt: &impl Print, n: u64) -> io::Result<()> {
     let mut answers = zeros();
     answers[0] = n;
-    write_fields(&answers, 1);
+    write_fields(rt, &answers, 1)
 }

@@ -1,6 +1,5 @@
 -- `digest_with` meets its contract. The invariant: the bytes that are left make the whole digest.
-use Rattle.std.proofs.Common.{◌≡◌, ◌-◌, ◌≤◌, length, drop, sym, ◌∙◌, arith, rules}
-use Rattle.vectors.specs.Digest.{with_bytes}
+use Rattle.std.proofs.Common.{sym, ◌∙◌, arith}
 use Rattle.vectors.proofs.Digests.{bytes_step, bytes_done}
 use Rattle.vectors.proofs.digest.digest_with.Goals as goal
 

@@ -1,7 +1,6 @@
 -- `digest_with` meets its contract. The invariant: the bytes that are left make the whole digest.
-use Rattle.std.proofs.Common.{◌≡◌, ◌-◌, ◌≤◌, length, drop, sym, ◌∙◌, arith, rules}
+use Rattle.std.proofs.Common.{◌≡◌, ◌-◌, ◌≤◌, length, drop}
 use Rattle.vectors.specs.Digest.{with_bytes}
-use Rattle.vectors.proofs.Digests.{bytes_step, bytes_done}
 use Rattle.vectors.proofs.digest.digest_with.Given as goal
 
 abbrev pub invariant-loop-i : goal.invariant-loop-i

@@ -1,5 +1,5 @@
 -- `byte_at` meets its contract.
-use Rattle.std.proofs.Common.{sym, ◌∙◌, rules}
+use Rattle.std.proofs.Common.{sym, ◌∙◌}
 use Rattle.vectors.proofs.Reading.{byte_inside, byte_outside}
 use Rattle.vectors.proofs.digits.byte_at.Goals as goal
 

@@ -1,5 +1,5 @@
 -- `digits_end` stays between the first place and the end.
-use Rattle.std.proofs.Common.{◌-◌, ◌≤◌, length, rules}
+use Rattle.std.proofs.Common.{◌-◌, ◌≤◌, length}
 use Rattle.vectors.proofs.digits.digits_end.Given as goal
 
 abbrev pub invariant-loop-k : goal.invariant-loop-k

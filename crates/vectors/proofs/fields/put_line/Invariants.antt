@@ -1,5 +1,5 @@
 -- `put_line` stays within the line: a number takes 17 bytes of it.
-use Rattle.std.proofs.Common.{◌≡◌, ◌-◌, ◌≤◌, length, arith, length-set, rules}
+use Rattle.std.proofs.Common.{◌≡◌, ◌-◌, ◌≤◌, length}
 use Rattle.vectors.proofs.fields.put_line.Given as goal
 
 abbrev pub invariant-loop-k : goal.invariant-loop-k

@@ -1,5 +1,5 @@
 -- `put_number` stays within the line and keeps its length.
-use Rattle.std.proofs.Common.{◌≡◌, ◌≤◌, length, rules}
+use Rattle.std.proofs.Common.{◌≡◌, ◌≤◌, length}
 use Rattle.vectors.proofs.fields.put_number.Given as goal
 
 abbrev pub invariant-loop-left : goal.invariant-loop-left

@@ -1,5 +1,5 @@
 -- `read_fields` is safe and ends: each turn goes 17 bytes on and reads one number.
-use Rattle.std.proofs.Common.{◌+◌, ◌-◌, ◌*◌, ◌≤◌, rules}
+use Rattle.std.proofs.Common.{◌+◌, ◌-◌, ◌*◌, ◌≤◌}
 use Rattle.vectors.proofs.fields.read_fields.Given as goal
 
 abbrev pub invariant-loop-at : goal.invariant-loop-at

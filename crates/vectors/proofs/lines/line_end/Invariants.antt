@@ -1,5 +1,5 @@
 -- `line_end` meets its contract. The invariant: no byte 10 from the first place up to the one reached.
-use Rattle.std.proofs.Common.{◌≡◌, ℕ, ◌+◌, ◌-◌, ◌<◌, ◌≤◌, length, get_or, arith, rules, below_more}
+use Rattle.std.proofs.Common.{◌≡◌, ℕ, ◌-◌, ◌<◌, ◌≤◌, length, get_or}
 use Rattle.vectors.proofs.lines.line_end.Given as goal
 
 abbrev pub invariant-loop-k : goal.invariant-loop-k

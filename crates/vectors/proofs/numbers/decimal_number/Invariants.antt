@@ -1,5 +1,5 @@
 -- `decimal_number` is safe and ends: the number so far fits 32 bits.
-use Rattle.std.proofs.Common.{◌-◌, ◌≤◌, length, rules}
+use Rattle.std.proofs.Common.{◌-◌, ◌≤◌, length}
 use Rattle.vectors.proofs.numbers.decimal_number.Given as goal
 
 abbrev pub invariant-loop-k : goal.invariant-loop-k

@@ -1,7 +1,6 @@
 -- `hex16` meets its contract. The invariant: what is left to read gives what the whole gives, and the number has room for the digits left.
-use Rattle.std.proofs.Common.{◌≡◌, ◌+◌, ◌*◌, ◌^◌, ◌<◌, ◌≤◌, sym, ap, ◌∙◌, arith, rules}
+use Rattle.std.proofs.Common.{◌<◌, sym, ap, ◌∙◌, arith}
 use Rattle.forms.specs.Digits.{digit_of}
-use Rattle.vectors.specs.Text.{hex_from}
 use Rattle.vectors.proofs.Reading.{digit_inside, hex_step, hex_stop, hex_done, room_one, room_step}
 use Rattle.vectors.proofs.numbers.hex16.Goals as goal
 

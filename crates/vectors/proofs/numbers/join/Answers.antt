@@ -1,6 +1,5 @@
 -- `join` meets its contract: each return is the case that its tests leave.
 use Rattle.vectors.specs.Text.{joined}
-use Rattle.std.proofs.Common.{rules}
 use Rattle.vectors.proofs.numbers.join.Goals as goal
 
 pub returns-in_default : goal.returns-in_default
@@ -17,4 +16,4 @@ returns-in_default-c c = rw (c.in-Number.is, c.in-Number-b.is, c.in_default-c.is
 
 pub returns : goal.returns
 unfolding joined
-returns c = let p = c.before.before.before.before in rw (p.in-Number.is, p.in-Number-b.is, c.in-Number-c.is)
+returns c = rw (c.in-Number.is, c.in-Number-b.is, c.in-Number-c.is)

@@ -1,5 +1,5 @@
 -- `three_numbers` meets its contract: a law for each byte that may be off, and one for a whole row.
-use Rattle.std.proofs.Common.{sym, ◌∙◌, arith, rules}
+use Rattle.std.proofs.Common.{sym, ◌∙◌, arith}
 use Rattle.vectors.proofs.Reading.{row_short, row_first, row_second, row_third, row_whole}
 use Rattle.vectors.proofs.numbers.three_numbers.Goals as goal
 

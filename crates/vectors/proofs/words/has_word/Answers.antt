@@ -1,6 +1,5 @@
 -- `has_word` meets its contract. The invariant: the rest of the word stands at the place reached exactly if the whole stands at the first.
-use Rattle.std.proofs.Common.{◌≡◌, ◌-◌, ◌<◌, ◌≤◌, length, get_or, drop, sym, ◌∙◌, arith, rules}
-use Rattle.vectors.specs.Text.{has_word}
+use Rattle.std.proofs.Common.{◌<◌, get_or, sym, ◌∙◌, arith}
 use Rattle.vectors.proofs.Reading.{same_inside, word_step, word_stop, word_done}
 use Rattle.vectors.proofs.words.has_word.Goals as goal
 

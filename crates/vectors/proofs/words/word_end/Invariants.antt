@@ -1,5 +1,5 @@
 -- `word_end` ends, at 64 at most.
-use Rattle.std.proofs.Common.{◌-◌, ◌≤◌, rules}
+use Rattle.std.proofs.Common.{◌-◌, ◌≤◌}
 use Rattle.vectors.proofs.words.word_end.Given as goal
 
 abbrev pub invariant-loop-at : goal.invariant-loop-at

@@ -1,5 +1,5 @@
 -- `word_of` is safe and ends: each turn takes one letter.
-use Rattle.std.proofs.Common.{◌-◌, ◌≤◌, rules}
+use Rattle.std.proofs.Common.{◌-◌, ◌≤◌}
 use Rattle.vectors.proofs.words.word_of.Given as goal
 
 abbrev pub invariant-loop-place : goal.invariant-loop-place
