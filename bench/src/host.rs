@@ -1,5 +1,5 @@
-//! The functions of the two libraries: the C interface (`field_host`), and what
-//! the benchmark calls beyond it (`bench_host`).
+//! The functions of the two archives: the C interface (`jisampode`), and what the
+//! benchmark calls beyond it (`bench_host`).
 
 pub mod fields;
 mod model;

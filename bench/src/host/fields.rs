@@ -2,7 +2,7 @@
 
 use super::{Layout, ROW};
 
-#[link(name = "field_host", kind = "static")]
+#[link(name = "jisampode", kind = "static")]
 extern "C" {
     #[cfg(feature = "original")]
     fn jisampode_point_count(bounds: &[f64; 6], cell: f64, counts: &mut [usize; 3]) -> u32;

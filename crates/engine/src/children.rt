@@ -5,7 +5,7 @@ ghost use Rattle.lists.specs.Filled.{filled};
 ghost use Rattle.grid.specs.Blocks.{cube};
 ghost use Rattle.grid.specs.Boxes.{node_box};
 ghost use Rattle.grid.specs.Leaves.{leaf_point};
-ghost use Rattle.schedule.specs.Lent.{memory_of, held, entered, left};
+ghost use Rattle.schedule.specs.Lent.{memory_of};
 ghost use Rattle.rows.specs.Inner.FlatValue.{value_in};
 ghost use Rattle.geometry.specs.Values.{at};
 ghost use Rattle.engine.specs.Inner.Progress.{plan_in, plan_now, plan_by, Sized, Ready, ChildrenAdvanced, leaf_progress};
@@ -186,9 +186,9 @@ pub fn run_children(
     corners: &[f64],
 ) -> Progress
     requires sized { Sized task.grid × (visit.bounds ≡ node_box task.grid visit.node) × (visit.place ≤ cube task.grid.inner) × (task.parts ≤ 64) }
-    requires ready { Ready (plan_now task words reals) visit.node visit.place visit.leaves (held kinds numbers places store corners) }
+    requires ready { Ready (plan_now task words reals) visit.node visit.place visit.leaves (memory_of kinds.old numbers.old places.old store.old corners.now) }
     ensures { ChildrenAdvanced (plan_in task words reals) visit.node visit.place (cube task.grid.inner) visit.left visit.leaves
-        (entered kinds numbers places store corners) (left kinds numbers places store corners) result }
+        (memory_of kinds.old numbers.old places.old store.old corners.now) (memory_of kinds.new numbers.new places.new store.new corners.now) result }
 {
     let g = task.grid;
     let children = grid::cube_of(g.inner as usize);

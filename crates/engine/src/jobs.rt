@@ -3,7 +3,7 @@ ghost use Rattle.std.specs.Prelude.{◌≡◌, false, [], ◌≤◌};
 ghost use Rattle.model.specs.Model.{refused_by_four};
 ghost use Rattle.schedule.specs.Resume.{events_from};
 ghost use Rattle.schedule.specs.Totals.{active_all};
-ghost use Rattle.schedule.specs.Lent.{held, entered, left};
+ghost use Rattle.schedule.specs.Lent.{memory_of};
 ghost use Rattle.plans.specs.Plan.{plan_of};
 ghost use Rattle.engine.specs.Inner.Progress.{Sized, Lent, Advanced, reading_in};
 ghost use Rattle.engine.specs.Inner.Startable.{Startable};
@@ -26,10 +26,10 @@ pub fn run_job(
     corners: &mut [f64],
 ) -> Progress
     requires sized { Sized input.grid × (refused_by_four input.model ≡ false) }
-    requires lent { Lent (plan_of input) (held kinds numbers places store corners)
+    requires lent { Lent (plan_of input) (memory_of kinds.old numbers.old places.old store.old corners.old)
         × Startable (plan_of input) cursor leaves × (leaves ≤ active_all (plan_of input)) }
-    ensures { Advanced (plan_of input) budget leaves (entered kinds numbers places store corners) (left kinds numbers places store corners)
-        (events_from (plan_of input) cursor (reading_in (entered kinds numbers places store corners))) [] result (active_all (plan_of input)) }
+    ensures { Advanced (plan_of input) budget leaves (memory_of kinds.old numbers.old places.old store.old corners.old) (memory_of kinds.new numbers.new places.new store.new corners.new)
+        (events_from (plan_of input) cursor (reading_in (memory_of kinds.old numbers.old places.old store.old corners.old))) [] result (active_all (plan_of input)) }
 {
     let model = input.model;
     let mut words = [0u32; 192];

@@ -4,7 +4,7 @@ ghost use Rattle.std.specs.Prelude.{◌≡◌, [], List, ℕ, ◌≤◌, length,
 ghost use Rattle.float.specs.Zero.{plus_zero};
 ghost use Rattle.schedule.specs.Resume.{events_from};
 ghost use Rattle.schedule.specs.Totals.{active_all};
-ghost use Rattle.schedule.specs.Lent.{memory_of, held, entered, left};
+ghost use Rattle.schedule.specs.Lent.{memory_of};
 ghost use Rattle.engine.specs.Inner.Progress.{plan_in, plan_now, Sized, Advanced, ZeroFrom, reading_in};
 ghost use Rattle.engine.specs.Inner.Turns.{Standable, Evaluable, TurnMade};
 
@@ -125,10 +125,10 @@ pub fn run_from(
     corners: &mut [f64],
 ) -> Progress
     requires sized { Sized task.grid × (task.parts ≤ 64) }
-    requires standable { Standable (plan_now task words reals) standing (held kinds numbers places store corners) }
-    ensures { Advanced (plan_in task words reals) standing.left standing.leaves (entered kinds numbers places store corners)
-        (left kinds numbers places store corners)
-        (events_from (plan_in task words reals) standing.cursor (reading_in (entered kinds numbers places store corners))) [] result
+    requires standable { Standable (plan_now task words reals) standing (memory_of kinds.old numbers.old places.old store.old corners.old) }
+    ensures { Advanced (plan_in task words reals) standing.left standing.leaves (memory_of kinds.old numbers.old places.old store.old corners.old)
+        (memory_of kinds.new numbers.new places.new store.new corners.new)
+        (events_from (plan_in task words reals) standing.cursor (reading_in (memory_of kinds.old numbers.old places.old store.old corners.old))) [] result
         (active_all (plan_in task words reals)) }
 {
     let nodes = grid::node_total(task.grid);

@@ -1,6 +1,5 @@
 -- A record as a host carries it: 18 words, the model's codes and inputs, nine settings, the model's numbers (rules R14 and R15).
 use Rattle.std.specs.Prelude.{ℕ, zero, suc, Bool, true, false, not, cond, ◌&&◌, List, [], ◌∷◌, map, eqb, ltb, get_or, Float}
-use Rattle.lists.specs.Slices.{LentSlice}
 use Rattle.model.specs.Part.{part_in}
 use Rattle.model.specs.Flat.{flat_of, layout_of}
 use Rattle.input.specs.declared.Lengths.{Lengths}
@@ -21,13 +20,6 @@ pub record Carried : Type 0 where
 
 abbrev pub carried_of : (words parts : List ℕ) (settings reals : List Float) → Carried
 carried_of words parts settings reals = record { words = words; parts = parts; settings = settings; reals = reals }
-
--- as a call finds them, and as it leaves them
-abbrev pub carried_in : (words parts : LentSlice ℕ) (settings reals : LentSlice Float) → Carried
-carried_in words parts settings reals = carried_of words.entry.now parts.entry.now settings.entry.now reals.entry.now
-
-abbrev pub carried_out : (words parts : LentSlice ℕ) (settings reals : LentSlice Float) → Carried
-carried_out words parts settings reals = carried_of words.exit.now parts.exit.now settings.exit.now reals.exit.now
 
 -- ---- a record written
 

@@ -3,9 +3,9 @@
 // no array and no slice.
 ghost use Rattle.std.specs.Prelude.{◌≡◌};
 ghost use Rattle.schedule.specs.Calls.{opens, steps, drops};
-ghost use Rattle.schedule.specs.Lent.{entered, left};
+ghost use Rattle.schedule.specs.Lent.{memory_of};
 ghost use Rattle.field_host.specs.Given.{input_lent};
-ghost use Rattle.field_host.specs.Carried.{carried_in, carried_out};
+ghost use Rattle.field_host.specs.Carried.{carried_of};
 ghost use Rattle.field_host.specs.Hosted.{answer_number, carried_after, hosted};
 
 use crate::given::input_given;
@@ -22,7 +22,7 @@ fn hand_back(
     reals: &mut [f64; 256],
 ) -> u32
     ensures answer { result ≡ answer_number outcome.answer }
-    ensures carried { carried_out words parts settings reals ≡ carried_after outcome.answer outcome.next (carried_in words parts settings reals) }
+    ensures carried { carried_of words.new parts.new settings.new reals.new ≡ carried_after outcome.answer outcome.next (carried_of words.old parts.old settings.old reals.old) }
 {
     let answer = outcome.answer;
     match answer {
@@ -36,8 +36,7 @@ fn hand_back(
 
 // Opens a job, in place of the one that the record has. The settings are the bounds' least end and
 // their most, the cell's size, and the band.
-#[unsafe(no_mangle)]
-pub extern "C" fn jisampode_open(
+pub fn jisampode_open(
     settings: &[f64; 9],
     inner: u32,
     leaf: u32,
@@ -55,14 +54,14 @@ pub extern "C" fn jisampode_open(
     corners: &mut [f64],
 ) -> u32
     ensures answer { result
-        ≡ (hosted (opens (input_lent settings inner leaf parts reals count)) (carried_in record_words record_parts record_settings record_reals)
-        (entered kinds numbers places store corners)).number }
-    ensures carried { carried_out record_words record_parts record_settings record_reals
-        ≡ (hosted (opens (input_lent settings inner leaf parts reals count)) (carried_in record_words record_parts record_settings record_reals)
-        (entered kinds numbers places store corners)).carried }
-    ensures memory { left kinds numbers places store corners
-        ≡ (hosted (opens (input_lent settings inner leaf parts reals count)) (carried_in record_words record_parts record_settings record_reals)
-        (entered kinds numbers places store corners)).memory }
+        ≡ (hosted (opens (input_lent settings inner leaf parts reals count)) (carried_of record_words.old record_parts.old record_settings.old record_reals.old)
+        (memory_of kinds.old numbers.old places.old store.old corners.old)).number }
+    ensures carried { carried_of record_words.new record_parts.new record_settings.new record_reals.new
+        ≡ (hosted (opens (input_lent settings inner leaf parts reals count)) (carried_of record_words.old record_parts.old record_settings.old record_reals.old)
+        (memory_of kinds.old numbers.old places.old store.old corners.old)).carried }
+    ensures memory { memory_of kinds.new numbers.new places.new store.new corners.new
+        ≡ (hosted (opens (input_lent settings inner leaf parts reals count)) (carried_of record_words.old record_parts.old record_settings.old record_reals.old)
+        (memory_of kinds.old numbers.old places.old store.old corners.old)).memory }
 {
     let input = input_given(settings, inner, leaf, parts, reals, count);
     let found = sparse_field::no_record();
@@ -77,8 +76,7 @@ pub extern "C" fn jisampode_open(
 }
 
 // Makes as many evaluations as the budget allows and the job has left.
-#[unsafe(no_mangle)]
-pub extern "C" fn jisampode_step(
+pub fn jisampode_step(
     budget: u64,
     record_words: &mut [u64; 18],
     record_parts: &mut [u32; 192],
@@ -91,14 +89,14 @@ pub extern "C" fn jisampode_step(
     corners: &mut [f64],
 ) -> u32
     ensures answer { result
-        ≡ (hosted (steps budget) (carried_in record_words record_parts record_settings record_reals)
-        (entered kinds numbers places store corners)).number }
-    ensures carried { carried_out record_words record_parts record_settings record_reals
-        ≡ (hosted (steps budget) (carried_in record_words record_parts record_settings record_reals)
-        (entered kinds numbers places store corners)).carried }
-    ensures memory { left kinds numbers places store corners
-        ≡ (hosted (steps budget) (carried_in record_words record_parts record_settings record_reals)
-        (entered kinds numbers places store corners)).memory }
+        ≡ (hosted (steps budget) (carried_of record_words.old record_parts.old record_settings.old record_reals.old)
+        (memory_of kinds.old numbers.old places.old store.old corners.old)).number }
+    ensures carried { carried_of record_words.new record_parts.new record_settings.new record_reals.new
+        ≡ (hosted (steps budget) (carried_of record_words.old record_parts.old record_settings.old record_reals.old)
+        (memory_of kinds.old numbers.old places.old store.old corners.old)).carried }
+    ensures memory { memory_of kinds.new numbers.new places.new store.new corners.new
+        ≡ (hosted (steps budget) (carried_of record_words.old record_parts.old record_settings.old record_reals.old)
+        (memory_of kinds.old numbers.old places.old store.old corners.old)).memory }
 {
     let found = record::decode(record_words, record_parts, record_settings, record_reals);
     let outcome = sparse_field::step(found, budget, kinds, numbers, places, store, corners);
@@ -112,8 +110,7 @@ pub extern "C" fn jisampode_step(
 }
 
 // Ends the job, if there is one, and zeroes all five slices.
-#[unsafe(no_mangle)]
-pub extern "C" fn jisampode_drop(
+pub fn jisampode_drop(
     record_words: &mut [u64; 18],
     record_parts: &mut [u32; 192],
     record_settings: &mut [f64; 9],
@@ -125,11 +122,11 @@ pub extern "C" fn jisampode_drop(
     corners: &mut [f64],
 ) -> u32
     ensures answer { result
-        ≡ (hosted drops (carried_in record_words record_parts record_settings record_reals) (entered kinds numbers places store corners)).number }
-    ensures carried { carried_out record_words record_parts record_settings record_reals
-        ≡ (hosted drops (carried_in record_words record_parts record_settings record_reals) (entered kinds numbers places store corners)).carried }
-    ensures memory { left kinds numbers places store corners
-        ≡ (hosted drops (carried_in record_words record_parts record_settings record_reals) (entered kinds numbers places store corners)).memory }
+        ≡ (hosted drops (carried_of record_words.old record_parts.old record_settings.old record_reals.old) (memory_of kinds.old numbers.old places.old store.old corners.old)).number }
+    ensures carried { carried_of record_words.new record_parts.new record_settings.new record_reals.new
+        ≡ (hosted drops (carried_of record_words.old record_parts.old record_settings.old record_reals.old) (memory_of kinds.old numbers.old places.old store.old corners.old)).carried }
+    ensures memory { memory_of kinds.new numbers.new places.new store.new corners.new
+        ≡ (hosted drops (carried_of record_words.old record_parts.old record_settings.old record_reals.old) (memory_of kinds.old numbers.old places.old store.old corners.old)).memory }
 {
     let found = sparse_field::no_record();
     let outcome = sparse_field::drop(found, kinds, numbers, places, store, corners);

@@ -21,8 +21,7 @@ fn put_count(answer: CornerList, count: &mut [usize; 1]) -> u32
 
 // Writes each needed corner of a node once, in no promised order, zeroes the rest of the list, and
 // counts them. A kind that is not 0 is an active child. Refused by 2, then 6.
-#[unsafe(no_mangle)]
-pub extern "C" fn jisampode_corner_list(
+pub fn jisampode_corner_list(
     inner: u32,
     kinds: &[u8],
     list: &mut [u32],

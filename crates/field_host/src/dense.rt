@@ -44,12 +44,7 @@ fn put_count(answer: PointCount, counts: &mut [usize; 3]) -> u32
 }
 
 // How many points a field over bounds has along each axis. Refused as rule D3 says.
-#[unsafe(no_mangle)]
-pub extern "C" fn jisampode_point_count(
-    bounds: &[f64; 6],
-    cell: f64,
-    counts: &mut [usize; 3],
-) -> u32
+pub fn jisampode_point_count(bounds: &[f64; 6], cell: f64, counts: &mut [usize; 3]) -> u32
     ensures answer { result ≡ count_number (point_count_of (box_in bounds.now) cell) }
     ensures counts { counts.new ≡ counts_left counts.old (point_count_of (box_in bounds.now) cell) }
 {
@@ -58,8 +53,7 @@ pub extern "C" fn jisampode_point_count(
 
 // The values of a model at all points of a field: its origin (x, y, z) and so many cells along each
 // axis. Refused by 1, then 4, then 9.
-#[unsafe(no_mangle)]
-pub extern "C" fn jisampode_sample(
+pub fn jisampode_sample(
     parts: &[u32; 192],
     reals: &[f64; 256],
     count: u32,
@@ -90,14 +84,7 @@ pub extern "C" fn jisampode_sample(
 }
 
 // Every point on the outside set to a value. Refused by 9.
-#[unsafe(no_mangle)]
-pub extern "C" fn jisampode_padding(
-    nx: usize,
-    ny: usize,
-    nz: usize,
-    value: f64,
-    values: &mut [f64],
-) -> u32
+pub fn jisampode_padding(nx: usize, ny: usize, nz: usize, value: f64, values: &mut [f64]) -> u32
     ensures answer { result ≡ outcome_number (outcome_of (vec3i nx ny nz) (length values.old)) }
     ensures values { values.new
         ≡ cond (values_refused (vec3i nx ny nz) (length values.old)) values.old
@@ -112,14 +99,7 @@ pub extern "C" fn jisampode_padding(
 }
 
 // Values below a limit in size set to +0. Refused by 9.
-#[unsafe(no_mangle)]
-pub extern "C" fn jisampode_threshold(
-    nx: usize,
-    ny: usize,
-    nz: usize,
-    limit: f64,
-    values: &mut [f64],
-) -> u32
+pub fn jisampode_threshold(nx: usize, ny: usize, nz: usize, limit: f64, values: &mut [f64]) -> u32
     ensures answer { result ≡ outcome_number (outcome_of (vec3i nx ny nz) (length values.old)) }
     ensures values { values.new
         ≡ cond (values_refused (vec3i nx ny nz) (length values.old)) values.old (thresholded limit values.old) }
@@ -133,8 +113,7 @@ pub extern "C" fn jisampode_threshold(
 }
 
 // Rounds of smoothing. The scratch is zeroed whole. Refused by 9.
-#[unsafe(no_mangle)]
-pub extern "C" fn jisampode_smooth(
+pub fn jisampode_smooth(
     nx: usize,
     ny: usize,
     nz: usize,

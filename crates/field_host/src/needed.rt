@@ -24,8 +24,7 @@ fn any_refusal(input: Input) -> Refusal
 
 // Writes the lengths of kinds, numbers, places, store and corners that an open of this input needs.
 // Refused by the causes 1 to 5 of an open.
-#[unsafe(no_mangle)]
-pub extern "C" fn jisampode_lengths(
+pub fn jisampode_lengths(
     settings: &[f64; 9],
     inner: u32,
     leaf: u32,

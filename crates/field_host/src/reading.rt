@@ -17,8 +17,7 @@ fn words_number(words: &[u64; 18]) -> u32
 }
 
 // Nodes, active children, leaves so far, their points, and evaluations so far.
-#[unsafe(no_mangle)]
-pub extern "C" fn jisampode_counts(record_words: &[u64; 18], counts: &mut [u64; 5]) -> u32
+pub fn jisampode_counts(record_words: &[u64; 18], counts: &mut [u64; 5]) -> u32
     ensures answer { result ≡ words_number record_words.now }
     ensures counts { counts.new
         ≡ cond (eqb (words_number record_words.now) 0) (counts_list (counts_given record_words.now)) counts.old }
@@ -40,8 +39,7 @@ pub extern "C" fn jisampode_counts(record_words: &[u64; 18], counts: &mut [u64; 
 
 // Where the job has come to: 0 at its end, 1 at a node's corner, 2 at a point of a node's child; then
 // the node, the corner or child, and the point, each 0 where there is none.
-#[unsafe(no_mangle)]
-pub extern "C" fn jisampode_cursor(record_words: &[u64; 18], cursor: &mut [u64; 4]) -> u32
+pub fn jisampode_cursor(record_words: &[u64; 18], cursor: &mut [u64; 4]) -> u32
     ensures answer { result ≡ words_number record_words.now }
     ensures cursor { cursor.new
         ≡ cond (eqb (words_number record_words.now) 0) (cursor_words (cursor_given record_words.now)) cursor.old }

@@ -1,26 +1,7 @@
 // A record in four arrays: 18 words, the model's codes and inputs, nine settings, the model's numbers.
 // Reading takes any arrays. Those that no record has read as a record that step refuses by 8.
 ghost use Rattle.std.specs.Prelude.{◌≡◌};
-ghost use Rattle.field_host.specs.Carried.{
-  carried_in,
-  carried_out,
-  fits,
-  lengths_given,
-  counts_given,
-  cursor_given,
-  cursor_of,
-  flag_word,
-  cursor_tag,
-  cursor_node,
-  cursor_place,
-  cursor_point,
-  unread,
-  record_given,
-  decoded,
-  words_of,
-  settings_of,
-  encoded,
-};
+ghost use Rattle.field_host.specs.Carried.{carried_of, fits, lengths_given, counts_given, cursor_given, cursor_of, flag_word, cursor_tag, cursor_node, cursor_place, cursor_point, unread, record_given, decoded, words_of, settings_of, encoded, };
 
 use crate::given::input_given;
 use grid::GridCounts;
@@ -129,7 +110,7 @@ pub fn decode(
     settings: &[f64; 9],
     reals: &[f64; 256],
 ) -> Record
-    ensures { result ≡ decoded (carried_in words parts settings reals) }
+    ensures { result ≡ decoded (carried_of words.now parts.now settings.now reals.now) }
 {
     if !words_fit(words) {
         return unread_record(words[0] != 0);
@@ -240,7 +221,7 @@ pub fn encode(
     settings: &mut [f64; 9],
     reals: &mut [f64; 256],
 )
-    ensures { carried_out words parts settings reals ≡ encoded r }
+    ensures { carried_of words.new parts.new settings.new reals.new ≡ encoded r }
 {
     let job = r.job;
     let input = job.input;

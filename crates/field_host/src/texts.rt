@@ -23,8 +23,7 @@ fn put_length(answer: Listing, written: &mut [usize; 1]) -> u32
 
 // Reads a job's text, runs the job and writes what `fieldlist` prints for it at the front of the lent
 // bytes, with 0 after it. `written` has its length. Refused by 6 where the bytes are too few.
-#[unsafe(no_mangle)]
-pub extern "C" fn jisampode_list_job(text: &[u8], out: &mut [u8], written: &mut [usize; 1]) -> u32
+pub fn jisampode_list_job(text: &[u8], out: &mut [u8], written: &mut [usize; 1]) -> u32
     ensures answer { result ≡ listing_number (put_answer (listed text.now) out.old) }
     ensures out { out.new ≡ put_bytes (listed text.now) out.old }
     ensures written { written.new ≡ listing_length written.old (put_answer (listed text.now) out.old) }

@@ -76,8 +76,7 @@ fn put_point_step(step: PointStep, cursor: &mut [usize; 3], point: &mut [f64; 3]
 }
 
 // The point at the cursor of a walk over nx × ny × nz points. Refused by 1, then 11.
-#[unsafe(no_mangle)]
-pub extern "C" fn jisampode_point_step(
+pub fn jisampode_point_step(
     bounds: &[f64; 6],
     nx: usize,
     ny: usize,
@@ -118,8 +117,7 @@ fn put_cell_step(step: CellStep, cursor: &mut [usize; 3], cell: &mut [f64; 6]) -
 }
 
 // The ends of the cell at the cursor of a walk over nx × ny × nz cells. Refused by 1, then 11.
-#[unsafe(no_mangle)]
-pub extern "C" fn jisampode_cell_step(
+pub fn jisampode_cell_step(
     bounds: &[f64; 6],
     nx: usize,
     ny: usize,
@@ -163,8 +161,7 @@ fn put_octet_step(walk: OctetWalk, cursor: &mut [usize; 3], octet: &mut [f64; 8]
 
 // The octet at the cursor of a walk over the cells of a field of nx × ny × nz values. Refused by 9,
 // then 10.
-#[unsafe(no_mangle)]
-pub extern "C" fn jisampode_octet_step(
+pub fn jisampode_octet_step(
     nx: usize,
     ny: usize,
     nz: usize,

@@ -11,7 +11,7 @@ use Rattle.model.specs.declared.ModelComponent.{ModelComponent}
 use Rattle.model.specs.declared.Part.{Part}
 use Rattle.float.specs.Zero.{plus_zero}
 use Rattle.model.specs.declared.Part.TheVariants.{Constant}
-use Rattle.job_text.specs.Parts.{pattern_from, Spelt, PartLine, none, part, read_part}
+use Rattle.job_text.specs.Parts.{pattern_from, Spelt, PartLine, none, read_part}
 use Rattle.job_text.specs.Reading.{Parts, off_at, parts, with_part, on_part, read_parts, component_of, components_of, patterns_of, off_reading, read_job}
 use Rattle.job_text.specs.Inner.TextAnswers.{IsPart, model_reading}
 

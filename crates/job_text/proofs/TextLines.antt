@@ -10,7 +10,7 @@ use Rattle.grid.specs.declared.Grid.{Grid}
 use Rattle.forms.specs.Forms.{off, line, read_form}
 use Rattle.job_text.specs.Lines.{limit, bounds_form, cell_form, blocks_form, band_form}
 use Rattle.job_text.specs.Parts.{Spelt}
-use Rattle.job_text.specs.Reading.{Written, Read, Parts, off_at, parts, read_parts, on_line, on_parts, read_text, grid_of, band_of, reading_of}
+use Rattle.job_text.specs.Reading.{Written, Read, Parts, parts, read_parts, on_line, on_parts, read_text, grid_of, band_of, reading_of}
 use Rattle.job_text.specs.declared.Reading.{Reading}
 use Rattle.job_text.specs.Inner.TextAnswers.{model_reading}
 

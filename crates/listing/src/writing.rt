@@ -3,7 +3,7 @@ ghost use Rattle.std.specs.Prelude.{◌≡◌, true, false, [], ◌∷◌, ◌++
 ghost use Rattle.std.proofs.lemmas.List.Edits.{sets};
 ghost use Rattle.schedule.specs.Possible.{impossible};
 ghost use Rattle.lists.specs.Sums.{sum_below};
-ghost use Rattle.schedule.specs.Lent.{memory_of, held, entered};
+ghost use Rattle.schedule.specs.Lent.{memory_of};
 ghost use Rattle.plans.specs.Sparse.{sparse};
 ghost use Rattle.forms.specs.Forms.{piece_of, spell};
 ghost use Rattle.listing.specs.Inner.Lengths.{length_at, Sizes};
@@ -192,9 +192,9 @@ fn write_possible(
     corners: &[f64],
     out: &mut [u8],
 ) -> Listing
-    requires { impossible sparse job (held kinds numbers places store corners) ≡ false }
-    ensures answer { result ≡ (possible_written job nan (entered kinds numbers places store corners) out.old).answer }
-    ensures out { out.new ≡ (possible_written job nan (entered kinds numbers places store corners) out.old).bytes }
+    requires { impossible sparse job (memory_of kinds.now numbers.now places.now store.now corners.now) ≡ false }
+    ensures answer { result ≡ (possible_written job nan (memory_of kinds.now numbers.now places.now store.now corners.now) out.old).answer }
+    ensures out { out.new ≡ (possible_written job nan (memory_of kinds.now numbers.now places.now store.now corners.now) out.old).bytes }
 {
     let cursor = job.cursor;
     if !at_end(cursor) {
@@ -231,8 +231,8 @@ pub fn write_listing(
     corners: &[f64],
     out: &mut [u8],
 ) -> Listing
-    ensures answer { result ≡ (written «record» nan (entered kinds numbers places store corners) out.old).answer }
-    ensures out { out.new ≡ (written «record» nan (entered kinds numbers places store corners) out.old).bytes }
+    ensures answer { result ≡ (written «record» nan (memory_of kinds.now numbers.now places.now store.now corners.now) out.old).answer }
+    ensures out { out.new ≡ (written «record» nan (memory_of kinds.now numbers.now places.now store.now corners.now) out.old).bytes }
 {
     if !record.opened {
         return Listing::Refused(7);

@@ -5,7 +5,7 @@ ghost use Rattle.schedule.specs.Calls.{opens, steps, drops};
 ghost use Rattle.schedule.specs.Opened.{lengths_of};
 ghost use Rattle.schedule.specs.Possible.{impossible};
 ghost use Rattle.schedule.specs.Engine.{opened_engine, stepped_engine};
-ghost use Rattle.schedule.specs.Lent.{held, entered, left};
+ghost use Rattle.schedule.specs.Lent.{memory_of};
 ghost use Rattle.sparse_field.specs.Calls.{called};
 ghost use Rattle.sparse_field.specs.Inner.Parts.{start_memory};
 ghost use Rattle.plans.specs.Sparse.{sparse};
@@ -24,8 +24,8 @@ fn prepare(
     store: &mut [f64],
     corners: &mut [f64],
 )
-    requires { sparse.cause (lengths_of (held kinds numbers places store corners)) input ≡ 0 }
-    ensures { left kinds numbers places store corners ≡ start_memory input (lengths_of (entered kinds numbers places store corners)) }
+    requires { sparse.cause (lengths_of (memory_of kinds.old numbers.old places.old store.old corners.old)) input ≡ 0 }
+    ensures { memory_of kinds.new numbers.new places.new store.new corners.new ≡ start_memory input (lengths_of (memory_of kinds.old numbers.old places.old store.old corners.old)) }
 {
     memory::zero_all(kinds, numbers, places, store, corners);
     kinds::set_kinds(input.grid, kinds);
@@ -41,11 +41,11 @@ fn opened(
     store: &mut [f64],
     corners: &mut [f64],
 ) -> Record
-    requires { (lengths ≡ lengths_of (held kinds numbers places store corners))
-        × (sparse.cause (lengths_of (held kinds numbers places store corners)) input ≡ 0) }
-    ensures next { result ≡ (opened_engine sparse input (lengths_of (entered kinds numbers places store corners))).job_record }
-    ensures memory { left kinds numbers places store corners
-        ≡ (opened_engine sparse input (lengths_of (entered kinds numbers places store corners))).memory }
+    requires { (lengths ≡ lengths_of (memory_of kinds.old numbers.old places.old store.old corners.old))
+        × (sparse.cause (lengths_of (memory_of kinds.old numbers.old places.old store.old corners.old)) input ≡ 0) }
+    ensures next { result ≡ (opened_engine sparse input (lengths_of (memory_of kinds.old numbers.old places.old store.old corners.old))).job_record }
+    ensures memory { memory_of kinds.new numbers.new places.new store.new corners.new
+        ≡ (opened_engine sparse input (lengths_of (memory_of kinds.old numbers.old places.old store.old corners.old))).memory }
 {
     prepare(input, kinds, numbers, places, store, corners);
     let start = Cursor::Corner(0, 0);
@@ -65,9 +65,9 @@ pub fn open(
     store: &mut [f64],
     corners: &mut [f64],
 ) -> Outcome
-    ensures answer { result.answer ≡ (called (opens input) found (entered kinds numbers places store corners)).answer }
-    ensures next { result.next ≡ (called (opens input) found (entered kinds numbers places store corners)).next.job_record }
-    ensures memory { left kinds numbers places store corners ≡ (called (opens input) found (entered kinds numbers places store corners)).next.memory }
+    ensures answer { result.answer ≡ (called (opens input) found (memory_of kinds.old numbers.old places.old store.old corners.old)).answer }
+    ensures next { result.next ≡ (called (opens input) found (memory_of kinds.old numbers.old places.old store.old corners.old)).next.job_record }
+    ensures memory { memory_of kinds.new numbers.new places.new store.new corners.new ≡ (called (opens input) found (memory_of kinds.old numbers.old places.old store.old corners.old)).next.memory }
 {
     let lengths = memory::lengths_of(kinds, numbers, places, store, corners);
     let refusal = input::open_refusal(input, lengths);
@@ -94,10 +94,10 @@ fn stepped(
     store: &mut [f64],
     corners: &mut [f64],
 ) -> Record
-    requires { impossible sparse job (held kinds numbers places store corners) ≡ false }
-    ensures next { result ≡ (stepped_engine sparse budget job (entered kinds numbers places store corners)).job_record }
-    ensures memory { left kinds numbers places store corners
-        ≡ (stepped_engine sparse budget job (entered kinds numbers places store corners)).memory }
+    requires { impossible sparse job (memory_of kinds.old numbers.old places.old store.old corners.old) ≡ false }
+    ensures next { result ≡ (stepped_engine sparse budget job (memory_of kinds.old numbers.old places.old store.old corners.old)).job_record }
+    ensures memory { memory_of kinds.new numbers.new places.new store.new corners.new
+        ≡ (stepped_engine sparse budget job (memory_of kinds.old numbers.old places.old store.old corners.old)).memory }
 {
     let counts = job.counts;
     let cursor = job.cursor;
@@ -128,9 +128,9 @@ pub fn step(
     store: &mut [f64],
     corners: &mut [f64],
 ) -> Outcome
-    ensures answer { result.answer ≡ (called (steps budget) found (entered kinds numbers places store corners)).answer }
-    ensures next { result.next ≡ (called (steps budget) found (entered kinds numbers places store corners)).next.job_record }
-    ensures memory { left kinds numbers places store corners ≡ (called (steps budget) found (entered kinds numbers places store corners)).next.memory }
+    ensures answer { result.answer ≡ (called (steps budget) found (memory_of kinds.old numbers.old places.old store.old corners.old)).answer }
+    ensures next { result.next ≡ (called (steps budget) found (memory_of kinds.old numbers.old places.old store.old corners.old)).next.job_record }
+    ensures memory { memory_of kinds.new numbers.new places.new store.new corners.new ≡ (called (steps budget) found (memory_of kinds.old numbers.old places.old store.old corners.old)).next.memory }
 {
     if !found.opened {
         return Outcome {
@@ -161,9 +161,9 @@ pub fn drop(
     store: &mut [f64],
     corners: &mut [f64],
 ) -> Outcome
-    ensures answer { result.answer ≡ (called drops found (entered kinds numbers places store corners)).answer }
-    ensures next { result.next ≡ (called drops found (entered kinds numbers places store corners)).next.job_record }
-    ensures memory { left kinds numbers places store corners ≡ (called drops found (entered kinds numbers places store corners)).next.memory }
+    ensures answer { result.answer ≡ (called drops found (memory_of kinds.old numbers.old places.old store.old corners.old)).answer }
+    ensures next { result.next ≡ (called drops found (memory_of kinds.old numbers.old places.old store.old corners.old)).next.job_record }
+    ensures memory { memory_of kinds.new numbers.new places.new store.new corners.new ≡ (called drops found (memory_of kinds.old numbers.old places.old store.old corners.old)).next.memory }
 {
     memory::zero_all(kinds, numbers, places, store, corners);
     Outcome {

@@ -2,7 +2,7 @@
 ghost use Rattle.std.specs.Prelude.{◌≡◌, not, eqb};
 ghost use Rattle.input.specs.Causes.{refusal_of, number_of};
 ghost use Rattle.schedule.specs.Possible.{same_lengths, impossible};
-ghost use Rattle.schedule.specs.Lent.{entered};
+ghost use Rattle.schedule.specs.Lent.{memory_of};
 ghost use Rattle.plans.specs.Sparse.{sparse};
 
 use crate::memory::lengths_of;
@@ -47,7 +47,7 @@ pub fn is_impossible(
     store: &[f64],
     corners: &[f64],
 ) -> bool
-    ensures { result ≡ impossible sparse job (entered kinds numbers places store corners) }
+    ensures { result ≡ impossible sparse job (memory_of kinds.now numbers.now places.now store.now corners.now) }
 {
     let input = job.input;
     let lengths = lengths_of(kinds, numbers, places, store, corners);

@@ -1,7 +1,7 @@
 // The memory that a job is lent: the lengths of its five slices, and all of them set to zero.
 ghost use Rattle.std.specs.Prelude.{◌≡◌};
 ghost use Rattle.schedule.specs.Opened.{lengths_of, zero_memory};
-ghost use Rattle.schedule.specs.Lent.{entered, left};
+ghost use Rattle.schedule.specs.Lent.{memory_of};
 
 use input::Lengths;
 
@@ -13,7 +13,7 @@ pub fn lengths_of(
     store: &[f64],
     corners: &[f64],
 ) -> Lengths
-    ensures { result ≡ lengths_of (entered kinds numbers places store corners) }
+    ensures { result ≡ lengths_of (memory_of kinds.now numbers.now places.now store.now corners.now) }
 {
     Lengths {
         kinds: kinds.len(),
@@ -32,7 +32,7 @@ pub fn zero_all(
     store: &mut [f64],
     corners: &mut [f64],
 )
-    ensures { left kinds numbers places store corners ≡ zero_memory (lengths_of (entered kinds numbers places store corners)) }
+    ensures { memory_of kinds.new numbers.new places.new store.new corners.new ≡ zero_memory (lengths_of (memory_of kinds.old numbers.old places.old store.old corners.old)) }
 {
     slices::zero_bytes(kinds);
     slices::zero_floats(numbers);

@@ -120,28 +120,28 @@ enum_known-verdict : tie.Need-enum_known-verdict
 enum_known-verdict c = search rules
 
 bounds-kinds-j-in-Constant : tie.Need-bounds-kinds-j-in-Constant
-bounds-kinds-j-in-Constant c = omega (arith, inside (counted c.before.before.before))
+bounds-kinds-j-in-Constant c = omega (arith, inside (counted c.before))
 
 offset_bounds-numbers-j : tie.Need-offset_bounds-numbers-j
-offset_bounds-numbers-j c = omega (arith, few (counted c.before.before.before))
+offset_bounds-numbers-j c = omega (arith, few (counted c.before))
 
 bounds-numbers-j : tie.Need-bounds-numbers-j
-bounds-numbers-j c = omega (arith, inside (counted c.before.before.before))
+bounds-numbers-j c = omega (arith, inside (counted c.before))
 
 enum_told-1 : tie.Need-enum_told-1
 enum_told-1 c = search rules
 
 bounds-kinds-j-in-Leaf : tie.Need-bounds-kinds-j-in-Leaf
-bounds-kinds-j-in-Leaf c = omega (arith, inside (counted c.before.before))
+bounds-kinds-j-in-Leaf c = omega (arith, inside (counted c.before))
 
 overflow_cast-places : tie.Need-overflow_cast-places
-overflow_cast-places c = omega (arith, few_leaves c.before.before.before)
+overflow_cast-places c = omega (arith, few_leaves c.before.before)
 
 offset_bounds-places-j : tie.Need-offset_bounds-places-j
-offset_bounds-places-j c = omega (arith, few (counted c.before.before.before))
+offset_bounds-places-j c = omega (arith, few (counted c.before.before))
 
 bounds-places-j : tie.Need-bounds-places-j
-bounds-places-j c = omega (arith, inside (counted c.before.before.before))
+bounds-places-j c = omega (arith, inside (counted c.before.before))
 
 shape_of-kinds-in-Constant : tie.Need-shape_of-kinds-in-Constant
 shape_of-kinds-in-Constant c = search rules
@@ -158,7 +158,7 @@ kind_above d is =
 returns-in-Constant : tie.Need-returns-in-Constant
 returns-in-Constant c =
     let d = c in
-    let p = counted d.before.before.before in
+    let p = counted d.before in
     let s = start p in
     let a = s.args in
     let w = a.visit in
@@ -166,7 +166,7 @@ returns-in-Constant c =
     let done = constant_turn a.task.grid (decide s) value w.node w.place w.left w.leaves (memory s store) w.bounds
     s.requires.0.1 s.requires.0.2 ready p.cube_of.result p.cube_of.ensures
     d.octet_values-octet.ensures d.child_box-child.ensures d.decide_child-verdict.ensures
-    d.if-kinds-j-eq-EMPTY.false c.verdict-1.given.1 (kind_above d.before.before.before c.verdict-1.given.1) in
+    d.if-kinds-j-eq-EMPTY.false c.in-Constant.is (kind_above d.before c.in-Constant.is) in
     record { fits = tt; then = λ after r points. without_points _ _ _ _ _ done points }
 
 shape_of-kinds-in-Leaf : tie.Need-shape_of-kinds-in-Leaf
@@ -178,7 +178,7 @@ shape_of-places c = search rules
 returns-in-Leaf : tie.Need-returns-in-Leaf
 returns-in-Leaf c =
     let d = c in
-    let p = counted d.before.before.before in
+    let p = counted d.before.before in
     let s = start p in
     let a = s.args in
     let w = a.visit in
@@ -191,7 +191,7 @@ returns-in-Leaf c =
       then = λ after r points. leaf_turn a.task.grid (decide s) value w.node w.place w.left w.leaves (memory s store) w.bounds
           s.requires.0.1 s.requires.0.2 ready p.cube_of.result p.cube_of.ensures
           d.octet_values-octet.ensures d.child_box-child.ensures d.decide_child-verdict.ensures
-          d.if-kinds-j-eq-EMPTY.false c.enum_told-1.given.1 points.0 points.1;
+          d.if-kinds-j-eq-EMPTY.false c.in-Leaf.is points.0 points.1;
     }
 
 pub decide_at_spec : {M : Type 1} → statement M

@@ -27,7 +27,7 @@ leaf_from-requires : tie.Need-leaf_from-requires
 leaf_from-requires c κs =
     let s = c in
     let a = s.args in
-    let fits = subst (λ d. Fits a.task.grid a.visit d a.store.now) c.decision-1.given.1 s.requires.1 in
+    let fits = subst (λ d. Fits a.task.grid a.visit d a.store.now) c.in-Leaf.is s.requires.1 in
     (s.requires.0.0.leaf_least, s.requires.0.0.leaf_most, omega arith, omega arith, fits, s.requires.0.1)
 
 returns-in-Passed : tie.Need-returns-in-Passed
@@ -35,8 +35,8 @@ returns-in-Passed c =
     let s = c in
     let a = s.args in
     let w = a.visit in
-    subst (λ d. PointsMade a.task.grid (value s.before.before.before) w d a.store.now a.store.now (progress w.leaves w.left Through))
-    (sym c.enum_told-1.given.1) (refl, refl)
+    subst (λ d. PointsMade a.task.grid (value s.before.before) w d a.store.now a.store.now (progress w.leaves w.left Through))
+    (sym c.in-Passed.is) (refl, refl)
 
 shape_of-store : tie.Need-shape_of-store
 shape_of-store c = search rules
@@ -46,8 +46,8 @@ returns-in-Leaf c =
     let t = c in
     let s = t in
     let a = s.args in
-    subst (λ d. PointsMade a.task.grid (value s.before.before.before.before.before.before.before.before.before.before) a.visit d a.store.now t.leaf_from.new.store t.leaf_from.result)
-    (sym t.decision-1.given.1) (t.leaf_from.ensures.0, t.leaf_from.ensures.1)
+    subst (λ d. PointsMade a.task.grid (value s.before.before.before.before.before.before.before.before) a.visit d a.store.now t.leaf_from.new.store t.leaf_from.result)
+    (sym t.in-Leaf.is) (t.leaf_from.ensures.0, t.leaf_from.ensures.1)
 
 pub points_of_spec : {M : Type 1} → statement M
 points_of_spec =

@@ -99,11 +99,11 @@ shape_of-store-in-At c = search rules
 returns-in-At : tie.Need-returns-in-At invariant-loop-place decreases-loop-place
 returns-in-At c =
     let t = c in
-    let d = decided t.before.before.before.before in
+    let d = decided t.before.before.before in
     let l = looped d in
     let made = d.decide_at-decision.ensures (value (start l)) l.loop-place.store (ready l) in
     let turn = made.then t.points_of-turn.new.store t.points_of-turn.result t.points_of-turn.ensures in
-    advanced_stopped _ c.enum_told-1.given.0.0 (advanced_then _ l.loop-place.invariant.6 refl turn) c.enum_told-1.given.1
+    advanced_stopped _ c.in-At.field-0 (advanced_then _ l.loop-place.invariant.6 refl turn) c.in-At.is
 
 enum_told-in_default : tie.Need-enum_told-in_default invariant-loop-place decreases-loop-place
 enum_told-in_default c = search rules
@@ -112,18 +112,18 @@ overflow_add-place : tie.Need-overflow_add-place invariant-loop-place decreases-
 overflow_add-place c = search rules
 
 loop-place-smaller : tie.Need-loop-place-smaller invariant-loop-place decreases-loop-place
-loop-place-smaller c = omega (arith, (looped (decided c.before.before.before.before)).loop-place.invariant)
+loop-place-smaller c = omega (arith, (looped (decided c.before.before.before)).loop-place.invariant)
 
 loop-place-preserved : tie.Need-loop-place-preserved invariant-loop-place decreases-loop-place
 loop-place-preserved c =
     let t = c in
-    let d = decided t.before.before.before.before in
+    let d = decided t.before.before.before in
     let l = looped d in
     let made = d.decide_at-decision.ensures (value (start l)) l.loop-place.store (ready l) in
     let turn = made.then t.points_of-turn.new.store t.points_of-turn.result t.points_of-turn.ensures in
-    let done = advanced_through _ (advanced_then _ l.loop-place.invariant.6 refl turn) c.enum_told-in_default-1.given.1 in (
+    let done = advanced_through _ (advanced_then _ l.loop-place.invariant.6 refl turn) c.in_default.is in (
       l.loop-place.invariant.0,
-      omega (arith, l.loop-place.invariant.1, d.loop-place-test.taken),
+      omega (arith, l.loop-place.invariant.1, d.loop-place-test.true),
       c.kinds-1.given ∙ l.loop-place.invariant.2,
       c.numbers-1.given ∙ l.loop-place.invariant.3,
       c.places-1.given ∙ l.loop-place.invariant.4,

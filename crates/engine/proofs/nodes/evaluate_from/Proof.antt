@@ -47,22 +47,22 @@ laws s = plan_laws_lem s.args.task.grid s.args.task.band (value s) s.requires.0.
 
 -- ---- at a corner
 
-abbrev start : tie.In-Corner-2 → tie.Start
-start k = k.before.before.before.before.before.before
+abbrev start : tie.In-Corner → tie.Start
+start k = k.before.before.before.before.before
 
-abbrev node : tie.In-Corner-2 → ℕ
-node k = k.cursor-1.given.0.0
+abbrev node : tie.In-Corner → ℕ
+node k = k.in-Corner.node
 
 -- the cursor may be gone on from
-ready : (k : tie.In-Corner-2) {numbers : List Float} {places : List ℕ} → Standable (plan (start k)) (start k).args.at (memory (start k) numbers places)
+ready : (k : tie.In-Corner) {numbers : List Float} {places : List ℕ} → Standable (plan (start k)) (start k).args.at (memory (start k) numbers places)
     → Ready (plan (start k)) (node k) 0 (start k).args.at.leaves (memory (start k) numbers places)
 ready k ok =
-    let here = known_start (plan (start k)) (start k).args.at k.cursor-1.given.1 ok in
+    let here = known_start (plan (start k)) (start k).args.at k.in-Corner.is ok in
     record { lent = ok.lent; node = here.0; at_most = here.2 }
 
 -- where the number of a node's children is known
-abbrev known : tie.After-cube_of-children → tie.In-Corner-2
-known p = p.before.before.before.before
+abbrev known : tie.After-cube_of-children → tie.In-Corner
+known p = p.before.before.before
 
 -- the node's part of the kinds
 part_few : (p : tie.After-cube_of-children) → node (known p) * p.cube_of-children.result + p.cube_of-children.result ≤ 16777216
@@ -100,22 +100,22 @@ counted q = q.before.before.before.before
 
 -- ---- at a point
 
-abbrev start2 : tie.In-Point-2 → tie.Start
-start2 k = k.before.before.before.before.before.before
+abbrev start2 : tie.In-Point → tie.Start
+start2 k = k.before.before.before.before.before
 
-abbrev known2 : tie.After-leaf_from-done → tie.In-Point-2
-known2 t = t.before.before.before.before.before.before
+abbrev known2 : tie.After-leaf_from-done → tie.In-Point
+known2 t = t.before.before.before.before.before
 
-abbrev node2 : tie.In-Point-2 → ℕ
-node2 k = k.cursor-in-Point-1.given.0.0
+abbrev node2 : tie.In-Point → ℕ
+node2 k = k.in-Point.node
 
-abbrev child2 : tie.In-Point-2 → ℕ
-child2 k = k.cursor-in-Point-1.given.0.1.0
+abbrev child2 : tie.In-Point → ℕ
+child2 k = k.in-Point.child
 
-ready2 : (k : tie.In-Point-2) {numbers : List Float} {places : List ℕ} → Standable (plan (start2 k)) (start2 k).args.at (memory (start2 k) numbers places)
+ready2 : (k : tie.In-Point) {numbers : List Float} {places : List ℕ} → Standable (plan (start2 k)) (start2 k).args.at (memory (start2 k) numbers places)
     → Ready (plan (start2 k)) (node2 k) (suc (child2 k)) (start2 k).args.at.leaves (memory (start2 k) numbers places)
 ready2 k ok =
-    let here = known_start (plan (start2 k)) (start2 k).args.at k.cursor-in-Point-1.given.1 ok in
+    let here = known_start (plan (start2 k)) (start2 k).args.at k.in-Point.is ok in
     record { lent = ok.lent; node = here.0; at_most = here.4 }
 
 -- what the leaf's points come to
@@ -123,15 +123,15 @@ points : (t : tie.After-leaf_from-done) {numbers : List Float} {places : List �
     Standable (plan s) s.args.at (memory s numbers places)
     → Advanced (plan s) s.args.at.left s.args.at.leaves (memory s numbers places)
     (memory_of s.args.kinds.now numbers places t.leaf_from-done.new.store s.args.corners.now)
-    (events_from (plan s) (Point (node2 k) (child2 k) k.cursor-in-Point-1.given.0.1.1.0) (reading_in (memory s numbers places)))
+    (events_from (plan s) (Point (node2 k) (child2 k) k.in-Point.point) (reading_in (memory s numbers places)))
     (children_left (plan s) (node2 k) (suc (child2 k)) (reading_in (memory s numbers places))) t.leaf_from-done.result
     (active_before (plan s) (node2 k) (suc (child2 k)))
 unfolding plan_with
 points t ok =
     let k = known2 t in
     let s = start2 k in
-    let here = known_start (plan s) s.args.at k.cursor-in-Point-1.given.1 ok in
-    node_points s.args.task.grid (decide s) (value s) (node2 k) (child2 k) k.cursor-in-Point-1.given.0.1.1.0 s.args.at.left s.args.at.leaves _
+    let here = known_start (plan s) s.args.at k.in-Point.is ok in
+    node_points s.args.task.grid (decide s) (value s) (node2 k) (child2 k) k.in-Point.point s.args.at.left s.args.at.leaves _
     (ready2 k ok) here.1 here.2 t.node_box-bounds-in-Point.ensures t.child_box-lies.ensures
     t.leaf_from-done.ensures.0 t.leaf_from-done.ensures.1
 
@@ -172,7 +172,7 @@ unfolding plan_with
 run_corners-end-requires c κs =
     let p = c in
     let s = start (known p.before.before.before) in
-    let here = known_start (plan s) s.args.at (known p.before.before.before).cursor-1.given.1 s.requires.1.standable in
+    let here = known_start (plan s) s.args.at (known p.before.before.before).in-Corner.is s.requires.1.standable in
     let n = p.cube_of-children.result in (
       s.requires.0.0.inner_least,
       s.requires.0.0.inner_most,
@@ -200,7 +200,7 @@ returns-then-end-cube_of c =
     let s = start k in
     λ numbers places ok.
     record {
-      came = at_cursor (plan s) s.args.at k.cursor-1.given.1
+      came = at_cursor (plan s) s.args.at k.in-Corner.is
           (node_at_corner s.args.task.grid (decide s) (value s) (node k) _ s.args.at.left s.args.at.leaves
           (memory s numbers places) (ready k ok) p.cube_of-children.result p.cube_of-children.ensures p.node_box-bounds.ensures q.run_corners-end.ensures
           (omega (arith, r.cube_of.ensures, c.if-end-cube_of.true)));
@@ -221,15 +221,15 @@ leaf_from-done-requires : tie.Need-leaf_from-done-requires
 unfolding plan_with
 leaf_from-done-requires c κs =
     let k = c in
-    let s = start2 k.before.before.before.before.before in
+    let s = start2 k.before.before.before.before in
     let e = s.requires.1 in
-    let here = known_start (plan s) s.args.at k.cursor-in-Point-1.given.1 e.standable in (
+    let here = known_start (plan s) s.args.at k.in-Point.is e.standable in (
       s.requires.0.0.leaf_least,
       s.requires.0.0.leaf_most,
       here.2,
       here.3,
-      leaves_inside s.args.task.grid (decide s) (value s) (node2 k.before.before.before.before.before) (child2 k.before.before.before.before.before) 0 0 s.args.at.leaves (memory s e.numbers e.places)
-          (ready2 k.before.before.before.before.before e.standable) here.1,
+      leaves_inside s.args.task.grid (decide s) (value s) (node2 k.before.before.before.before) (child2 k.before.before.before.before) 0 0 s.args.at.leaves (memory s e.numbers e.places)
+          (ready2 k.before.before.before.before e.standable) here.1,
       s.requires.0.1,
     )
 
@@ -242,12 +242,12 @@ shape_of-store-in-At c = search rules
 returns-in-At : tie.Need-returns-in-At
 returns-in-At c =
     let t = c in
-    let k = known2 t.before.before.before.before in
+    let k = known2 t.before.before.before in
     let s = start2 k in
     λ numbers places ok.
     record {
-      came = at_cursor (plan s) s.args.at k.cursor-in-Point-1.given.1
-          (advanced_stopped (plan s) c.enum_told-in-At-1.given.0.0 (points t.before.before.before.before ok) c.enum_told-in-At-1.given.1);
+      came = at_cursor (plan s) s.args.at k.in-Point.is
+          (advanced_stopped (plan s) c.in-At.field-0 (points t.before.before.before ok) c.in-At.is);
       past = λ i behind. refl;
     }
 
@@ -257,9 +257,9 @@ enum_told-in_default c = search rules
 overflow_add-place : tie.Need-overflow_add-place
 unfolding plan_with
 overflow_add-place c =
-    let k = known2 c.before.before.before.before in
+    let k = known2 c.before.before.before in
     let s = start2 k in
-    let here = known_start (plan s) s.args.at k.cursor-in-Point-1.given.1 s.requires.1.standable in
+    let here = known_start (plan s) s.args.at k.in-Point.is s.requires.1.standable in
     omega (arith, here.1, cube_le 64 s.args.task.grid.inner s.requires.0.0.inner_most)
 
 returns-in-End : tie.Need-returns-in-End
@@ -267,8 +267,8 @@ returns-in-End c =
     let s = c in
     λ numbers places ok.
     record {
-      came = at_cursor (plan s.before.before.before.before.before.before) s.args.at c.enum_told-1.given.1
-          (at_end_lem (plan s.before.before.before.before.before.before) s.args.at.left s.args.at.leaves (memory s.before.before.before.before.before.before numbers places) ok.lent ok.few);
+      came = at_cursor (plan s.before.before.before.before.before) s.args.at c.in-End.is
+          (at_end_lem (plan s.before.before.before.before.before) s.args.at.left s.args.at.leaves (memory s.before.before.before.before.before numbers places) ok.lent ok.few);
       past = λ i behind. refl;
     }
 
@@ -284,7 +284,7 @@ returns-else-end-cube_of c =
     let s = start k in
     λ numbers places ok.
     record {
-      came = begun_at (plan s) s.args.at k.cursor-1.given.1 s.args.task.grid
+      came = begun_at (plan s) s.args.at k.in-Corner.is s.args.task.grid
           (node_past_corners s.args.task.grid (decide s) (value s) (node k) _ s.args.at.left s.args.at.leaves
           (memory s numbers places) (ready k ok) p.cube_of-children.result p.cube_of-children.ensures p.node_box-bounds.ensures q.run_corners-end.ensures (laws s)
           (omega (arith, r.cube_of.ensures, c.if-end-cube_of.false)));
@@ -299,14 +299,14 @@ returns-in_default : tie.Need-returns-in_default
 unfolding plan_with
 returns-in_default c =
     let t = c in
-    let k = known2 t.before.before.before.before in
+    let k = known2 t.before.before.before in
     let s = start2 k in
     λ numbers places ok.
-    let here = known_start (plan s) s.args.at k.cursor-in-Point-1.given.1 ok in
+    let here = known_start (plan s) s.args.at k.in-Point.is ok in
     record {
-      came = begun_at (plan s) s.args.at k.cursor-in-Point-1.given.1 s.args.task.grid
+      came = begun_at (plan s) s.args.at k.in-Point.is s.args.task.grid
           (node_past_points s.args.task.grid (decide s) (value s) (node2 k) (child2 k) _ s.args.at.left s.args.at.leaves
-          (memory s numbers places) (ready2 k ok) here.1 t.node_box-bounds-in-Point.ensures (points t.before.before.before.before ok) c.enum_told-in_default-1.given.1);
+          (memory s numbers places) (ready2 k ok) here.1 t.node_box-bounds-in-Point.ensures (points t.before.before.before ok) c.in_default.is);
       past = λ i behind. refl;
     }
 

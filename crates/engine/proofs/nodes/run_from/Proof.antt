@@ -36,7 +36,7 @@ invariant-loop-done task words reals _ kinds₀ numbers₀ places₀ store₀ co
     × Startable P at.cursor at.leaves
     × Advanced P at₀.left at₀.leaves m₀ m (events_from P at₀.cursor (reading_in m₀)) (events_from P at.cursor (reading_in m))
     (progress at.leaves at.left Through) (active_all P)
-    × (own ≡ P.corners-1) × (P.corners-1 ≤ used) × (used ≤ length corners) × ZeroFrom used corners
+    × (own ≡ P.corners) × (P.corners ≤ used) × (used ≤ length corners) × ZeroFrom used corners
 
 abbrev decreases-loop-done : tie.decreases-loop-done
 decreases-loop-done task words reals _ _ _ _ _ _ _ _ _ _ _ _ _ _ _ _ _ at = let P = progresses.plan task words reals in P.nodes - node_of P at.cursor
@@ -62,8 +62,8 @@ looped t = t.before.before.before.before
 abbrev evaluated : tie.After-evaluate_from-turn invariant-loop-done decreases-loop-done → Memory
 evaluated t =
     let l = (looped t).loop-done in
-    let last = t.evaluate_from-turn.new.1.1.1.1.1.1 in
-    memory_of l.kinds l.numbers l.places last.0 last.1.0
+    let last = t.evaluate_from-turn.new in
+    memory_of l.kinds l.numbers l.places last.store last.corners
 
 made : (t : tie.After-evaluate_from-turn invariant-loop-done decreases-loop-done) → let l = looped t in
     TurnMade (start l).args.task.grid (plan l) l.loop-done.at (memory l) (evaluated t) t.evaluate_from-turn.result
@@ -74,22 +74,22 @@ abbrev evaluation : tie.After-slice_known-in-loop-done-2-1 invariant-loop-done d
 evaluation b = b.before.before.before.before
 
 kept_evaluated : (b : tie.After-slice_known-in-loop-done-2-1 invariant-loop-done decreases-loop-done) → let m = evaluated (evaluation b) in let a = (start (looped (evaluation b))).args in
-    (length m.store-1 ≡ length a.store.now) × (length m.corners-1 ≡ length a.corners.now)
+    (length m.store ≡ length a.store.now) × (length m.corners ≡ length a.corners.now)
 kept_evaluated b =
     let l = (looped (evaluation b)).loop-done in
     (b.store-1.given ∙ l.invariant.4, b.corners-1.given ∙ l.invariant.5)
 
 -- ---- where they have come to the children
 
-abbrev turned : tie.In-Children-2 invariant-loop-done decreases-loop-done → tie.After-evaluate_from-turn invariant-loop-done decreases-loop-done
-turned k = evaluation k.before.before
+abbrev turned : tie.In-Children invariant-loop-done decreases-loop-done → tie.After-evaluate_from-turn invariant-loop-done decreases-loop-done
+turned k = evaluation k.before
 
-begun : (k : tie.In-Children-2 invariant-loop-done decreases-loop-done) → let l = looped (turned k) in
-    Begun (start l).args.task.grid (plan l) l.loop-done.at (memory l) (evaluated (turned k)) k.turn-in-Children-1.given.0.0
-begun k = turn_begun (made (turned k)) k.turn-in-Children-1.given.1
+begun : (k : tie.In-Children invariant-loop-done decreases-loop-done) → let l = looped (turned k) in
+    Begun (start l).args.task.grid (plan l) l.loop-done.at (memory l) (evaluated (turned k)) k.in-Children.visit
+begun k = turn_begun (made (turned k)) k.in-Children.is
 
-abbrev came : tie.After-run_children-done invariant-loop-done decreases-loop-done → tie.In-Children-2 invariant-loop-done decreases-loop-done
-came u = u.before.before.before.before.before.before.before
+abbrev came : tie.After-run_children-done invariant-loop-done decreases-loop-done → tie.In-Children invariant-loop-done decreases-loop-done
+came u = u.before.before.before.before.before.before
 
 -- ---- where the children have given the slices back
 
@@ -98,16 +98,16 @@ ran d = d.before.before.before.before.before.before.before.before
 
 abbrev decided : tie.After-slice_known-in-Children-4-1 invariant-loop-done decreases-loop-done → Memory
 decided d =
-    let last = (ran d).run_children-done.new.1.1.1.1.1 in
-    memory_of last.0 last.1.0 last.1.1.0 last.1.1.1.0 (evaluated (turned (came (ran d)))).corners-1
+    let last = (ran d).run_children-done.new in
+    memory_of last.kinds last.numbers last.places last.store (evaluated (turned (came (ran d)))).corners
 
 kept : (d : tie.After-slice_known-in-Children-4-1 invariant-loop-done decreases-loop-done) → let m = decided d in let a = (start (looped (turned (came (ran d))))).args in
-    (length m.kinds-1 ≡ length a.kinds-1.now) × (length m.numbers-1 ≡ length a.numbers-1.now) × (length m.places-1 ≡ length a.places-1.now)
-    × (length m.store-1 ≡ length a.store-1.now) × (length m.corners-1 ≡ length a.corners-1.now)
+    (length m.kinds ≡ length a.kinds.now) × (length m.numbers ≡ length a.numbers.now) × (length m.places ≡ length a.places.now)
+    × (length m.store ≡ length a.store.now) × (length m.corners ≡ length a.corners.now)
 kept d =
     let k = came (ran d) in
     let l = (looped (turned k)).loop-done in
-    let before = kept_evaluated k.before.before in (
+    let before = kept_evaluated k.before in (
       d.kinds-1.given ∙ l.invariant.1,
       d.numbers-1.given ∙ l.invariant.2,
       d.places-1.given ∙ l.invariant.3,
@@ -118,19 +118,19 @@ kept d =
 -- ---- where the node's corners are cleared
 
 abbrev ended : tie.After-clear_corners invariant-loop-done decreases-loop-done → tie.After-slice_known-in-Children-4-1 invariant-loop-done decreases-loop-done
-ended z = z.before.before.before.before
+ended z = z.before.before.before
 
 abbrev cleared : tie.After-clear_corners invariant-loop-done decreases-loop-done → Memory
-cleared z = let m = decided (ended z) in memory_of m.kinds-1 m.numbers-1 m.places-1 m.store-1 z.clear_corners.new.corners
+cleared z = let m = decided (ended z) in memory_of m.kinds m.numbers m.places m.store z.clear_corners.new.corners
 
-through : (z : tie.After-clear_corners invariant-loop-done decreases-loop-done) → let u = ran (ended z) in let k = came u in let w = k.turn-in-Children-1.given.0.0 in
+through : (z : tie.After-clear_corners invariant-loop-done decreases-loop-done) → let u = ran (ended z) in let k = came u in let w = k.in-Children.visit in
     NodeAdvanced (plan (looped (turned k))) w.node w.left w.leaves (evaluated (turned k)) (cleared z)
     (children_left (plan (looped (turned k))) w.node w.place (reading_in (evaluated (turned k)))) u.run_children-done.result
 unfolding plan_with
 through z =
     let u = ran (ended z) in
-    let w = (came u).turn-in-Children-1.given.0.0 in
-    turn_clear _ w.node w.left w.leaves w.place _ _ _ u.run_children-done.ensures z.enum_told-in_default-1.given.1 z.clear_corners.ensures
+    let w = (came u).in-Children.visit in
+    turn_clear _ w.node w.left w.leaves w.place _ _ _ u.run_children-done.ensures z.in_default.is z.clear_corners.ensures
 
 -- ---- what is left
 
@@ -179,24 +179,24 @@ enum_known-turn : tie.Need-enum_known-turn invariant-loop-done decreases-loop-do
 enum_known-turn c = search rules
 
 shape_of-kinds-in-Stopped : tie.Need-shape_of-kinds-in-Stopped invariant-loop-done decreases-loop-done
-shape_of-kinds-in-Stopped c = (looped (evaluation c.before.before.before)).loop-done.invariant.1
+shape_of-kinds-in-Stopped c = (looped (evaluation c.before)).loop-done.invariant.1
 
 shape_of-numbers-in-Stopped : tie.Need-shape_of-numbers-in-Stopped invariant-loop-done decreases-loop-done
-shape_of-numbers-in-Stopped c = (looped (evaluation c.before.before.before)).loop-done.invariant.2
+shape_of-numbers-in-Stopped c = (looped (evaluation c.before)).loop-done.invariant.2
 
 shape_of-places-in-Stopped : tie.Need-shape_of-places-in-Stopped invariant-loop-done decreases-loop-done
-shape_of-places-in-Stopped c = (looped (evaluation c.before.before.before)).loop-done.invariant.3
+shape_of-places-in-Stopped c = (looped (evaluation c.before)).loop-done.invariant.3
 
 shape_of-store-in-Stopped : tie.Need-shape_of-store-in-Stopped invariant-loop-done decreases-loop-done
-shape_of-store-in-Stopped c = (kept_evaluated c.before.before.before).0
+shape_of-store-in-Stopped c = (kept_evaluated c.before).0
 
 shape_of-corners-in-Stopped : tie.Need-shape_of-corners-in-Stopped invariant-loop-done decreases-loop-done
-shape_of-corners-in-Stopped c = (kept_evaluated c.before.before.before).1
+shape_of-corners-in-Stopped c = (kept_evaluated c.before).1
 
 returns-in-Stopped : tie.Need-returns-in-Stopped invariant-loop-done decreases-loop-done
 returns-in-Stopped c =
-    let t = evaluation c.before.before.before in
-    advanced_then _ (looped t).loop-done.invariant.7 refl (turn_stopped (made t) c.turn-1.given.1)
+    let t = evaluation c.before in
+    advanced_then _ (looped t).loop-done.invariant.7 refl (turn_stopped (made t) c.in-Stopped.is)
 
 enum_known-turn-in-Children-1 : tie.Need-enum_known-turn-in-Children-1 invariant-loop-done decreases-loop-done
 enum_known-turn-in-Children-1 c = search rules
@@ -205,8 +205,8 @@ run_children-done-requires : tie.Need-run_children-done-requires invariant-loop-
 unfolding plan_with
 run_children-done-requires c κs =
     let k = c in
-    let s = start (looped (turned k.before.before.before.before.before.before)) in
-    let now = begun k.before.before.before.before.before.before in (
+    let s = start (looped (turned k.before.before.before.before.before)) in
+    let now = begun k.before.before.before.before.before in (
       (s.requires.0.0, now.boxed, now.place, s.requires.0.1),
       record { lent = now.advanced.lent; node = now.inside; at_most = now.advanced.at_most },
     )
@@ -215,28 +215,28 @@ enum_told-1 : tie.Need-enum_told-1 invariant-loop-done decreases-loop-done
 enum_told-1 c = search rules
 
 shape_of-kinds-in-At : tie.Need-shape_of-kinds-in-At invariant-loop-done decreases-loop-done
-shape_of-kinds-in-At c = (kept c.before.before).0
+shape_of-kinds-in-At c = (kept c.before).0
 
 shape_of-numbers-in-At : tie.Need-shape_of-numbers-in-At invariant-loop-done decreases-loop-done
-shape_of-numbers-in-At c = (kept c.before.before).1
+shape_of-numbers-in-At c = (kept c.before).1
 
 shape_of-places-in-At : tie.Need-shape_of-places-in-At invariant-loop-done decreases-loop-done
-shape_of-places-in-At c = (kept c.before.before).2
+shape_of-places-in-At c = (kept c.before).2
 
 shape_of-store-in-At : tie.Need-shape_of-store-in-At invariant-loop-done decreases-loop-done
-shape_of-store-in-At c = (kept c.before.before).3
+shape_of-store-in-At c = (kept c.before).3
 
 shape_of-corners-in-At : tie.Need-shape_of-corners-in-At invariant-loop-done decreases-loop-done
-shape_of-corners-in-At c = (kept c.before.before).4
+shape_of-corners-in-At c = (kept c.before).4
 
 returns-in-At : tie.Need-returns-in-At invariant-loop-done decreases-loop-done
 unfolding plan_with
 returns-in-At c =
-    let u = ran c.before.before in
+    let u = ran c.before in
     let k = came u in
     let l = looped (turned k) in
-    advanced_stopped (plan l) c.enum_told-1.given.0.0
-    (advanced_then (plan l) (advanced_then (plan l) l.loop-done.invariant.7 refl (begun k).advanced) refl u.run_children-done.ensures) c.enum_told-1.given.1
+    advanced_stopped (plan l) c.in-At.field-0
+    (advanced_then (plan l) (advanced_then (plan l) l.loop-done.invariant.7 refl (begun k).advanced) refl u.run_children-done.ensures) c.in-At.is
 
 enum_told-in_default : tie.Need-enum_told-in_default invariant-loop-done decreases-loop-done
 enum_told-in_default c = search rules
@@ -244,9 +244,9 @@ enum_told-in_default c = search rules
 clear_corners-requires : tie.Need-clear_corners-requires invariant-loop-done decreases-loop-done
 clear_corners-requires c κs =
     let d = c in
-    let t = turned (came (ran d.before.before.before)) in
+    let t = turned (came (ran d.before.before)) in
     let l = (looped t).loop-done in
-    let long : length (decided d.before.before.before).corners-1 ≡ length l.corners = (kept d.before.before.before).4 ∙ sym l.invariant.5 in
+    let long : length (decided d.before.before).corners ≡ length l.corners = (kept d.before.before).4 ∙ sym l.invariant.5 in
     (omega (arith, l.invariant.10), λ i behind. (made t).past i (omega (arith, l.invariant.9)) ∙ l.invariant.11 i behind)
 
 overflow_add-node : tie.Need-overflow_add-node invariant-loop-done decreases-loop-done
@@ -277,7 +277,7 @@ returns-then-node-nodes c =
     let z = c in
     let k = came (ran (ended z.before.before.before.before)) in
     let l = looped (turned k) in
-    let w = k.turn-in-Children-1.given.0.0 in
+    let w = k.in-Children.visit in
     advanced_then (plan l) (advanced_then (plan l) l.loop-done.invariant.7 refl (begun k).advanced) refl
     (nodes_end (plan l) (suc w.node) _ _ _ _ _ _ (omega (arith, c.if-node-nodes.true, l.loop-done.invariant.0)) (through z.before.before.before.before).advanced)
 
@@ -290,10 +290,10 @@ loop-done-preserved c =
     let z = c in
     let k = came (ran (ended z.before.before.before.before)) in
     let l = looped (turned k) in
-    let w = k.turn-in-Children-1.given.0.0 in
+    let w = k.in-Children.visit in
     let same = kept (ended z.before.before.before.before) in
     let below : w.node + 1 < (plan l).nodes = omega (arith, (begun k).inside, c.if-node-nodes.false, l.loop-done.invariant.0) in
-    let next = node_next (plan l) w.node (w.node + 1) _ _ (through z.before.before.before.before) z.enum_told-in_default-1.given.1 (add-one w.node) below in
+    let next = node_next (plan l) w.node (w.node + 1) _ _ (through z.before.before.before.before) z.in_default.is (add-one w.node) below in
     let most = before_most (plan l) (plan l).active (w.node + 1) 0 below (omega arith) in
     let own = l.loop-done.invariant.8 in
     let cleared_long = c.corners-in-Children-1.given ∙ same.4 in (
@@ -308,7 +308,7 @@ loop-done-preserved c =
       own,
       omega (arith, own),
       omega (arith, own, l.loop-done.invariant.9, l.loop-done.invariant.10, l.loop-done.invariant.5, cleared_long),
-      λ i behind. came_through (ZeroCorners (cleared z.before.before.before.before)) (through z.before.before.before.before).cleared z.enum_told-in_default-1.given.1 i,
+      λ i behind. came_through (ZeroCorners (cleared z.before.before.before.before)) (through z.before.before.before.before).cleared z.in_default.is i,
     )
 
 pub run_from_spec : {M : Type 1} → statement M

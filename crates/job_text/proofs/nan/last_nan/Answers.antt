@@ -1,10 +1,8 @@
 -- `last_nan` meets its contract. The invariant: the array holds the bits of the parts passed so far.
 use mathlib.Core.Path.{◌≡◌, refl, sym, ◌∙◌}
-use mathlib.Core.List.{map}
-use Prim.Native.Nat.{◌-◌, ◌≤◌, ◌<◌}
+use Prim.Native.Nat.{◌≤◌, ◌<◌}
 use native.Mathlib.Omega.{arith}
-use lib.ListN.{length, take, length-set}
-use borrow.Author.Rules.{rules}
+use lib.ListN.{length, length-set}
 use Rattle.lists.proofs.Lists.{get_or_map_in}
 use Rattle.model.specs.Part.{part_in}
 use Rattle.job_text.specs.NanBits.{nans_to}

@@ -1,14 +1,10 @@
 -- `last_nan` meets its contract. The invariant: the array holds the bits of the parts passed so far.
-use mathlib.Core.Path.{◌≡◌, refl, sym, ◌∙◌}
+use mathlib.Core.Path.{◌≡◌}
 use mathlib.Core.List.{map}
-use Prim.Native.Nat.{◌-◌, ◌≤◌, ◌<◌}
-use native.Mathlib.Omega.{arith}
-use lib.ListN.{length, take, length-set}
-use borrow.Author.Rules.{rules}
-use Rattle.lists.proofs.Lists.{get_or_map_in}
+use Prim.Native.Nat.{◌-◌, ◌≤◌}
+use lib.ListN.{length, take}
 use Rattle.model.specs.Part.{part_in}
 use Rattle.job_text.specs.NanBits.{nans_to}
-use Rattle.job_text.proofs.NanLaws.{nans_turn, nans_done}
 use Rattle.job_text.proofs.nan.last_nan.Given as goal
 
 abbrev pub invariant-loop-p : goal.invariant-loop-p

@@ -5,7 +5,6 @@ use lib.ListN.{length-map}
 use Rattle.model.specs.Part.{part_in}
 use Rattle.job_text.specs.NanBits.{nan_pattern}
 use Rattle.job_text.proofs.NanLaws.{nan_none, nan_past}
-use borrow.Author.Rules.{rules}
 use Rattle.job_text.proofs.nan.nan_among.Goals as goal
 
 pub returns-then-count-eq0 : goal.returns-then-count-eq0

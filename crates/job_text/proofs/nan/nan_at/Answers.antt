@@ -6,7 +6,6 @@ use lib.ListN.{length, take, get_or-eq_default, length-take}
 use Rattle.job_text.specs.NanBits.{computed_nan}
 use lib.Seq.{get_or-take}
 use Rattle.lists.proofs.Lists.{get_d_any}
-use borrow.Author.Rules.{rules}
 use Rattle.job_text.proofs.nan.nan_at.Goals as goal
 
 pub returns-then-i-p : goal.returns-then-i-p

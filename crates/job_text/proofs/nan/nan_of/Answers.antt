@@ -1,6 +1,5 @@
 -- `nan_of` meets its contract, part by part.
 use Rattle.job_text.specs.NanBits.{nan_of}
-use borrow.Author.Rules.{rules}
 use Rattle.job_text.proofs.nan.nan_of.Goals as goal
 
 pub returns-in-Constant : goal.returns-in-Constant
@@ -17,7 +16,7 @@ returns-in-Plane c = rw c.in-Plane.is
 
 pub returns-in-Min : goal.returns-in-Min
 unfolding nan_of
-returns-in-Min c = rw c.in-Min.is c.IsNan-at.ensures
+returns-in-Min c = rw c.in-Min.is c.nan_at.ensures
 
 pub returns-in-Max : goal.returns-in-Max
 unfolding nan_of

@@ -2,7 +2,6 @@
 use native.Mathlib.Omega.{arith}
 use Rattle.job_text.specs.Parts.{part_from}
 use Rattle.job_text.proofs.PartLaws.{kind_last}
-use borrow.Author.Rules.{rules}
 use Rattle.job_text.proofs.parts.operation_of.Goals as goal
 
 pub returns-then-kind-eq3 : goal.returns-then-kind-eq3

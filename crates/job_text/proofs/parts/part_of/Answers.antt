@@ -1,7 +1,6 @@
 -- `part_of` meets its contract, kind by kind.
 use native.Mathlib.Omega.{arith}
 use Rattle.job_text.specs.Parts.{part_from}
-use borrow.Author.Rules.{rules}
 use Rattle.job_text.proofs.parts.part_of.Goals as goal
 
 pub returns-then-kind-eq0 : goal.returns-then-kind-eq0

@@ -3,7 +3,6 @@ use mathlib.Core.Path.{sym}
 use native.Mathlib.Omega.{arith}
 use Rattle.job_text.specs.Parts.{pattern_from}
 use Rattle.job_text.proofs.PartLaws.{pattern_other}
-use borrow.Author.Rules.{rules}
 use Rattle.job_text.proofs.parts.pattern_of.Goals as goal
 
 pub returns-then-kind-eq0 : goal.returns-then-kind-eq0

@@ -1,5 +1,4 @@
 -- `point_at` meets its contract.
-use borrow.Author.Rules.{rules}
 use Rattle.job_text.proofs.parts.point_at.Goals as goal
 
 pub returns : goal.returns

@@ -2,7 +2,6 @@
 use native.Mathlib.Omega.{arith}
 use Rattle.forms.specs.Forms.{fields, is_field, piece_of}
 use Rattle.job_text.proofs.PartLaws.{kind_last, past_two, past_six}
-use borrow.Author.Rules.{rules}
 use Rattle.job_text.proofs.parts.read_kind.Goals as goal
 
 pub read_form-requires : goal.read_form-requires

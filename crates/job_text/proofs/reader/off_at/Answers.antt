@@ -1,5 +1,4 @@
 -- `off_at` meets its contract.
-use borrow.Author.Rules.{rules}
 use Rattle.job_text.proofs.reader.off_at.Goals as goal
 
 pub returns : goal.returns

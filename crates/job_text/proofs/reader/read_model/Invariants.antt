@@ -1,10 +1,6 @@
 -- `read_model` meets its contract. The invariant: the part lines before this place are in the arrays. At most 64 turns are made.
-use mathlib.Core.Path.{sym, ◌∙◌}
 use Prim.Native.Nat.{◌-◌}
-use native.Mathlib.Omega.{arith}
-use borrow.Author.Rules.{rules}
-use Rattle.job_text.proofs.PartTurns.{part_off, part_at}
-use Rattle.job_text.proofs.Gathering.{Gathered, gathered_first, gathered_done, gathered_off, gathered_turn, left_full, left_off}
+use Rattle.job_text.proofs.Gathering.{Gathered}
 use Rattle.job_text.proofs.reader.read_model.Given as goal
 
 abbrev pub invariant-loop-place : goal.invariant-loop-place

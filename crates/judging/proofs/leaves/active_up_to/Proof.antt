@@ -19,32 +19,28 @@ use Rattle.judging.proofs.leaves.active_up_to.Tie as tie
 -- ---- where the cursor is known
 
 abbrev counted : tie.In-Corner → tie.After-cube_of-children
-counted p = p.before.before.before
+counted p = p.before
 
 abbrev counted2 : tie.In-Point → tie.After-cube_of-children
-counted2 p = p.before.before.before
+counted2 p = p.before
 
 abbrev start : tie.After-cube_of-children → tie.Start
 start p = p.before.before.before
 
 -- the children before a corner's node
-at_corner : (p : tie.In-Corner) → let s = start (counted p) in let x = p.cursor-1.given.0 in
-    UpTo (grid_plan s.args.g) s.args.kinds.now (x.0 * (counted p).cube_of-children.result) (Corner x.0 x.1.0)
+at_corner : (p : tie.In-Corner) → let s = start (counted p) in UpTo (grid_plan s.args.g) s.args.kinds.now (p.in-Corner.v * (counted p).cube_of-children.result) (Corner p.in-Corner.v p.in-Corner.field-1)
 at_corner p =
     let s = start (counted p) in
-    let x = p.cursor-1.given in
-    corner_up_to s.args.g s.args.kinds.now s.requires.0 x.0.0 (counted p).cube_of-children.result (counted p).cube_of-children.ensures x.0.1.0
-    (ap (λ (y : Cursor). valid_cursor (grid_plan s.args.g) y) (sym x.1) ∙ s.requires.1)
+    corner_up_to s.args.g s.args.kinds.now s.requires.0 p.in-Corner.v (counted p).cube_of-children.result (counted p).cube_of-children.ensures p.in-Corner.field-1
+    (ap (λ (y : Cursor). valid_cursor (grid_plan s.args.g) y) (sym p.in-Corner.is) ∙ s.requires.1)
 
 -- and up to a point's child
-at_point : (p : tie.In-Point) → let s = start (counted2 p) in let x = p.cursor-in-Point-1.given.0 in
-    UpTo (grid_plan s.args.g) s.args.kinds.now (x.0 * (counted2 p).cube_of-children.result + (x.1.0 + 1)) (Point x.0 x.1.0 x.1.1.0)
+at_point : (p : tie.In-Point) → let s = start (counted2 p) in UpTo (grid_plan s.args.g) s.args.kinds.now (p.in-Point.v * (counted2 p).cube_of-children.result + (p.in-Point.c + 1)) (Point p.in-Point.v p.in-Point.c p.in-Point.field-2)
 at_point p =
     let s = start (counted2 p) in
-    let x = p.cursor-in-Point-1.given in
-    point_up_to s.args.g s.args.kinds.now s.requires.0 x.0.0 (counted2 p).cube_of-children.result (counted2 p).cube_of-children.ensures
-    x.0.1.0 x.0.1.1.0
-    (ap (λ (y : Cursor). valid_cursor (grid_plan s.args.g) y) (sym x.1) ∙ s.requires.1)
+    point_up_to s.args.g s.args.kinds.now s.requires.0 p.in-Point.v (counted2 p).cube_of-children.result (counted2 p).cube_of-children.ensures
+    p.in-Point.c p.in-Point.field-2
+    (ap (λ (y : Cursor). valid_cursor (grid_plan s.args.g) y) (sym p.in-Point.is) ∙ s.requires.1)
 
 -- ---- what is left
 
@@ -93,20 +89,20 @@ count_nonzero-requires-in-Point c κs = search rules
 returns-in-End : tie.Need-returns-in-End
 unfolding active_up_to
 returns-in-End c =
-    let g = (start c.before.before.before).args.g in
-    c.active_children.ensures ∙ sym (active_all_lem g _ _) ∙ ap (λ (y : Cursor). active_up_to (grid_plan g) y) (sym c.enum_told-1.given.1)
+    let g = (start c.before.before).args.g in
+    c.active_children.ensures ∙ sym (active_all_lem g _ _) ∙ ap (λ (y : Cursor). active_up_to (grid_plan g) y) (sym c.in-End.is)
 
 returns-in-Corner : tie.Need-returns-in-Corner
 returns-in-Corner c =
     let p = c in
     let g = (start (counted p.before)).args.g in
-    c.count_nonzero.ensures ∙ (at_corner p.before).count ∙ ap (λ (y : Cursor). active_up_to (grid_plan g) y) (sym p.cursor-1.given.1)
+    c.count_nonzero.ensures ∙ (at_corner p.before).count ∙ ap (λ (y : Cursor). active_up_to (grid_plan g) y) (sym p.in-Corner.is)
 
 returns-in-Point : tie.Need-returns-in-Point
 returns-in-Point c =
     let p = c in
     let g = (start (counted2 p.before)).args.g in
-    c.count_nonzero-in-Point.ensures ∙ (at_point p.before).count ∙ ap (λ (y : Cursor). active_up_to (grid_plan g) y) (sym p.cursor-in-Point-1.given.1)
+    c.count_nonzero-in-Point.ensures ∙ (at_point p.before).count ∙ ap (λ (y : Cursor). active_up_to (grid_plan g) y) (sym p.in-Point.is)
 
 pub active_up_to_spec : {M : Type 1} → statement M
 active_up_to_spec =

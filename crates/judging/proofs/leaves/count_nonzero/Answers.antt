@@ -1,6 +1,5 @@
 -- `count_nonzero` meets its contract: the kinds passed so far are counted.
 use mathlib.Core.Path.{◌≡◌, refl, ap, ◌∙◌}
-use mathlib.Core.Logic.{⊎_elim}
 use Prim.Native.Nat.{◌-◌, ◌≤◌}
 use native.Mathlib.Omega.{arith}
 use lib.ListN.{length, get_or}
@@ -9,6 +8,7 @@ use Rattle.lists.specs.Flags.{nonzero}
 use Rattle.judging.proofs.Judgement.{count_more, count_skip}
 use borrow.Author.Rules.{rules}
 use Rattle.judging.proofs.leaves.count_nonzero.Goals as goal
+use Rattle.judging.proofs.leaves.count_nonzero.Goals.{then-kinds-i-ne0, else-kinds-i-ne0}
 
 pub loop-i-init : goal.loop-i-init
 unfolding sum_from
@@ -19,9 +19,11 @@ loop-i-preserved c =
     let b = c in
     let l = b.args.kinds.now in (
       omega arith,
-      ⊎_elim (λ w. omega arith) (λ w. omega arith) c.if-kinds-i-ne0.branch,
-      ⊎_elim (λ w. count_more l b.loop-i.i b.loop-i.invariant.2 w.0.taken w.1)
-          (λ w. count_skip l b.loop-i.i b.loop-i.invariant.2 w.0.left w.1) c.if-kinds-i-ne0.branch,
+      elim c.if-kinds-i-ne0.branch [ then-kinds-i-ne0 w ↦ omega arith | else-kinds-i-ne0 w ↦ omega arith ],
+      elim c.if-kinds-i-ne0.branch [
+        then-kinds-i-ne0 w ↦ count_more l b.loop-i.i b.loop-i.invariant.2 w.if-kinds-i-ne0.true w.count-is
+        | else-kinds-i-ne0 w ↦ count_skip l b.loop-i.i b.loop-i.invariant.2 w.if-kinds-i-ne0.false w.count-is
+      ],
     )
 
 pub returns : goal.returns

@@ -11,35 +11,35 @@ use Rattle.sparse_field.proofs.calls.drop.Tie as tie
 abbrev memory : tie.Start → Memory
 memory s = memory_of s.args.kinds.now s.args.numbers.now s.args.places.now s.args.store.now s.args.corners.now
 
-zero-all-requires : tie.Need-zero-all-requires
-zero-all-requires c κs = search rules
+zero_all-requires : tie.Need-zero_all-requires
+zero_all-requires c κs = search rules
 
-no-record-requires : tie.Need-no-record-requires
-no-record-requires c κs = search rules
+no_record-requires : tie.Need-no_record-requires
+no_record-requires c κs = search rules
 
-same_length : tie.Need-same-length
-same_length c = search rules
+shape_of-kinds : tie.Need-shape_of-kinds
+shape_of-kinds c = search rules
 
-same-length-2 : tie.Need-same-length-2
-same-length-2 c = search rules
+shape_of-numbers : tie.Need-shape_of-numbers
+shape_of-numbers c = search rules
 
-same-length-3 : tie.Need-same-length-3
-same-length-3 c = search rules
+shape_of-places : tie.Need-shape_of-places
+shape_of-places c = search rules
 
-same-length-4 : tie.Need-same-length-4
-same-length-4 c = search rules
+shape_of-store : tie.Need-shape_of-store
+shape_of-store c = search rules
 
-same-length-5 : tie.Need-same-length-5
-same-length-5 c = search rules
+shape_of-corners : tie.Need-shape_of-corners
+shape_of-corners c = search rules
 
 returns : tie.Need-returns
 returns c =
-    let s = c.before.before.before.before.before.before.before.before.before.before.before.before.before.before.before.before.before.before.before.before.before.before in
-    let done = drop_accepted s.args.found (memory s) in (
+    let s = c in
+    let done = drop_accepted s.args.found (memory s.before.before.before.before.before.before.before.before.before.before.before.before.before.before.before.before.before.before.before.before.before.before) in (
       sym (ap (λ h. h.answer) done),
       (
         c.no_record.ensures ∙ sym (ap (λ h. h.next.job_record) done),
-        c.before.before.before.before.before.before.before.before.before.before.before.zero-all.ensures ∙ sym (ap (λ h. h.next.memory) done),
+        c.zero_all.ensures ∙ sym (ap (λ h. h.next.memory) done),
       ),
     )
 
@@ -47,11 +47,11 @@ pub drop_spec : {M : Type 1} → statement M
 drop_spec =
     tie.close
     (tie.spec
-    zero-all-requires
-    no-record-requires
-    same_length
-    same-length-2
-    same-length-3
-    same-length-4
-    same-length-5
+    zero_all-requires
+    no_record-requires
+    shape_of-kinds
+    shape_of-numbers
+    shape_of-places
+    shape_of-store
+    shape_of-corners
     returns)

@@ -35,7 +35,7 @@ clear p = nothing (input p) (lent p) (start p).requires.1
 
 -- ---- where the job has run
 
-abbrev prepared : tie.After-run-job → tie.After-prepare
+abbrev prepared : tie.After-run_job-turn → tie.After-prepare
 prepared r = r.before.before.before.before.before.before.before.before.before.before.before.before.before.before.before.before
 
 -- ---- what is left
@@ -43,59 +43,59 @@ prepared r = r.before.before.before.before.before.before.before.before.before.be
 prepare-requires : tie.Need-prepare-requires
 prepare-requires c κs = search rules
 
-run-job-requires : tie.Need-run-job-requires
-run-job-requires c κs =
-    let p = c.before.before.before.before.before.before.before.before.before.before.before.before.before.before.before in
-    let none = (start p).requires.1 in (
-      (sized (input p) (clear p), (clear p).four),
+run_job-turn-requires : tie.Need-run_job-turn-requires
+run_job-turn-requires c κs =
+    let p = c in
+    let none = (start p.before.before.before.before.before.before.before.before.before.before.before.before.before.before.before).requires.1 in (
+      (sized (input p.before.before.before.before.before.before.before.before.before.before.before.before.before.before.before) (clear p.before.before.before.before.before.before.before.before.before.before.before.before.before.before.before), (clear p.before.before.before.before.before.before.before.before.before.before.before.before.before.before.before).four),
       (
-        subst (λ m. Lent (plan_of (input p)) m) (sym p.prepare.ensures) (start_lent (input p) (lent p) none),
-        start_startable (input p) (lent p) none,
+        subst (λ m. Lent (plan_of (input p.before.before.before.before.before.before.before.before.before.before.before.before.before.before.before)) m) (sym p.prepare.ensures) (start_lent (input p.before.before.before.before.before.before.before.before.before.before.before.before.before.before.before) (lent p.before.before.before.before.before.before.before.before.before.before.before.before.before.before.before) none),
+        start_startable (input p.before.before.before.before.before.before.before.before.before.before.before.before.before.before.before) (lent p.before.before.before.before.before.before.before.before.before.before.before.before.before.before.before) none,
         omega arith,
       ),
     )
 
-grid-counts-requires : tie.Need-grid-counts-requires
-grid-counts-requires c κs = let p = prepared c.before.before.before.before.before.before.before.before.before.before in
+grid_counts-counted-requires : tie.Need-grid_counts-counted-requires
+grid_counts-counted-requires c κs = let p = prepared c.before.before.before.before.before.before.before.before.before.before.before in
     ((clear p).two, (clear p).five)
 
-record-of-requires : tie.Need-record-of-requires
-record-of-requires c κs =
-    let r = c.before.before.before.before.before.before.before.before.before.before.before in
-    let p = prepared r in
+record_of-requires : tie.Need-record_of-requires
+record_of-requires c κs =
+    let r = c in
+    let p = prepared r.before.before.before.before.before.before.before.before.before.before.before.before in
     let size = sized (input p) (clear p) in (
       omega (
         arith,
-        opened_leaves (input p) (lent p) (start p).pre.1 p.prepare.ensures r.run-job.ensures,
+        opened_leaves (input p) (lent p) (start p).requires.1 p.prepare.ensures r.run_job-turn.ensures,
         active_within (input p) size,
       ),
       size.leaf_most,
     )
 
-same_length : tie.Need-same-length
-same_length c = let r = c.before.before.before.before.before.before.before.before.before.before.before.before in c.before.before.before.before.before.before.before.before.before.before.before.kinds2.given ∙ r.before.before.before.before.before.before.before.before.before.before.before.before.before.before.before.kinds.given
+shape_of-kinds : tie.Need-shape_of-kinds
+shape_of-kinds c = let r = c in c.kinds-2-1.given ∙ r.kinds-1.given
 
-same-length-2 : tie.Need-same-length-2
-same-length-2 c = let r = c.before.before.before.before.before.before.before.before.before.before.before.before in c.before.before.before.before.before.before.before.before.before.numbers2.given ∙ r.before.before.before.before.before.before.before.before.before.before.before.before.before.numbers.given
+shape_of-numbers : tie.Need-shape_of-numbers
+shape_of-numbers c = let r = c in c.numbers-2-1.given ∙ r.numbers-1.given
 
-same-length-3 : tie.Need-same-length-3
-same-length-3 c = let r = c.before.before.before.before.before.before.before.before.before.before.before.before in c.before.before.before.before.before.before.before.places2.given ∙ r.before.before.before.before.before.before.before.before.before.before.before.places.given
+shape_of-places : tie.Need-shape_of-places
+shape_of-places c = let r = c in c.places-2-1.given ∙ r.places-1.given
 
-same-length-4 : tie.Need-same-length-4
-same-length-4 c = let r = c.before.before.before.before.before.before.before.before.before.before.before.before in c.before.before.before.before.before.store2.given ∙ r.before.before.before.before.before.before.before.before.before.store.given
+shape_of-store : tie.Need-shape_of-store
+shape_of-store c = let r = c in c.store-2-1.given ∙ r.store-1.given
 
-same-length-5 : tie.Need-same-length-5
-same-length-5 c = let r = c.before.before.before.before.before.before.before.before.before.before.before.before in c.before.before.before.corners2.given ∙ r.before.before.before.before.before.before.before.corners.given
+shape_of-corners : tie.Need-shape_of-corners
+shape_of-corners c = let r = c in c.corners-2-1.given ∙ r.corners-1.given
 
 returns : tie.Need-returns
 returns c =
-    let r = c.before.before.before.before.before.before.before.before.before.before.before.before in
-    let p = prepared r in
+    let r = c in
+    let p = prepared r.before.before.before.before.before.before.before.before.before.before.before.before.before in
     let i = input p in
-    let engine = opened_after i (lent p) (start p).pre.1 p.prepare.ensures r.run-job.ensures in (
+    let engine = opened_after i (lent p) (start p).requires.1 p.prepare.ensures r.run_job-turn.ensures in (
       c.record_of.ensures
-          ∙ record_same i r.run-job.result (start p).pre.0
-          (c.before.grid-counts.ensures ∙ counts_same i.grid (decide_by i.band) (value_of i.model)) refl
+          ∙ record_same i r.run_job-turn.result (start p).requires.0
+          (c.grid_counts-counted.ensures ∙ counts_same i.grid (decide_by i.band) (value_of i.model)) refl
           ∙ sym (ap (λ e. e.job_record) engine),
       sym (ap (λ e. e.memory) engine),
     )
@@ -105,12 +105,12 @@ opened_spec =
     tie.close
     (tie.spec
     prepare-requires
-    run-job-requires
-    grid-counts-requires
-    record-of-requires
-    same_length
-    same-length-2
-    same-length-3
-    same-length-4
-    same-length-5
+    run_job-turn-requires
+    grid_counts-counted-requires
+    record_of-requires
+    shape_of-kinds
+    shape_of-numbers
+    shape_of-places
+    shape_of-store
+    shape_of-corners
     returns)

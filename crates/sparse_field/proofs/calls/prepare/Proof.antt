@@ -17,63 +17,63 @@ use Rattle.sparse_field.proofs.calls.prepare.Tie as tie
 
 -- ---- where the slices are zeroed
 
-abbrev start : tie.After-zero-all → tie.Start
+abbrev start : tie.After-zero_all → tie.Start
 start z = z.before.before.before.before.before.before.before.before.before.before.before
 
 -- the memory at entry
-abbrev memory : tie.After-zero-all → Memory
+abbrev memory : tie.After-zero_all → Memory
 memory z =
     let a = (start z).args in
     memory_of a.kinds.now a.numbers.now a.places.now a.store.now a.corners.now
 
 -- the kinds are as long as they were
-long : (z : tie.After-zero-all) → length z.zero-all.new.0 ≡ length (start z).args.kinds.now
-long z = ap (λ m. length m.kinds) z.zero-all.ensures ∙ length-replicate (length (start z).args.kinds.now) 0
+long : (z : tie.After-zero_all) → length z.zero_all.new.kinds ≡ length (start z).args.kinds.now
+long z = ap (λ m. length m.kinds) z.zero_all.ensures ∙ length-replicate (length (start z).args.kinds.now) 0
 
 -- ---- what is left
 
-zero-all-requires : tie.Need-zero-all-requires
-zero-all-requires c κs = search rules
+zero_all-requires : tie.Need-zero_all-requires
+zero_all-requires c κs = search rules
 
-set-kinds-requires : tie.Need-set-kinds-requires
+set_kinds-requires : tie.Need-set_kinds-requires
 unfolding children_of
-set-kinds-requires c κs =
-    let z = c.before.before.before.before.before.before.before.before.before.before.before in
-    let none = nothing (start z).args.input (lengths_of (memory z)) (start z).requires in
-    (none.two, none.five, omega (arith, none.lent.kinds, long z))
+set_kinds-requires c κs =
+    let z = c in
+    let none = nothing (start z.before.before.before.before.before.before.before.before.before.before.before.before).args.input (lengths_of (memory z.before.before.before.before.before.before.before.before.before.before.before.before)) (start z.before.before.before.before.before.before.before.before.before.before.before.before).requires in
+    (none.two, none.five, omega (arith, none.lent.kinds, long z.before.before.before.before.before.before.before.before.before.before.before.before))
 
-same_length : tie.Need-same-length
-same_length c = search rules
+shape_of-kinds : tie.Need-shape_of-kinds
+shape_of-kinds c = search rules
 
-same-length-2 : tie.Need-same-length-2
-same-length-2 c = search rules
+shape_of-numbers : tie.Need-shape_of-numbers
+shape_of-numbers c = search rules
 
-same-length-3 : tie.Need-same-length-3
-same-length-3 c = search rules
+shape_of-places : tie.Need-shape_of-places
+shape_of-places c = search rules
 
-same-length-4 : tie.Need-same-length-4
-same-length-4 c = search rules
+shape_of-store : tie.Need-shape_of-store
+shape_of-store c = search rules
 
-same-length-5 : tie.Need-same-length-5
-same-length-5 c = search rules
+shape_of-corners : tie.Need-shape_of-corners
+shape_of-corners c = search rules
 
 returns : tie.Need-returns
 unfolding opened plan_with
 returns c =
-    let z = c.before.before.before.before.before.before.before.before.before.before.before.before.before.before in
-    let zero = z.zero-all.ensures in
-    let kinds = c.before.before.set-kinds.ensures ∙ ap (λ n. flags_from (active_child (start z).args.input.grid) n 0) (long z) in
+    let z = c in
+    let zero = z.zero_all.ensures in
+    let kinds = c.set_kinds.ensures ∙ ap (λ n. flags_from (active_child (start z.before.before.before.before.before.before.before.before.before.before.before.before.before.before.before).args.input.grid) n 0) (long z.before.before.before.before.before.before.before.before.before.before.before.before.before.before.before) in
     λ t. memory_of (kinds t) (zero t).numbers (zero t).places (zero t).store (zero t).corners
 
 pub prepare_spec : {M : Type 1} → statement M
 prepare_spec =
     tie.close
     (tie.spec
-    zero-all-requires
-    set-kinds-requires
-    same_length
-    same-length-2
-    same-length-3
-    same-length-4
-    same-length-5
+    zero_all-requires
+    set_kinds-requires
+    shape_of-kinds
+    shape_of-numbers
+    shape_of-places
+    shape_of-store
+    shape_of-corners
     returns)

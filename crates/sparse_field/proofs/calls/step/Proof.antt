@@ -15,72 +15,72 @@ memory s = memory_of s.args.kinds.now s.args.numbers.now s.args.places.now s.arg
 
 -- ---- where the record is judged
 
-abbrev start : tie.After-is-impossible → tie.Start
-start p = p.before.before.before.before.before.before.before.before.before.before.before.before.before.before
+abbrev start : tie.After-is_impossible → tie.Start
+start p = p.before.before.before.before.before.before.before.before.before
 
 -- it has a job
-flagged : (p : tie.After-is-impossible) → (start p).args.found.opened ≡ true
-flagged p = not-false _ p.before.before.before.before.before.before.before.if1.false
+flagged : (p : tie.After-is_impossible) → (start p).args.found.opened ≡ true
+flagged p = not-false _ p.if-not-found.false
 
 -- ---- what is left
 
+returns-then-not-found : tie.Need-returns-then-not-found
+returns-then-not-found c =
+    let s = c in
+    let a = s.args in
+    let done = step_none a.budget a.found (memory s.before.before.before.before.before.before.before) (not-true _ c.if-not-found.true) in
+    (sym (ap (λ h. h.answer) done), (sym (ap (λ h. h.next.job_record) done), sym (ap (λ h. h.next.memory) done)))
+
+is_impossible-requires : tie.Need-is_impossible-requires
+is_impossible-requires c κs = search rules
+
+shape_of-kinds-then-is_impossible : tie.Need-shape_of-kinds-then-is_impossible
+shape_of-kinds-then-is_impossible c = search rules
+
+shape_of-numbers-then-is_impossible : tie.Need-shape_of-numbers-then-is_impossible
+shape_of-numbers-then-is_impossible c = search rules
+
+shape_of-places-then-is_impossible : tie.Need-shape_of-places-then-is_impossible
+shape_of-places-then-is_impossible c = search rules
+
+shape_of-store-then-is_impossible : tie.Need-shape_of-store-then-is_impossible
+shape_of-store-then-is_impossible c = search rules
+
+shape_of-corners-then-is_impossible : tie.Need-shape_of-corners-then-is_impossible
+shape_of-corners-then-is_impossible c = search rules
+
+returns-then-is_impossible : tie.Need-returns-then-is_impossible
+returns-then-is_impossible c =
+    let p = c in
+    let a = (start p.before).args in
+    let done = step_impossible a.budget a.found (memory (start p.before)) (flagged p.before) (sym p.is_impossible.ensures ∙ c.if-is_impossible.true) in
+    (sym (ap (λ h. h.answer) done), (sym (ap (λ h. h.next.job_record) done), sym (ap (λ h. h.next.memory) done)))
+
+stepped-next-requires : tie.Need-stepped-next-requires
+stepped-next-requires c κs = sym c.is_impossible.ensures ∙ c.if-is_impossible.false
+
+shape_of-kinds : tie.Need-shape_of-kinds
+shape_of-kinds c = search rules
+
+shape_of-numbers : tie.Need-shape_of-numbers
+shape_of-numbers c = search rules
+
+shape_of-places : tie.Need-shape_of-places
+shape_of-places c = search rules
+
+shape_of-store : tie.Need-shape_of-store
+shape_of-store c = search rules
+
+shape_of-corners : tie.Need-shape_of-corners
+shape_of-corners c = search rules
+
 returns : tie.Need-returns
 returns c =
-    let s = c.before.before.before.before.before.before.before in
-    let a = s.args in
-    let done = step_none a.budget a.found (memory s) (not-true _ c.if1.true) in
-    (sym (ap (λ h. h.answer) done), (sym (ap (λ h. h.next.job_record) done), sym (ap (λ h. h.next.memory) done)))
-
-is-impossible-requires : tie.Need-is-impossible-requires
-is-impossible-requires c κs = search rules
-
-same_length : tie.Need-same-length
-same_length c = search rules
-
-same-length-2 : tie.Need-same-length-2
-same-length-2 c = search rules
-
-same-length-3 : tie.Need-same-length-3
-same-length-3 c = search rules
-
-same-length-4 : tie.Need-same-length-4
-same-length-4 c = search rules
-
-same-length-5 : tie.Need-same-length-5
-same-length-5 c = search rules
-
-returns-2 : tie.Need-returns-2
-returns-2 c =
-    let p = c.before in
-    let a = (start p).args in
-    let done = step_impossible a.budget a.found (memory (start p)) (flagged p) (sym p.is-impossible.ensures ∙ c.if2.true) in
-    (sym (ap (λ h. h.answer) done), (sym (ap (λ h. h.next.job_record) done), sym (ap (λ h. h.next.memory) done)))
-
-stepped-requires : tie.Need-stepped-requires
-stepped-requires c κs = sym c.before.before.before.before.before.before.is-impossible.ensures ∙ c.before.before.before.before.before.if2.false
-
-same-length-6 : tie.Need-same-length-6
-same-length-6 c = search rules
-
-same-length-7 : tie.Need-same-length-7
-same-length-7 c = search rules
-
-same-length-8 : tie.Need-same-length-8
-same-length-8 c = search rules
-
-same-length-9 : tie.Need-same-length-9
-same-length-9 c = search rules
-
-same-length-10 : tie.Need-same-length-10
-same-length-10 c = search rules
-
-returns-3 : tie.Need-returns-3
-returns-3 c =
-    let passed = c.before.before.before.before.before.before.before.before.before.before.before.before.before.before.before.before in
-    let p = passed.before in
-    let a = (start p).args in
-    let stepped = c.before.before.before.before.before.before.before.before.before.before.stepped.ensures in
-    let done = step_accepted a.budget a.found (memory (start p)) (flagged p) (sym p.is-impossible.ensures ∙ passed.if2.false) in (
+    let passed = c in
+    let p = passed in
+    let a = (start p.before.before.before.before.before.before.before.before.before.before.before.before.before.before.before.before.before).args in
+    let stepped = c.stepped-next.ensures in
+    let done = step_accepted a.budget a.found (memory (start p.before.before.before.before.before.before.before.before.before.before.before.before.before.before.before.before.before)) (flagged p.before.before.before.before.before.before.before.before.before.before.before.before.before.before.before.before.before) (sym p.is_impossible.ensures ∙ passed.if-is_impossible.false) in (
       sym (ap (λ h. h.answer) done),
       (stepped.0 ∙ sym (ap (λ h. h.next.job_record) done), stepped.1 ∙ sym (ap (λ h. h.next.memory) done)),
     )
@@ -89,18 +89,18 @@ pub step_spec : {M : Type 1} → statement M
 step_spec =
     tie.close
     (tie.spec
-    returns
-    is-impossible-requires
-    same_length
-    same-length-2
-    same-length-3
-    same-length-4
-    same-length-5
-    returns-2
-    stepped-requires
-    same-length-6
-    same-length-7
-    same-length-8
-    same-length-9
-    same-length-10
-    returns-3)
+    returns-then-not-found
+    is_impossible-requires
+    shape_of-kinds-then-is_impossible
+    shape_of-numbers-then-is_impossible
+    shape_of-places-then-is_impossible
+    shape_of-store-then-is_impossible
+    shape_of-corners-then-is_impossible
+    returns-then-is_impossible
+    stepped-next-requires
+    shape_of-kinds
+    shape_of-numbers
+    shape_of-places
+    shape_of-store
+    shape_of-corners
+    returns)

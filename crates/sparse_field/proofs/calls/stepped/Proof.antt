@@ -50,72 +50,72 @@ few s = (bound_fits s.args.job.input.grid (cause s).two (cause s).five).bound
 
 -- ---- where the job has run
 
-abbrev start : tie.After-run-job → tie.Start
-start r = r.before.before.before.before.before.before.before.before.before.before.before.before
+abbrev start : tie.After-run_job-turn → tie.Start
+start r = r.before.before.before.before.before.before.before.before.before.before.before.before.before
 
 -- ---- what is left
 
-run-job-requires : tie.Need-run-job-requires
-run-job-requires c κs =
-    let s = c.before.before.before.before.before.before.before.before.before.before.before in
+run_job-turn-requires : tie.Need-run_job-turn-requires
+run_job-turn-requires c κs =
+    let s = c in
     let j = s.args.job in
-    let p = judged s in (
-      (size s, (cause s).four),
+    let p = judged s.before.before.before.before.before.before.before.before.before.before.before.before in (
+      (size s.before.before.before.before.before.before.before.before.before.before.before.before, (cause s.before.before.before.before.before.before.before.before.before.before.before.before).four),
       (
-        all s,
+        all s.before.before.before.before.before.before.before.before.before.before.before.before,
         valid_startable (plan_of j.input) j.cursor j.counts.leaves p.cursor p.at_most p.at_least,
         omega (arith, p.at_most, up_to_most (plan_of j.input) j.cursor p.cursor),
       ),
     )
 
-sub-evaluations : tie.Need-overflow-sub-evaluations
-sub-evaluations c =
-    let r = c.before.before.before.before.before.before.before.before.before.before.before in
-    left_most (start r).args.job.input (lengths_of (memory (start r))) 0 _ _ _ _ _ _ _ r.run-job.ensures
+overflow_sub-evaluations : tie.Need-overflow_sub-evaluations
+overflow_sub-evaluations c =
+    let r = c in
+    left_most (start r.before.before.before.before.before.before.before.before.before.before.before).args.job.input (lengths_of (memory (start r.before.before.before.before.before.before.before.before.before.before.before))) 0 _ _ _ _ _ _ _ r.run_job-turn.ensures
 
-add-evaluations : tie.Need-overflow-add-evaluations
-add-evaluations c =
-    let r = c.before.before.before.before.before.before.before.before.before.before.before.before in
-    let s = start r in
+overflow_add-evaluations : tie.Need-overflow_add-evaluations
+overflow_add-evaluations c =
+    let r = c in
+    let s = start r.before.before.before.before.before.before.before.before.before.before.before.before in
     let j = s.args.job in
     let p = judged s in
-    omega (arith, p.evaluations, few s, made_most j.input (laws s) _ _ _ _ _ j.cursor _ r.run-job.ensures p.cursor)
+    omega (arith, p.evaluations, few s, made_most j.input (laws s) _ _ _ _ _ j.cursor _ r.run_job-turn.ensures p.cursor)
 
-record-of-requires : tie.Need-record-of-requires
-record-of-requires c κs =
-    let r = c.before.before.before.before.before.before.before.before.before.before.before.before.before in
-    let s = start r in
+record_of-requires : tie.Need-record_of-requires
+record_of-requires c κs =
+    let r = c in
+    let s = start r.before.before.before.before.before.before.before.before.before.before.before.before.before.before.before in
     let j = s.args.job in
     let p = judged s in (
       omega (
         arith,
         active_within j.input (size s),
-        leaves_after j.input (laws s) _ _ _ _ _ j.cursor _ r.run-job.ensures p.cursor (all s).corners p.at_least p.at_most,
+        leaves_after j.input (laws s) _ _ _ _ _ j.cursor _ r.run_job-turn.ensures p.cursor (all s).corners p.at_least p.at_most,
       ),
       (size s).leaf_most,
     )
 
-same_length : tie.Need-same-length
-same_length c = c.before.before.before.before.before.before.before.before.before.before.before.before.before.kinds.given
+shape_of-kinds : tie.Need-shape_of-kinds
+shape_of-kinds c = c.kinds-1.given
 
-same-length-2 : tie.Need-same-length-2
-same-length-2 c = search rules
+shape_of-numbers : tie.Need-shape_of-numbers
+shape_of-numbers c = search rules
 
-same-length-3 : tie.Need-same-length-3
-same-length-3 c = search rules
+shape_of-places : tie.Need-shape_of-places
+shape_of-places c = search rules
 
-same-length-4 : tie.Need-same-length-4
-same-length-4 c = search rules
+shape_of-store : tie.Need-shape_of-store
+shape_of-store c = search rules
 
-same-length-5 : tie.Need-same-length-5
-same-length-5 c = search rules
+shape_of-corners : tie.Need-shape_of-corners
+shape_of-corners c = search rules
 
 returns : tie.Need-returns
 returns c =
-    let r = c.before.before.before.before.before.before.before.before.before.before.before.before.before.before in
-    let s = start r in
+    let r = c in
+    let s = start r.before.before.before.before.before.before.before.before.before.before.before.before.before.before.before.before in
     let j = s.args.job in
-    let work = r.run-job in
+    let work = r.run_job-turn in
     let engine =
     engine_after j.input j.lengths j.counts.evaluations s.args.budget j.counts.leaves _ (memory s) _ _
     work.result work.ensures in (
@@ -129,13 +129,13 @@ pub stepped_spec : {M : Type 1} → statement M
 stepped_spec =
     tie.close
     (tie.spec
-    run-job-requires
-    sub-evaluations
-    add-evaluations
-    record-of-requires
-    same_length
-    same-length-2
-    same-length-3
-    same-length-4
-    same-length-5
+    run_job-turn-requires
+    overflow_sub-evaluations
+    overflow_add-evaluations
+    record_of-requires
+    shape_of-kinds
+    shape_of-numbers
+    shape_of-places
+    shape_of-store
+    shape_of-corners
     returns)

@@ -16,104 +16,104 @@ use Rattle.sparse_field.proofs.judgement.is_impossible.Tie as tie
 
 -- ---- where the slices' lengths are known
 
-abbrev start : tie.After-lengths-of → tie.Start
+abbrev start : tie.After-lengths_of-lengths → tie.Start
 start l = l.before.before.before.before.before.before.before
 
-abbrev lent : tie.After-lengths-of → Lengths
+abbrev lent : tie.After-lengths_of-lengths → Lengths
 lent l =
     let a = (start l).args in
     lengths_of (memory_of a.kinds.now a.numbers.now a.places.now a.store.now a.corners.now)
 
 -- whether the input meets a cause
-caused : (m : tie.After-meets-cause) → m.meets-cause.result ≡ not (eqb (number_of (refusal_of (start m.before).args.job.input (lent m.before))) 0)
+caused : (m : tie.After-meets_cause) → m.meets_cause.result ≡ not (eqb (number_of (refusal_of (start m.before).args.job.input (lent m.before))) 0)
 caused m =
     let i = (start m.before).args.job.input in
-    m.meets-cause.ensures ∙ ap (λ l. not (eqb (number_of (refusal_of i l)) 0)) m.before.lengths-of.ensures
+    m.meets_cause.ensures ∙ ap (λ l. not (eqb (number_of (refusal_of i l)) 0)) m.lengths_of-lengths.ensures
 
 -- whether the lengths are the record's
-measured : (s : tie.After-same-lengths) → let l = s.before.before.before.before in
-    s.same-lengths.result ≡ same_lengths (start l).args.job.lengths (lent l)
+measured : (s : tie.After-same_lengths) → let l = s in
+    s.same_lengths.result ≡ same_lengths (start l.before.before.before.before).args.job.lengths (lent l.before.before.before.before)
 measured s =
-    let l = s.before.before.before.before in
-    s.same-lengths.ensures ∙ ap (same_lengths (start l).args.job.lengths) l.lengths-of.ensures
+    let l = s in
+    s.same_lengths.ensures ∙ ap (same_lengths (start l.before.before.before.before).args.job.lengths) l.lengths_of-lengths.ensures
 
 -- ---- where a test is passed
 
-abbrev known : tie.Else2 → tie.After-lengths-of
+abbrev known : tie.Else-not-same_lengths → tie.After-lengths_of-lengths
 known p = p.before.before.before.before.before
 
-no_cause_lem : (p : tie.Else2) → not (eqb (number_of (refusal_of (start (known p)).args.job.input (lent (known p)))) 0) ≡ false
-no_cause_lem p = sym (caused p.before.before.before.before) ∙ p.before.before.before.if1.false
+no_cause_lem : (p : tie.Else-not-same_lengths) → not (eqb (number_of (refusal_of (start (known p)).args.job.input (lent (known p)))) 0) ≡ false
+no_cause_lem p = sym (caused p.before.before.before.before) ∙ p.if-meets_cause.false
 
-same : (p : tie.Else2) → not (same_lengths (start (known p)).args.job.lengths (lent (known p))) ≡ false
-same p = ap not (sym (measured p.before)) ∙ p.if2.false
+same : (p : tie.Else-not-same_lengths) → not (same_lengths (start (known p)).args.job.lengths (lent (known p))) ≡ false
+same p = ap not (sym (measured p.before)) ∙ p.if-not-same_lengths.false-raw
 
 -- ---- what is left
 
-lengths-of-requires : tie.Need-lengths-of-requires
-lengths-of-requires c κs = search rules
+lengths_of-lengths-requires : tie.Need-lengths_of-lengths-requires
+lengths_of-lengths-requires c κs = search rules
 
-meets-cause-requires : tie.Need-meets-cause-requires
-meets-cause-requires c κs = search rules
+meets_cause-requires : tie.Need-meets_cause-requires
+meets_cause-requires c κs = search rules
 
-returns : tie.Need-returns
-returns c =
+returns-then-meets_cause : tie.Need-returns-then-meets_cause
+returns-then-meets_cause c =
     let a = (start c.before.before).args in
     impossible_cause a.job a.kinds.now a.numbers.now a.places.now a.store.now a.corners.now
-    (sym (caused c.before) ∙ c.if1.true)
+    (sym (caused c.before) ∙ c.if-meets_cause.true)
 
-same-lengths-requires : tie.Need-same-lengths-requires
-same-lengths-requires c κs = search rules
+same_lengths-requires : tie.Need-same_lengths-requires
+same_lengths-requires c κs = search rules
 
-returns-2 : tie.Need-returns-2
-returns-2 c =
-    let m = c.before.before.before.before in
-    let a = (start m.before).args in
+returns-then-not-same_lengths : tie.Need-returns-then-not-same_lengths
+returns-then-not-same_lengths c =
+    let m = c in
+    let a = (start m.before.before.before.before.before).args in
     impossible_lengths a.job a.kinds.now a.numbers.now a.places.now a.store.now a.corners.now
-    (sym (caused m) ∙ c.before.before.before.if1.false) (ap not (sym (measured c.before)) ∙ c.if2.true)
+    (sym (caused m.before.before.before.before) ∙ c.if-meets_cause.false) (ap not (sym (measured c.before)) ∙ c.if-not-same_lengths.true-raw)
 
-kinds-right-requires : tie.Need-kinds-right-requires
+kinds_right-requires : tie.Need-kinds_right-requires
 unfolding children_of
-kinds-right-requires c κs =
-    let a = (start (known c)).args in
-    let n = possible_input a.job a.kinds.now a.numbers.now a.places.now a.store.now a.corners.now (no_cause_lem c) in
+kinds_right-requires c κs =
+    let a = (start (known c.before)).args in
+    let n = possible_input a.job a.kinds.now a.numbers.now a.places.now a.store.now a.corners.now (no_cause_lem c.before) in
     (n.two, n.five, n.lent.kinds)
 
-returns-3 : tie.Need-returns-3
+returns-then-not-kinds_right : tie.Need-returns-then-not-kinds_right
 unfolding plan_with
-returns-3 c =
-    let p = c.before.before in
-    let a = (start (known p)).args in
-    impossible_kinds a.job a.kinds.now a.numbers.now a.places.now a.store.now a.corners.now (no_cause_lem p) (same p)
-    (ap not (sym c.before.kinds-right.ensures) ∙ c.if3.true)
+returns-then-not-kinds_right c =
+    let p = c in
+    let a = (start (known p.before.before.before)).args in
+    impossible_kinds a.job a.kinds.now a.numbers.now a.places.now a.store.now a.corners.now (no_cause_lem p.before.before.before) (same p.before.before.before)
+    (ap not (sym c.kinds_right.ensures) ∙ c.if-not-kinds_right.true-raw)
 
-wrong-progress-requires : tie.Need-wrong-progress-requires
+wrong_progress-requires : tie.Need-wrong_progress-requires
 unfolding plan_with
-wrong-progress-requires c κs =
-    let p = c.before.before.before in
-    let a = (start (known p)).args in
-    possible_kinds a.job a.kinds.now a.numbers.now a.places.now a.store.now a.corners.now (no_cause_lem p) (same p)
-    (ap not (sym c.before.before.kinds-right.ensures) ∙ c.before.if3.false)
+wrong_progress-requires c κs =
+    let p = c in
+    let a = (start (known p.before.before.before.before.before)).args in
+    possible_kinds a.job a.kinds.now a.numbers.now a.places.now a.store.now a.corners.now (no_cause_lem p.before.before.before.before.before) (same p.before.before.before.before.before)
+    (ap not (sym c.kinds_right.ensures) ∙ c.if-not-kinds_right.false-raw)
 
-returns-4 : tie.Need-returns-4
+returns : tie.Need-returns
 unfolding plan_with
-returns-4 c =
-    let p = c.before.before.before.before in
-    let a = (start (known p)).args in
-    impossible_progress a.job a.kinds.now a.numbers.now a.places.now a.store.now a.corners.now (no_cause_lem p) (same p)
-    (ap not (sym c.before.before.before.kinds-right.ensures) ∙ c.before.before.if3.false)
-    c.wrong-progress.ensures
+returns c =
+    let p = c in
+    let a = (start (known p.before.before.before.before.before.before)).args in
+    impossible_progress a.job a.kinds.now a.numbers.now a.places.now a.store.now a.corners.now (no_cause_lem p.before.before.before.before.before.before) (same p.before.before.before.before.before.before)
+    (ap not (sym c.kinds_right.ensures) ∙ c.if-not-kinds_right.false-raw)
+    c.wrong_progress.ensures
 
 pub is_impossible_spec : {M : Type 1} → statement M
 is_impossible_spec =
     tie.close
     (tie.spec
-    lengths-of-requires
-    meets-cause-requires
-    returns
-    same-lengths-requires
-    returns-2
-    kinds-right-requires
-    returns-3
-    wrong-progress-requires
-    returns-4)
+    lengths_of-lengths-requires
+    meets_cause-requires
+    returns-then-meets_cause
+    same_lengths-requires
+    returns-then-not-same_lengths
+    kinds_right-requires
+    returns-then-not-kinds_right
+    wrong_progress-requires
+    returns)

@@ -7,8 +7,7 @@ use Rattle.schedule.specs.declared.Record.{Record}
 use Rattle.schedule.specs.declared.Cursor.TheVariants.{End}
 use Rattle.schedule.specs.NoRecord.{no_record, no_input, no_model}
 use borrow.Author.Rules.{rules}
-use Rattle.sparse_field.proofs.records.no_record.Statement.{statement}
-use Rattle.sparse_field.proofs.records.no_record.Tie as tie
+use Rattle.sparse_field.proofs.records.no_record.Goals as goal
 
 -- the record, by its bounds
 abbrev with_bounds : BoundingBox → Record
@@ -24,14 +23,5 @@ with_bounds b =
       };
     }
 
-new-requires : tie.Need-new-requires
-new-requires c κs = search rules
-
-new-requires-2 : tie.Need-new-requires-2
-new-requires-2 c κs = search rules
-
-returns : tie.Need-returns
-returns c = ap with_bounds (c.new2.ensures ∙ ap (λ v. box v v) c.before.new.ensures)
-
-pub no_record_spec : {M : Type 1} → statement M
-no_record_spec = tie.close (tie.spec new-requires new-requires-2 returns)
+pub returns : goal.returns
+returns c = ap with_bounds (c.new.ensures ∙ ap (λ v. box v v) c.new-zero.ensures)
