@@ -1,0 +1,35 @@
+-- `given::model_given` meets its contract: the places passed so far hold their parts.
+use borrow.Author.Rules.{rules}
+use mathlib.Core.Path.{◌≡◌, sym, ◌∙◌}
+use Prim.Native.Nat.{◌-◌, ◌≤◌}
+use native.Mathlib.Omega.{arith}
+use lib.ListN.{replicate, length-replicate}
+use Rattle.lists.specs.Filled.{filled}
+use Rattle.lists.proofs.Filling.{filled_none, front_store, filled_done, filled_all}
+use Rattle.float.specs.Zero.{plus_zero}
+use Rattle.model.specs.declared.ModelComponent.{ModelComponent}
+use Rattle.model.specs.declared.Part.TheVariants.{Constant}
+use Rattle.model.specs.Flat.{flat_of}
+use Rattle.field_host.specs.Given.{component_given}
+use Rattle.field_host.proofs.given.model_given.Invariants.{none}
+use Rattle.field_host.proofs.given.model_given.Goals as goal
+
+pub loop-p-init : goal.loop-p-init
+loop-p-init c = (omega arith, sym (filled_none _ _ _))
+
+pub loop-p-preserved : goal.loop-p-preserved
+loop-p-preserved c =
+    let s = c in
+    let a = s.args in
+    let l = flat_of a.parts.now a.reals.now in
+    (omega arith, front_store s.loop-p.p (component_given l) (replicate 64 none) s.loop-p.invariant.1 c.component_given.ensures)
+
+pub returns : goal.returns
+returns c =
+    let s = c in
+    let a = s.args in
+    let l = flat_of a.parts.now a.reals.now in
+    let last : s.loop-p.p ≡ 64 = omega arith in
+    let whole = filled_done 0 (component_given l) (replicate 64 none) s.loop-p.invariant.1 last
+    ∙ filled_all 64 (component_given l) (replicate 64 none) none (length-replicate 64 none) in
+    λ i. record { parts = whole i; count = a.count }
