@@ -17,13 +17,13 @@ use borrow.Author.Rules.{rules}
 use Rattle.listing.proofs.writing.put_listing.Statement.{statement}
 use Rattle.listing.proofs.writing.put_listing.Tie as tie
 
-abbrev start : tie.After-done-numbers → tie.Start
-start p = p.before.before.before.before.before.before
+abbrev start : tie.After-done_numbers-done → tie.Start
+start p = p.before.before.before.before.before.before.before
 
-abbrev numbered : tie.After-put-form → tie.After-done-numbers
-numbered p = p.before.before.before.before
+abbrev numbered : tie.After-put_form-first → tie.After-done_numbers-done
+numbered p = p.before.before.before.before.before
 
-abbrev begun : tie.After-put-lines → tie.After-put-form
+abbrev begun : tie.After-put_lines-last → tie.After-put_form-first
 begun p = p.before.before.before.before
 
 abbrev counts : tie.Start → Counts
@@ -53,66 +53,62 @@ put_whole s numbers end₁ put₁ end₂ put₂ =
     let front = put₁ ∙ ap (sets out 0) done in
     (both_end out 0 (done_line k) (lines_of s) first front end₂ put₂, both_put out 0 (done_line k) (lines_of s) first front end₂ put₂)
 
-done-numbers-requires : tie.Need-done-numbers-requires
-done-numbers-requires c κs = search rules
+done_numbers-done-requires : tie.Need-done_numbers-done-requires
+done_numbers-done-requires c κs = search rules
 
-slice-aggregate-put-form : tie.Need-slice-aggregate-put-form
-slice-aggregate-put-form c = search rules
+slice_bounds-put_form-end-2 : tie.Need-slice_bounds-put_form-end-2
+slice_bounds-put_form-end-2 c = search rules
 
-slice-aggregate-put-form-2 : tie.Need-slice-aggregate-put-form-2
-slice-aggregate-put-form-2 c = search rules
-
-put-form-requires : tie.Need-put-form-requires
-put-form-requires c κs =
-    let s = start c.before.before.before in
+put_form-first-requires : tie.Need-put_form-first-requires
+put_form-first-requires c κs =
+    let s = start c.before.before.before.before in
     let a = s.args in
-    let done = done_length a.sheet.counts c.before.before.before.done-numbers.ensures in
-    omega (arith, done, length-append (done_line a.sheet.counts) (lines_of s), s.pre.1)
+    let done = done_length a.sheet.counts c.done_numbers-done.ensures in
+    omega (arith, done, length-append (done_line a.sheet.counts) (lines_of s), s.requires.1)
 
-put-lines-requires : tie.Need-put-lines-requires
-put-lines-requires c κs =
+put_lines-last-requires : tie.Need-put_lines-last-requires
+put_lines-last-requires c κs =
     let p = numbered c.before.before.before in
     let s = start p in
     let a = s.args in
-    let done = done_length a.sheet.counts p.done-numbers.ensures in
-    let put = c.before.before.before.put-form.ensures in
-    let laid = s.pre.0 in
-    let long = put_long a.out.now 0 (spell done_form p.done-numbers.result) put.1 in
+    let done = done_length a.sheet.counts p.done_numbers-done.ensures in
+    let put = c.put_form-first.ensures in
+    let laid = s.requires.0 in
+    let long = put_long a.out.now 0 (spell done_form p.done_numbers-done.result) put.1 in
     let room = length-append (done_line (counts s)) (lines_of s) in
-    ((laid.sizes, laid.kinds, laid.numbers, laid.places), (laid.placed, omega (arith, put.0, long, done, room, s.pre.1)))
+    ((laid.sizes, laid.kinds, laid.numbers, laid.places), (laid.placed, omega (arith, put.0, long, done, room, s.requires.1)))
 
-zero-rest-requires : tie.Need-zero-rest-requires
-zero-rest-requires c κs =
+zero_rest-requires : tie.Need-zero_rest-requires
+zero_rest-requires c κs =
     let p = begun c.before.before.before in
     let s = start (numbered p) in
     let a = s.args in
-    let first = p.put-form.ensures in
-    let lines = c.before.before.before.put-lines.ensures in
-    let whole = put_whole s (numbered p).done-numbers.ensures first.0 first.1 lines.0 lines.1 in
-    omega (arith, whole.0, put_long a.out.now 0 (bytes_of s) whole.1, s.pre.1)
+    let first = p.put_form-first.ensures in
+    let lines = c.put_lines-last.ensures in
+    let whole = put_whole s (numbered p).done_numbers-done.ensures first.0 first.1 lines.0 lines.1 in
+    omega (arith, whole.0, put_long a.out.now 0 (bytes_of s) whole.1, s.requires.1)
 
-same_length : tie.Need-same-length
-same_length c = search rules
+shape_of-out : tie.Need-shape_of-out
+shape_of-out c = search rules
 
 returns : tie.Need-returns
 returns c =
     let p = begun c.before.before.before.before.before.before in
     let s = start (numbered p) in
     let a = s.args in
-    let first = p.put-form.ensures in
-    let lines = c.before.before.before.before.before.before.put-lines.ensures in
-    let whole = put_whole s (numbered p).done-numbers.ensures first.0 first.1 lines.0 lines.1 in
-    accepted_bytes (bytes_of s) a.out.now s.pre.1 (whole.0 ∙ zero-add (length (bytes_of s))) whole.1 c.before.before.zero_rest.ensures
+    let first = p.put_form-first.ensures in
+    let lines = c.put_lines-last.ensures in
+    let whole = put_whole s (numbered p).done_numbers-done.ensures first.0 first.1 lines.0 lines.1 in
+    accepted_bytes (bytes_of s) a.out.now s.requires.1 (whole.0 ∙ zero-add (length (bytes_of s))) whole.1 c.zero_rest.ensures
 
 pub put_listing_spec : {M : Type 1} → statement M
 put_listing_spec =
     tie.close
     (tie.spec
-    done-numbers-requires
-    slice-aggregate-put-form
-    slice-aggregate-put-form-2
-    put-form-requires
-    put-lines-requires
-    zero-rest-requires
-    same_length
+    done_numbers-done-requires
+    slice_bounds-put_form-end-2
+    put_form-first-requires
+    put_lines-last-requires
+    zero_rest-requires
+    shape_of-out
     returns)

@@ -32,32 +32,38 @@ measured : (s : tie.Start) → length (bytes_of s)
     ≡ length (done_line (sheet s).counts) + sum_below (length_at (sheet s).children (sheet s).points s.args.kinds.now) (sheet s).total
 measured s = let a = s.args in listing_measured a.sheet.total a.sheet.children a.sheet.points a.sheet.nan a.sheet.counts (memory s)
 
-listing-length-requires : tie.Need-listing-length-requires
-listing-length-requires c κs = search rules
+listing_length-length-requires : tie.Need-listing_length-length-requires
+listing_length-length-requires c κs = search rules
+
+returns-then-length-out : tie.Need-returns-then-length-out
+returns-then-length-out c =
+    let s = c in
+    let a = s.args in
+    let short : length a.out.now < length (bytes_of s.before.before.before.before.before.before.before) = omega (arith, c.if-length-out.true, c.listing_length-length.ensures, measured s.before.before.before.before.before.before.before) in
+    (refused_answer (bytes_of s.before.before.before.before.before.before.before) a.out.now short, refused_bytes (bytes_of s.before.before.before.before.before.before.before) a.out.now short)
+
+put_listing-requires : tie.Need-put_listing-requires
+put_listing-requires c κs =
+    let s = c in
+    (s.requires, omega (arith, c.if-length-out.false, c.listing_length-length.ensures, measured s.before.before.before.before.before.before.before.before))
+
+shape_of-out : tie.Need-shape_of-out
+shape_of-out c = search rules
 
 returns : tie.Need-returns
 returns c =
-    let s = c.before.before.before.before.before.before.before in
+    let s = c in
     let a = s.args in
-    let short : length a.out.now < length (bytes_of s) = omega (arith, c.if1.true, c.before.listing-length.ensures, measured s) in
-    (refused_answer (bytes_of s) a.out.now short, refused_bytes (bytes_of s) a.out.now short)
-
-put-listing-requires : tie.Need-put-listing-requires
-put-listing-requires c κs =
-    let s = c.before.before.before.before.before.before.before.before in
-    (s.requires, omega (arith, c.before.if1.false, c.before.before.listing-length.ensures, measured s))
-
-same_length : tie.Need-same-length
-same_length c = search rules
-
-returns-2 : tie.Need-returns-2
-returns-2 c =
-    let s = c.before.before.before.before.before.before.before.before.before.before.before in
-    let a = s.args in
-    let length_is = c.before.before.before.before.before.listing-length.ensures in
-    let fits : length (bytes_of s) ≤ length a.out.now = omega (arith, c.before.before.before.before.if1.false, length_is, measured s) in
-    (accepted_answer (bytes_of s) a.out.now (length_is ∙ sym (measured s)) fits, c.before.before.put-listing.ensures)
+    let length_is = c.listing_length-length.ensures in
+    let fits : length (bytes_of s.before.before.before.before.before.before.before.before.before.before.before) ≤ length a.out.now = omega (arith, c.if-length-out.false, length_is, measured s.before.before.before.before.before.before.before.before.before.before.before) in
+    (accepted_answer (bytes_of s.before.before.before.before.before.before.before.before.before.before.before) a.out.now (length_is ∙ sym (measured s.before.before.before.before.before.before.before.before.before.before.before)) fits, c.put_listing.ensures)
 
 pub write_placed_spec : {M : Type 1} → statement M
 write_placed_spec =
-    tie.close (tie.spec listing-length-requires returns put-listing-requires same_length returns-2)
+    tie.close
+    (tie.spec
+    listing_length-length-requires
+    returns-then-length-out
+    put_listing-requires
+    shape_of-out
+    returns)

@@ -13,10 +13,10 @@ use borrow.Author.Rules.{rules}
 use Rattle.listing.proofs.writing.write_possible.Statement.{statement}
 use Rattle.listing.proofs.writing.write_possible.Tie as tie
 
-abbrev start : tie.After-at-end → tie.Start
+abbrev start : tie.After-at_end → tie.Start
 start p = p.before.before.before.before.before.before.before
 
-abbrev ended : tie.After-node-total → tie.After-at-end
+abbrev ended : tie.After-node_total → tie.After-at_end
 ended p = p.before.before.before.before.before.before.before
 
 -- the memory at entry
@@ -32,112 +32,112 @@ total_is : (s : tie.Start) {n k : ℕ} → n ≡ nodes_of s.args.job.input.grid 
     → n * k ≡ nodes_of s.args.job.input.grid * cube s.args.job.input.grid.inner
 total_is s nodes children = ap₂ (λ (a b : ℕ). a * b) nodes children
 
-at-end-requires : tie.Need-at-end-requires
-at-end-requires c κs = search rules
+at_end-requires : tie.Need-at_end-requires
+at_end-requires c κs = search rules
 
-returns : tie.Need-returns
-returns c =
+returns-then-not-at_end : tie.Need-returns-then-not-at_end
+returns-then-not-at_end c =
     let s = start c.before in
     let a = s.args in
-    let is = unfinished a.job a.nan (memory s) a.out.now (sym c.before.at_end.ensures ∙ not-true _ c.if1.true) in
+    let is = unfinished a.job a.nan (memory s) a.out.now (sym c.at_end.ensures ∙ not-true _ c.if-not-at_end.true-raw) in
     (sym (ap (λ p. p.answer) is), sym (ap (λ p. p.bytes) is))
 
-cast-cube-of : tie.Need-overflow-cast-cube-of
-cast-cube-of c = search rules
+overflow_cast-g : tie.Need-overflow_cast-g
+overflow_cast-g c = search rules
 
-cube-of-requires : tie.Need-cube-of-requires
-cube-of-requires c κs = (sized c.before.before.before.before.before.before.before.before.before.before).inner
+cube_of-children-requires : tie.Need-cube_of-children-requires
+cube_of-children-requires c κs = (sized c.before.before.before.before.before.before.before.before.before.before).inner
 
-cast-cube-of-2 : tie.Need-overflow-cast-cube-of-2
-cast-cube-of-2 c = search rules
+overflow_cast-g-2 : tie.Need-overflow_cast-g-2
+overflow_cast-g-2 c = search rules
 
-cube-of-requires-2 : tie.Need-cube-of-requires-2
-cube-of-requires-2 c κs = (sized c.before.before.before.before.before.before.before.before.before.before.before.before).leaf
+cube_of-points-requires : tie.Need-cube_of-points-requires
+cube_of-points-requires c κs = (sized c.before.before.before.before.before.before.before.before.before.before.before.before).leaf
 
-node-total-requires : tie.Need-node-total-requires
-node-total-requires c κs =
+node_total-requires : tie.Need-node_total-requires
+node_total-requires c κs =
     omega (
       arith,
       (sized
           c.before.before.before.before.before.before.before.before.before.before.before.before.before).nodes,
     )
 
-mul-total : tie.Need-overflow-mul-total
-mul-total c =
+overflow_mul-total : tie.Need-overflow_mul-total
+overflow_mul-total c =
     let s = start (ended c) in
-    let total = total_is s c.node-total.ensures c.before.before.before.cube-of.ensures in
+    let total = total_is s c.node_total.ensures c.cube_of-children.ensures in
     omega (arith, total, (sized s).sizes.few)
 
-all-placed-requires : tie.Need-all-placed-requires
-all-placed-requires c κs =
+all_placed-requires : tie.Need-all_placed-requires
+all_placed-requires c κs =
     let s = start (ended c) in
-    let total = total_is s c.node-total.ensures c.before.before.before.cube-of.ensures in
-    (omega (arith, c.before.cube-of2.ensures, (sized s).sizes.size), omega (arith, total, (sized s).enough_kinds), omega (arith, total, (sized s).enough_places))
+    let total = total_is s c.node_total.ensures c.cube_of-children.ensures in
+    (omega (arith, c.cube_of-points.ensures, (sized s).sizes.size), omega (arith, total, (sized s).enough_kinds), omega (arith, total, (sized s).enough_places))
 
-returns-2 : tie.Need-returns-2
-returns-2 c =
+returns-then-not-all_placed : tie.Need-returns-then-not-all_placed
+returns-then-not-all_placed c =
     let s = start (ended c.before.before) in
     let a = s.args in
-    let end = sym (ended c.before.before).at_end.ensures ∙ not-false _ c.before.before.before.before.before.before.before.before.if1.false in
+    let end = sym (ended c.before.before).at_end.ensures ∙ not-false _ c.if-not-at_end.false-raw in
     let is =
-    unplaced a.job a.nan (memory s) a.out.now c.before.before.node-total.ensures
-    c.before.before.before.before.before.cube-of.ensures c.before.before.before.cube-of2.ensures end
-    (sym c.before.all_placed.ensures ∙ not-true _ c.if2.true) in
+    unplaced a.job a.nan (memory s) a.out.now c.node_total.ensures
+    c.cube_of-children.ensures c.cube_of-points.ensures end
+    (sym c.all_placed.ensures ∙ not-true _ c.if-not-all_placed.true-raw) in
     (sym (ap (λ p. p.answer) is), sym (ap (λ p. p.bytes) is))
 
-write-placed-requires : tie.Need-write-placed-requires
-write-placed-requires c κs =
+write_placed-requires : tie.Need-write_placed-requires
+write_placed-requires c κs =
     let s = start (ended c.before.before.before.before) in
     let total =
-    total_is s c.before.before.before.before.node-total.ensures
-    c.before.before.before.before.before.before.before.cube-of.ensures in
+    total_is s c.node_total.ensures
+    c.cube_of-children.ensures in
     let sizes = (sized s).sizes in
     record {
       sizes = record {
-        some = omega (arith, c.before.before.before.before.before.before.before.cube-of.ensures, sizes.some);
-        size = omega (arith, c.before.before.before.before.before.cube-of2.ensures, sizes.size);
+        some = omega (arith, c.cube_of-children.ensures, sizes.some);
+        size = omega (arith, c.cube_of-points.ensures, sizes.size);
         few = omega (arith, total, sizes.few);
       };
       kinds = omega (arith, total, (sized s).enough_kinds);
       numbers = omega (arith, total, (sized s).enough_numbers);
       places = omega (arith, total, (sized s).enough_places);
-      placed = sym c.before.before.before.all_placed.ensures ∙ not-false _ c.before.before.if2.false;
+      placed = sym c.all_placed.ensures ∙ not-false _ c.if-not-all_placed.false-raw;
     }
 
-same_length : tie.Need-same-length
-same_length c = search rules
+shape_of-out : tie.Need-shape_of-out
+shape_of-out c = search rules
 
-returns-3 : tie.Need-returns-3
-returns-3 c =
+returns : tie.Need-returns
+returns c =
     let s = start (ended c.before.before.before.before.before.before.before) in
     let a = s.args in
     let end =
     sym (ended c.before.before.before.before.before.before.before).at_end.ensures
     ∙ not-false _
-    c.before.before.before.before.before.before.before.before.before.before.before.before.before.if1.false in
+    c.if-not-at_end.false-raw in
     let is =
     printed a.job a.nan (memory s) a.out.now
-    c.before.before.before.before.before.before.before.node-total.ensures
-    c.before.before.before.before.before.before.before.before.before.before.cube-of.ensures
-    c.before.before.before.before.before.before.before.before.cube-of2.ensures end
-    (sym c.before.before.before.before.before.before.all_placed.ensures
-    ∙ not-false _ c.before.before.before.before.before.if2.false) in
-    (c.before.before.write-placed.ensures.0 ∙ sym (ap (λ p. p.answer) is), c.before.before.write-placed.ensures.1 ∙ sym (ap (λ p. p.bytes) is))
+    c.node_total.ensures
+    c.cube_of-children.ensures
+    c.cube_of-points.ensures end
+    (sym c.all_placed.ensures
+    ∙ not-false _ c.if-not-all_placed.false-raw) in
+    (c.write_placed.ensures.0 ∙ sym (ap (λ p. p.answer) is), c.write_placed.ensures.1 ∙ sym (ap (λ p. p.bytes) is))
 
 pub write_possible_spec : {M : Type 1} → statement M
 write_possible_spec =
     tie.close
     (tie.spec
-    at-end-requires
-    returns
-    cast-cube-of
-    cube-of-requires
-    cast-cube-of-2
-    cube-of-requires-2
-    node-total-requires
-    mul-total
-    all-placed-requires
-    returns-2
-    write-placed-requires
-    same_length
-    returns-3)
+    at_end-requires
+    returns-then-not-at_end
+    overflow_cast-g
+    cube_of-children-requires
+    overflow_cast-g-2
+    cube_of-points-requires
+    node_total-requires
+    overflow_mul-total
+    all_placed-requires
+    returns-then-not-all_placed
+    write_placed-requires
+    shape_of-out
+    returns)

@@ -28,7 +28,7 @@ memory z =
 
 -- the kinds are as long as they were
 long : (z : tie.After-zero_all) → length z.zero_all.new.kinds ≡ length (start z).args.kinds.now
-long z = ap (λ m. length m.kinds-1) z.zero_all.ensures ∙ length-replicate (length (start z).args.kinds.now) 0
+long z = ap (λ m. length m.kinds) z.zero_all.ensures ∙ length-replicate (length (start z).args.kinds.now) 0
 
 -- ---- what is left
 
