@@ -7,6 +7,9 @@ ghost use Rattle.std.specs.Prelude.{◌+◌, ◌<◌, ◌≤◌, length};
 mod sampling; // sampling.rt: a model, sampled
 mod values; // values.rt: calls that change values
 
+use std::io;
+use std::io::Print;
+
 // Which of the words, each ended by byte 10, begins a line and has this length: 0 is the first.
 // Their number where none does.
 fn kind_of(line: &[u8], len: usize, words: &[u8]) -> u64 {
@@ -114,7 +117,7 @@ fn answer(kind: u64, fields: &[u64; 160], count: usize, answers: &mut [u64; 160]
 }
 
 // Writes the answer of a line's call.
-fn take_line(line: &[u8]) {
+fn take_line(rt: &impl Print, line: &[u8]) -> io::Result<()> {
     let mut fields = vectors::zeros();
     let mut answers = vectors::zeros();
     let end = vectors::word_end(line);
@@ -125,16 +128,17 @@ fn take_line(line: &[u8]) {
     );
     let count = vectors::read_fields(line, end, &mut fields);
     let written = answer(kind, &fields, count, &mut answers);
-    vectors::write_fields(&answers, written);
+    vectors::write_fields(rt, &answers, written)
 }
 
-fn take_lines(text: &[u8]) {
+fn take_lines(rt: &impl Print, text: &[u8]) -> io::Result<()> {
     let mut at = 0;
     while at < text.len() {
         let end = vectors::line_end(text, at);
-        take_line(&text[at..end]);
+        take_line(rt, &text[at..end])?;
         at = end;
     }
+    Ok(())
 }
 
 // Room for the whole of standard input.
@@ -142,8 +146,8 @@ fn room() -> [u8; 655360] {
     [0; 655360]
 }
 
-fn main() {
+fn main(rt: HostRuntime) -> io::Result<()> {
     let mut text = room();
-    let n = io::read_full(0, &mut text);
-    take_lines(&text[..n]);
+    let n = streams::read_text(&mut rt.stdin(), &mut text)?;
+    take_lines(&rt, &text[..n])
 }

@@ -6,6 +6,9 @@ ghost use Rattle.std.specs.Prelude.{◌<◌, ◌≤◌};
 mod corners; // corners.rt: the corner list
 mod jobs; // jobs.rt: the causes of open
 
+use std::io;
+use std::io::Print;
+
 // The answer to a case with this word.
 fn answer(word: u64, fields: &[u64; 160], answers: &mut [u64; 160]) -> usize
     ensures { (0 < result) × (result ≤ 160) }
@@ -39,19 +42,20 @@ fn answer_to(line: &[u8], answers: &mut [u64; 160]) -> usize
     answer(word, &fields, answers)
 }
 
-fn answer_line(line: &[u8]) {
+fn answer_line(rt: &impl Print, line: &[u8]) -> io::Result<()> {
     let mut answers = vectors::zeros();
     let count = answer_to(line, &mut answers);
-    vectors::write_fields(&answers, count);
+    vectors::write_fields(rt, &answers, count)
 }
 
-fn answer_lines(text: &[u8]) {
+fn answer_lines(rt: &impl Print, text: &[u8]) -> io::Result<()> {
     let mut at = 0;
     while at < text.len() {
         let end = vectors::line_end(text, at);
-        answer_line(&text[at..end]);
+        answer_line(rt, &text[at..end])?;
         at = end;
     }
+    Ok(())
 }
 
 // Room for the whole of standard input.
@@ -59,8 +63,8 @@ fn room() -> [u8; 655360] {
     [0; 655360]
 }
 
-fn main() {
+fn main(rt: HostRuntime) -> io::Result<()> {
     let mut text = room();
-    let n = io::read_full(0, &mut text);
-    answer_lines(&text[..n]);
+    let n = streams::read_text(&mut rt.stdin(), &mut text)?;
+    answer_lines(&rt, &text[..n])
 }

@@ -5,28 +5,30 @@
 
 ghost use Rattle.std.specs.Prelude.{◌≤◌, length};
 
+use std::io;
+use std::io::Print;
 use vectors::Hex;
 
 // Writes an answer whole.
-fn write_whole(listing: &[u8]) {
-    io::write_all(1, listing);
-    io::write_all(1, b"\n");
+fn write_whole(rt: &impl Print, listing: &[u8]) -> io::Result<()> {
+    rt.write_all(listing)?;
+    rt.write_all(b"\n")
 }
 
 // Writes the digest of an answer.
-fn write_digest(listing: &[u8]) {
+fn write_digest(rt: &impl Print, listing: &[u8]) -> io::Result<()> {
     let digest = vectors::digest_with(vectors::digest_start(), listing);
-    vectors::write_number(vectors::digest_with(digest, b"\n"));
+    vectors::write_number(rt, vectors::digest_with(digest, b"\n"))
 }
 
 // Writes the answer to one text, or its digest.
-fn list_text(text: &[u8], whole: bool) {
+fn list_text(rt: &impl Print, text: &[u8], whole: bool) -> io::Result<()> {
     let mut out = [0u8; 88176];
     let end = listing::list_whole(text, &mut out);
     if whole {
-        write_whole(&out[..end]);
+        write_whole(rt, &out[..end])
     } else {
-        write_digest(&out[..end]);
+        write_digest(rt, &out[..end])
     }
 }
 
@@ -42,21 +44,22 @@ fn text_end(bytes: &[u8], from: usize, count: u64) -> usize
     bytes.len()
 }
 
-fn list_texts(bytes: &[u8]) {
+fn list_texts(rt: &impl Print, bytes: &[u8]) -> io::Result<()> {
     let whole = vectors::has_word(bytes, 0, b"full\n");
     let mut at = if whole { 5 } else { 0 };
     while at < bytes.len() {
         if bytes.len() - at < 17 {
-            return;
+            return Ok(());
         }
         let Hex::Number(count) = vectors::hex16(bytes, at) else {
-            return;
+            return Ok(());
         };
         let from = at + 17;
         let end = text_end(bytes, from, count);
-        list_text(&bytes[from..end], whole);
+        list_text(rt, &bytes[from..end], whole)?;
         at = end;
     }
+    Ok(())
 }
 
 // Room for the whole of standard input.
@@ -64,8 +67,8 @@ fn room() -> [u8; 655360] {
     [0; 655360]
 }
 
-fn main() {
+fn main(rt: HostRuntime) -> io::Result<()> {
     let mut bytes = room();
-    let n = io::read_full(0, &mut bytes);
-    list_texts(&bytes[..n]);
+    let n = streams::read_text(&mut rt.stdin(), &mut bytes)?;
+    list_texts(&rt, &bytes[..n])
 }

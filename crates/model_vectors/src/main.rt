@@ -12,9 +12,18 @@ mod tally;
 
 use case::Case;
 use line::Line;
+use std::io;
+use std::io::Print;
 
 // Compares each way of evaluating a case's model with the value that is stored.
-fn judge_value(case: Case, stored: u64, number: u64, cases: &mut [u64; 5], wrong: &mut [u64; 5])
+fn judge_value(
+    rt: &impl Print,
+    case: Case,
+    stored: u64,
+    number: u64,
+    cases: &mut [u64; 5],
+    wrong: &mut [u64; 5],
+) -> io::Result<()>
     ensures cases { cases.new ≡ compared_value cases.old }
     ensures wrong { wrong.new ≡ value_wrong case stored wrong.old }
 {
@@ -23,33 +32,47 @@ fn judge_value(case: Case, stored: u64, number: u64, cases: &mut [u64; 5], wrong
     let at_point = compare::point_right(model, point, stored);
     let flat = compare::same_bits(compare::flat_value(model, point), stored);
     let row = compare::same_bits(compare::row_value(model, point), stored);
-    tally::note(tally::POINTS, at_point, number, cases, wrong);
-    tally::note(tally::FLAT, flat, number, cases, wrong);
-    tally::note(tally::ROWS, row, number, cases, wrong);
+    let first = tally::note(rt, tally::POINTS, at_point, number, cases, wrong);
+    let second = tally::note(rt, tally::FLAT, flat, number, cases, wrong);
+    let third = tally::note(rt, tally::ROWS, row, number, cases, wrong);
+    first.and(second).and(third)
 }
 
 // Compares evaluation of a case's model with a refusal that is stored.
-fn judge_refusal(case: Case, number: u64, cases: &mut [u64; 5], wrong: &mut [u64; 5])
+fn judge_refusal(
+    rt: &impl Print,
+    case: Case,
+    number: u64,
+    cases: &mut [u64; 5],
+    wrong: &mut [u64; 5],
+) -> io::Result<()>
     ensures cases { cases.new ≡ counted 3 cases.old }
     ensures wrong { wrong.new ≡ wrong_if (refusal_right case) 3 wrong.old }
 {
     let model = case.model;
     let point = case.point;
     let refused = compare::refusal_right(model, point);
-    tally::note(tally::REFUSALS, refused, number, cases, wrong);
+    tally::note(rt, tally::REFUSALS, refused, number, cases, wrong)
 }
 
 // Compares the answer that a line says with what the case gives.
-fn judge_line(case: Case, line: Line, number: u64, cases: &mut [u64; 5], wrong: &mut [u64; 5])
+fn judge_line(
+    rt: &impl Print,
+    case: Case,
+    line: Line,
+    number: u64,
+    cases: &mut [u64; 5],
+    wrong: &mut [u64; 5],
+) -> io::Result<()>
     ensures cases { cases.new ≡ cases_after line cases.old }
     ensures wrong { wrong.new ≡ wrong_after line case wrong.old }
 {
     match line {
-        Line::Point(_) => {}
-        Line::Component(_) => {}
-        Line::Value(stored) => judge_value(case, stored, number, cases, wrong),
-        Line::Refused => judge_refusal(case, number, cases, wrong),
-        Line::Off => tally::note_off(number, cases),
+        Line::Point(_) => Ok(()),
+        Line::Component(_) => Ok(()),
+        Line::Value(stored) => judge_value(rt, case, stored, number, cases, wrong),
+        Line::Refused => judge_refusal(rt, case, number, cases, wrong),
+        Line::Off => tally::note_off(rt, number, cases),
     }
 }
 
@@ -66,7 +89,7 @@ fn case_after(case: Case, line: Line) -> Case
     }
 }
 
-fn take_lines(text: &[u8]) {
+fn take_lines(rt: &impl Print, text: &[u8]) -> io::Result<()> {
     let mut cases = [0u64; 5];
     let mut wrong = [0u64; 5];
     let mut case = case::start(geometry::Vec3::new(0.0, 0.0, 0.0));
@@ -76,15 +99,20 @@ fn take_lines(text: &[u8]) {
         let end = vectors::line_end(text, at);
         number = std::num::wrapping_add_u64(number, 1);
         let read = line::read(&text[at..end]);
-        judge_line(case, read, number, &mut cases, &mut wrong);
+        judge_line(rt, case, read, number, &mut cases, &mut wrong)?;
         case = case_after(case, read);
         at = end;
     }
-    tally::report(&cases, &wrong);
+    tally::report(rt, &cases, &wrong)
 }
 
-fn main() {
-    let mut text = [0u8; 524288];
-    let n = io::read_full(0, &mut text);
-    take_lines(&text[..n]);
+// Room for the whole of standard input.
+fn room() -> [u8; 524288] {
+    [0; 524288]
+}
+
+fn main(rt: HostRuntime) -> io::Result<()> {
+    let mut text = room();
+    let n = streams::read_text(&mut rt.stdin(), &mut text)?;
+    take_lines(&rt, &text[..n])
 }

@@ -2,6 +2,9 @@
 ghost use Rattle.std.specs.Prelude.{◌≡◌, ◌<◌};
 ghost use Rattle.model_vectors.specs.Tally.{counted, wrong_if};
 
+use std::io;
+use std::io::Print;
+
 // The kinds, by their places in the counts.
 pub const POINTS: usize = 0;
 
@@ -24,59 +27,59 @@ pub fn add(counts: &mut [u64; 5], kind: usize)
     counts[kind] = std::num::wrapping_add_u64(counts[kind], 1);
 }
 
-fn print_kind(kind: usize) {
-    if kind == POINTS {
-        io::write_all(1, b"points");
-    }
-    if kind == FLAT {
-        io::write_all(1, b"flat");
-    }
-    if kind == ROWS {
-        io::write_all(1, b"rows");
-    }
-    if kind == REFUSALS {
-        io::write_all(1, b"refused");
+// How a report names a kind of comparisons.
+fn kind_name(kind: usize) -> &'static str {
+    match kind {
+        POINTS => "points",
+        FLAT => "flat",
+        ROWS => "rows",
+        REFUSALS => "refused",
+        _ => "",
     }
 }
 
-fn show_wrong(line: u64, kind: usize) {
-    io::write_all(1, b"line ");
-    io::print_decimal(1, line);
-    io::write_all(1, b" is wrong: ");
-    print_kind(kind);
-    io::write_all(1, b"\n");
+fn show_wrong(rt: &impl Print, line: u64, kind: usize) -> io::Result<()> {
+    let name = kind_name(kind);
+    println!(rt; "line {line} is wrong: {name}")
 }
 
-fn show_off(line: u64) {
-    io::write_all(1, b"line ");
-    io::print_decimal(1, line);
-    io::write_all(1, b" is off its form\n");
+fn show_off(rt: &impl Print, line: u64) -> io::Result<()> {
+    println!(rt; "line {line} is off its form")
 }
 
 // One more comparison of a kind, which is named where it is wrong.
-pub fn note(kind: usize, right: bool, line: u64, cases: &mut [u64; 5], wrong: &mut [u64; 5])
+pub fn note(
+    rt: &impl Print,
+    kind: usize,
+    right: bool,
+    line: u64,
+    cases: &mut [u64; 5],
+    wrong: &mut [u64; 5],
+) -> io::Result<()>
     requires { kind < 5 }
     ensures cases { cases.new ≡ counted kind cases.old }
     ensures wrong { wrong.new ≡ wrong_if right kind wrong.old }
 {
     add(cases, kind);
     if right {
-        return;
+        return Ok(());
     }
     add(wrong, kind);
     if wrong[kind] <= SHOWN {
-        show_wrong(line, kind);
+        return show_wrong(rt, line, kind);
     }
+    Ok(())
 }
 
 // One more line that is off its form.
-pub fn note_off(line: u64, cases: &mut [u64; 5])
+pub fn note_off(rt: &impl Print, line: u64, cases: &mut [u64; 5]) -> io::Result<()>
     ensures { cases.new ≡ counted 4 cases.old }
 {
     add(cases, OFF);
     if cases[OFF] <= SHOWN {
-        show_off(line);
+        return show_off(rt, line);
     }
+    Ok(())
 }
 
 // The count over all kinds of comparisons.
@@ -86,28 +89,26 @@ fn total(counts: &[u64; 5]) -> u64 {
     std::num::wrapping_add_u64(b, counts[3])
 }
 
-fn print_counts(cases: u64, wrong: u64) {
-    io::write_all(1, b" ");
-    io::print_decimal(1, cases);
-    io::write_all(1, b" cases, ");
-    io::print_decimal(1, wrong);
-    io::write_all(1, b" wrong\n");
+fn print_counts(rt: &impl Print, name: &str, cases: u64, wrong: u64) -> io::Result<()> {
+    println!(rt; "{name} {cases} cases, {wrong} wrong")
+}
+
+fn report_kind(rt: &impl Print, kind: usize, cases: &[u64; 5], wrong: &[u64; 5]) -> io::Result<()>
+    requires { kind < 5 }
+{
+    print_counts(rt, kind_name(kind), cases[kind], wrong[kind])
 }
 
 // A line for each kind, and one for all of them.
-pub fn report(cases: &[u64; 5], wrong: &[u64; 5]) {
-    print_kind(POINTS);
-    print_counts(cases[POINTS], wrong[POINTS]);
-    print_kind(FLAT);
-    print_counts(cases[FLAT], wrong[FLAT]);
-    print_kind(ROWS);
-    print_counts(cases[ROWS], wrong[ROWS]);
-    print_kind(REFUSALS);
-    print_counts(cases[REFUSALS], wrong[REFUSALS]);
-    io::write_all(1, b"total");
-    print_counts(total(cases), total(wrong));
-    if cases[OFF] > 0 {
-        io::print_decimal(1, cases[OFF]);
-        io::write_all(1, b" lines off their form\n");
+pub fn report(rt: &impl Print, cases: &[u64; 5], wrong: &[u64; 5]) -> io::Result<()> {
+    report_kind(rt, POINTS, cases, wrong)?;
+    report_kind(rt, FLAT, cases, wrong)?;
+    report_kind(rt, ROWS, cases, wrong)?;
+    report_kind(rt, REFUSALS, cases, wrong)?;
+    print_counts(rt, "total", total(cases), total(wrong))?;
+    let off = cases[OFF];
+    if off > 0 {
+        println!(rt; "{off} lines off their form")?;
     }
+    Ok(())
 }

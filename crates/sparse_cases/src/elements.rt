@@ -4,6 +4,8 @@ ghost use Rattle.std.specs.Prelude.{◌+◌, ◌<◌, ◌≤◌, length};
 
 use crate::held::lent;
 use crate::{answers, words};
+use std::io;
+use std::io::Print;
 
 // The poison of a place: a number that follows from the seed.
 fn mixed(seed: u64, at: usize) -> u64 {
@@ -134,7 +136,7 @@ fn put_floats(values: &[f64], at: usize, count: usize, answers: &mut [u64; 160])
 }
 
 // Answers the kinds that are lent, 160 to a line.
-fn answer_kinds(kinds: &[u8], end: usize, held: &mut [u64; 686])
+fn answer_kinds(rt: &impl Print, kinds: &[u8], end: usize, held: &mut [u64; 686]) -> io::Result<()>
     requires { end ≤ length kinds.now }
 {
     let mut at: usize = 0;
@@ -142,12 +144,18 @@ fn answer_kinds(kinds: &[u8], end: usize, held: &mut [u64; 686])
         let mut answers = vectors::zeros();
         let count = row_of(end - at);
         put_kinds(kinds, at, count, &mut answers);
-        answers::take(&answers, count, held);
+        answers::take(rt, &answers, count, held)?;
         at += count;
     }
+    Ok(())
 }
 
-fn answer_places(places: &[u32], end: usize, held: &mut [u64; 686])
+fn answer_places(
+    rt: &impl Print,
+    places: &[u32],
+    end: usize,
+    held: &mut [u64; 686],
+) -> io::Result<()>
     requires { end ≤ length places.now }
 {
     let mut at: usize = 0;
@@ -155,12 +163,18 @@ fn answer_places(places: &[u32], end: usize, held: &mut [u64; 686])
         let mut answers = vectors::zeros();
         let count = row_of(end - at);
         put_places(places, at, count, &mut answers);
-        answers::take(&answers, count, held);
+        answers::take(rt, &answers, count, held)?;
         at += count;
     }
+    Ok(())
 }
 
-fn answer_floats(values: &[f64], end: usize, held: &mut [u64; 686])
+fn answer_floats(
+    rt: &impl Print,
+    values: &[f64],
+    end: usize,
+    held: &mut [u64; 686],
+) -> io::Result<()>
     requires { end ≤ length values.now }
 {
     let mut at: usize = 0;
@@ -168,41 +182,56 @@ fn answer_floats(values: &[f64], end: usize, held: &mut [u64; 686])
         let mut answers = vectors::zeros();
         let count = row_of(end - at);
         put_floats(values, at, count, &mut answers);
-        answers::take(&answers, count, held);
+        answers::take(rt, &answers, count, held)?;
         at += count;
     }
+    Ok(())
 }
 
 // What a line does with so many of the kinds as the list lends: `lend` poisons them, `poke` sets one,
 // `dump` answers all.
-pub fn touch_kinds(word: u64, fields: &[u64; 160], held: &mut [u64; 686], kinds: &mut [u8]) {
+pub fn touch_kinds(
+    rt: &impl Print,
+    word: u64,
+    fields: &[u64; 160],
+    held: &mut [u64; 686],
+    kinds: &mut [u8],
+) -> io::Result<()> {
     let count = lent(held, 0, kinds.len());
     if word == words::LEND {
         poison_kinds(fields[5], kinds, count);
-        return;
+        return Ok(());
     }
     if word == words::POKE {
         poke_kind(fields, kinds, count);
-        return;
+        return Ok(());
     }
     if word == words::DUMP {
-        answer_kinds(kinds, count, held);
+        return answer_kinds(rt, kinds, count, held);
     }
+    Ok(())
 }
 
-pub fn touch_places(word: u64, fields: &[u64; 160], held: &mut [u64; 686], places: &mut [u32]) {
+pub fn touch_places(
+    rt: &impl Print,
+    word: u64,
+    fields: &[u64; 160],
+    held: &mut [u64; 686],
+    places: &mut [u32],
+) -> io::Result<()> {
     let count = lent(held, 2, places.len());
     if word == words::LEND {
         poison_places(std::num::wrapping_add_u64(fields[5], 0x2000), places, count);
-        return;
+        return Ok(());
     }
     if word == words::POKE {
         poke_place(fields, places, count);
-        return;
+        return Ok(());
     }
     if word == words::DUMP {
-        answer_places(places, count, held);
+        return answer_places(rt, places, count, held);
     }
+    Ok(())
 }
 
 // What the poison of a slice of floats adds to the seed.
@@ -215,25 +244,27 @@ fn seed_of(slice: usize) -> u64 {
 }
 
 pub fn touch_floats(
+    rt: &impl Print,
     word: u64,
     fields: &[u64; 160],
     slice: usize,
     held: &mut [u64; 686],
     values: &mut [f64],
-)
+) -> io::Result<()>
     requires { slice < 5 }
 {
     let count = lent(held, slice, values.len());
     if word == words::LEND {
         let seed = std::num::wrapping_add_u64(fields[5], seed_of(slice));
         poison_floats(seed, values, count);
-        return;
+        return Ok(());
     }
     if word == words::POKE {
         poke_float(fields, slice, values, count);
-        return;
+        return Ok(());
     }
     if word == words::DUMP {
-        answer_floats(values, count, held);
+        return answer_floats(rt, values, count, held);
     }
+    Ok(())
 }

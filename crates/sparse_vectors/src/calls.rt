@@ -2,6 +2,8 @@
 // refusal, or 0.
 use schedule::{Answer, Record};
 use sparse_field::Outcome;
+use std::io;
+use std::io::Print;
 
 // The number of a refusal, or 0.
 fn refusal_of(answer: Answer) -> u64 {
@@ -82,6 +84,7 @@ fn called(
 
 // Makes the call that a word names, on so much of each slice as the list lends, and answers it.
 pub fn call(
+    rt: &impl Print,
     word: u64,
     budget: u64,
     held: &mut [u64; 686],
@@ -90,7 +93,7 @@ pub fn call(
     places: &mut [u32],
     store: &mut [f64],
     corners: &mut [f64],
-) {
+) -> io::Result<()> {
     let k = sparse_cases::lent(held, 0, kinds.len());
     let n = sparse_cases::lent(held, 1, numbers.len());
     let p = sparse_cases::lent(held, 2, places.len());
@@ -106,5 +109,5 @@ pub fn call(
         &mut store[..s],
         &mut corners[..c],
     );
-    sparse_cases::answer_call(refusal, held);
+    sparse_cases::answer_call(rt, refusal, held)
 }
