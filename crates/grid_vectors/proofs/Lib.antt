@@ -1,1 +1,1 @@
-pub mod Accepted
+mod Accepted
