@@ -3,9 +3,9 @@
 // no array and no slice.
 ghost use Rattle.std.specs.Prelude.{◌≡◌};
 ghost use Rattle.schedule.specs.Calls.{opens, steps, drops};
-ghost use Rattle.schedule.specs.Lent.{entered, left};
+ghost use Rattle.schedule.specs.Lent.{memory_of};
 ghost use Rattle.field_host.specs.Given.{input_lent};
-ghost use Rattle.field_host.specs.Carried.{carried_in, carried_out};
+ghost use Rattle.field_host.specs.Carried.{carried_of};
 ghost use Rattle.field_host.specs.Hosted.{hosted};
 
 // Opens a job, in place of the one that the record has. The settings are the bounds' least end and
@@ -29,14 +29,14 @@ pub extern "C" fn jisampode_open(
     corners: &mut [f64],
 ) -> u32
     ensures answer { result
-        ≡ (hosted (opens (input_lent settings inner leaf parts reals count)) (carried_in record_words record_parts record_settings record_reals)
-        (entered kinds numbers places store corners)).number }
-    ensures carried { carried_out record_words record_parts record_settings record_reals
-        ≡ (hosted (opens (input_lent settings inner leaf parts reals count)) (carried_in record_words record_parts record_settings record_reals)
-        (entered kinds numbers places store corners)).carried }
-    ensures memory { left kinds numbers places store corners
-        ≡ (hosted (opens (input_lent settings inner leaf parts reals count)) (carried_in record_words record_parts record_settings record_reals)
-        (entered kinds numbers places store corners)).memory }
+        ≡ (hosted (opens (input_lent settings inner leaf parts reals count)) (carried_of record_words.old record_parts.old record_settings.old record_reals.old)
+        (memory_of kinds.old numbers.old places.old store.old corners.old)).number }
+    ensures carried { carried_of record_words.new record_parts.new record_settings.new record_reals.new
+        ≡ (hosted (opens (input_lent settings inner leaf parts reals count)) (carried_of record_words.old record_parts.old record_settings.old record_reals.old)
+        (memory_of kinds.old numbers.old places.old store.old corners.old)).carried }
+    ensures memory { memory_of kinds.new numbers.new places.new store.new corners.new
+        ≡ (hosted (opens (input_lent settings inner leaf parts reals count)) (carried_of record_words.old record_parts.old record_settings.old record_reals.old)
+        (memory_of kinds.old numbers.old places.old store.old corners.old)).memory }
 {
     field_host::jisampode_open(
         settings,
@@ -72,14 +72,14 @@ pub extern "C" fn jisampode_step(
     corners: &mut [f64],
 ) -> u32
     ensures answer { result
-        ≡ (hosted (steps budget) (carried_in record_words record_parts record_settings record_reals)
-        (entered kinds numbers places store corners)).number }
-    ensures carried { carried_out record_words record_parts record_settings record_reals
-        ≡ (hosted (steps budget) (carried_in record_words record_parts record_settings record_reals)
-        (entered kinds numbers places store corners)).carried }
-    ensures memory { left kinds numbers places store corners
-        ≡ (hosted (steps budget) (carried_in record_words record_parts record_settings record_reals)
-        (entered kinds numbers places store corners)).memory }
+        ≡ (hosted (steps budget) (carried_of record_words.old record_parts.old record_settings.old record_reals.old)
+        (memory_of kinds.old numbers.old places.old store.old corners.old)).number }
+    ensures carried { carried_of record_words.new record_parts.new record_settings.new record_reals.new
+        ≡ (hosted (steps budget) (carried_of record_words.old record_parts.old record_settings.old record_reals.old)
+        (memory_of kinds.old numbers.old places.old store.old corners.old)).carried }
+    ensures memory { memory_of kinds.new numbers.new places.new store.new corners.new
+        ≡ (hosted (steps budget) (carried_of record_words.old record_parts.old record_settings.old record_reals.old)
+        (memory_of kinds.old numbers.old places.old store.old corners.old)).memory }
 {
     field_host::jisampode_step(
         budget,
@@ -109,11 +109,11 @@ pub extern "C" fn jisampode_drop(
     corners: &mut [f64],
 ) -> u32
     ensures answer { result
-        ≡ (hosted drops (carried_in record_words record_parts record_settings record_reals) (entered kinds numbers places store corners)).number }
-    ensures carried { carried_out record_words record_parts record_settings record_reals
-        ≡ (hosted drops (carried_in record_words record_parts record_settings record_reals) (entered kinds numbers places store corners)).carried }
-    ensures memory { left kinds numbers places store corners
-        ≡ (hosted drops (carried_in record_words record_parts record_settings record_reals) (entered kinds numbers places store corners)).memory }
+        ≡ (hosted drops (carried_of record_words.old record_parts.old record_settings.old record_reals.old) (memory_of kinds.old numbers.old places.old store.old corners.old)).number }
+    ensures carried { carried_of record_words.new record_parts.new record_settings.new record_reals.new
+        ≡ (hosted drops (carried_of record_words.old record_parts.old record_settings.old record_reals.old) (memory_of kinds.old numbers.old places.old store.old corners.old)).carried }
+    ensures memory { memory_of kinds.new numbers.new places.new store.new corners.new
+        ≡ (hosted drops (carried_of record_words.old record_parts.old record_settings.old record_reals.old) (memory_of kinds.old numbers.old places.old store.old corners.old)).memory }
 {
     field_host::jisampode_drop(
         record_words,
