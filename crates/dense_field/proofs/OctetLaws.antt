@@ -1,5 +1,5 @@
 -- A cell's corners in a field: the places of its octet, and what the walk's step tells of its cursor.
-use Rattle.std.proofs.Common.{◌≡◌, ℕ, ◌+◌, ◌-◌, ◌*◌, ◌<◌, ◌≤◌, Bool, true, false, cond, not, ◌&&◌, ◌||◌, eqb, ltb, List, [], ◌∷◌, length, get_or, refl, ap, ◌∙◌, mul-le-mul_right, mul_assoc, arith, ltb-true}
+use Rattle.std.proofs.Common.{◌≡◌, ℕ, ◌+◌, ◌-◌, ◌*◌, ◌<◌, ◌≤◌, Bool, true, false, cond, not, ◌&&◌, ◌||◌, ltb, List, [], ◌∷◌, length, get_or, refl, ap, ◌∙◌, mul-le-mul_right, mul_assoc, arith, ltb-true}
 use borrow.Author.Tests.{not-false}
 use lib.Ieee.{Float, nan}
 use Rattle.lists.proofs.Tests.{or_left, or_right, and_left, and_right}

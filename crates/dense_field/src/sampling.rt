@@ -51,7 +51,7 @@ fn fill_stretch(
     ensures px { px.new ≡ filled at count (λ q. axis_point origin.x cell (first.i + (q - at))) px.old }
     ensures py { py.new ≡ filled at count (λ _. axis_point origin.y cell first.j) py.old }
     ensures pz { pz.new ≡ filled at count (λ _. axis_point origin.z cell first.k) pz.old }
-    ensures px_len { (length px.old ≡ 64) × (length py.old ≡ 64) × (length pz.old ≡ 64) }
+    ensures long { (length px.old ≡ 64) × (length py.old ≡ 64) × (length pz.old ≡ 64) }
 {
     fill_along(origin.x, cell, first.i, px, at, count);
     let y = axis_point(origin.y, cell, first.j);

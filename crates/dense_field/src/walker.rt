@@ -1,6 +1,5 @@
 // The octet walker: a field's values, its numbers of points and the cell that the walk stands at,
-// after `DenseCellValueIterator`. It holds a reference, so what is over it is proved by hand, and
-// leaves the work to `octet_step` and `after_walk`.
+// after `DenseCellValueIterator`. It leaves the work to `octet_step` and `after_walk`.
 ghost use Rattle.std.specs.Prelude.{◌≡◌};
 ghost use Rattle.geometry.specs.Values.{vec3i};
 ghost use Rattle.dense_field.specs.Cells.{octet_walk_of};

@@ -1,5 +1,5 @@
 -- Which numbers fit a form, and how many bytes a line of it has at most.
-use Rattle.std.specs.Prelude.{ℕ, ◌+◌, ◌-◌, ◌^◌, ◌≤◌, ◌<◌, ◌≡◌, List, [], ◌∷◌, ◌++◌, length, get_or}
+use Rattle.std.specs.Prelude.{ℕ, ◌+◌, ◌^◌, ◌≤◌, ◌<◌, ◌≡◌, List, [], ◌∷◌, ◌++◌, length, get_or}
 use Rattle.forms.specs.Forms.{Piece, hex, decimal, byte, after, spell, fields}
 
 -- a number that a piece can have

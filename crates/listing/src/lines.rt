@@ -70,8 +70,8 @@ pub fn put_child(
     at: usize,
     out: &mut [u8],
 ) -> usize
-    requires points_bound { (points ≤ 262144) × (placed points (length store.now) kind place ≡ true) }
-    requires store_in_bounds { at + length (kind_line points nan v c kind x place store.now) ≤ length out.old }
+    requires placed { (points ≤ 262144) × (placed points (length store.now) kind place ≡ true) }
+    requires fits { at + length (kind_line points nan v c kind x place store.now) ≤ length out.old }
     ensures answer { result ≡ at + length (kind_line points nan v c kind x place store.now) }
     ensures out { out.new ≡ sets out.old at (kind_line points nan v c kind x place store.now) }
 {

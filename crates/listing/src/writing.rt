@@ -61,8 +61,8 @@ fn put_lines(
     out: &mut [u8],
 ) -> usize
     requires sizes { Sizes total children points × (total ≤ length kinds.now) × (total ≤ length numbers.now) × (total ≤ length places.now) }
-    requires total_value { all_placed points (length store.now) kinds.now places.now total 0 ≡ true }
-    requires total_in_bounds { at + length (lines_from (line_at children points nan (memory_of kinds.now numbers.now places.now store.now [])) total 0) ≤ length
+    requires placed { all_placed points (length store.now) kinds.now places.now total 0 ≡ true }
+    requires fits { at + length (lines_from (line_at children points nan (memory_of kinds.now numbers.now places.now store.now [])) total 0) ≤ length
         out.old }
     ensures answer { result
         ≡ at + length
@@ -129,7 +129,7 @@ fn put_listing(
     out: &mut [u8],
 )
     requires laid { Laid sheet (listed_now kinds numbers places store) }
-    requires store_in_bounds { length (sheet_listing sheet (listed_now kinds numbers places store)) ≤ length out.old }
+    requires fits { length (sheet_listing sheet (listed_now kinds numbers places store)) ≤ length out.old }
     ensures { out.new ≡ put_bytes (sheet_listing sheet (listed_then kinds numbers places store)) out.old }
 {
     let done = done_numbers(sheet.counts);

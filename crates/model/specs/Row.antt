@@ -1,5 +1,5 @@
 -- Values of parts at a row of points: part p's value at lane k stands at p × 64 + k (rule M11).
-use Rattle.std.specs.Prelude.{ℕ, ◌-◌, ◌/◌, ◌%◌, cond, ◌&&◌, List, ltb, length, get_or, Float}
+use Rattle.std.specs.Prelude.{ℕ, ◌/◌, ◌%◌, cond, ◌&&◌, List, ltb, length, get_or, Float}
 use Rattle.lists.specs.Tabulate.{tabulate}
 use Rattle.lists.specs.Filled.{filled}
 use Rattle.model.specs.Part.{past}

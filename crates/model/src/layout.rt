@@ -114,8 +114,8 @@ pub fn store_part(part: Part, p: usize, words: &mut [u32; 192], numbers: &mut [f
 
 // Writes the entries of all 64 parts. Clearing the arrays first makes their lengths known to the proof.
 pub fn lay_parts(parts: [ModelComponent; 64], words: &mut [u32; 192], numbers: &mut [f64; 256])
-    ensures numbers_after { flat_of words.new numbers.new ≡ layout_of (map part_in parts) }
-    ensures parts_len { length parts ≡ 64 }
+    ensures laid { flat_of words.new numbers.new ≡ layout_of (map part_in parts) }
+    ensures long { length parts ≡ 64 }
 {
     *words = [0; 192];
     *numbers = [0.0; 256];
@@ -131,8 +131,8 @@ pub fn lay_parts(parts: [ModelComponent; 64], words: &mut [u32; 192], numbers: &
 // Lays a model's parts out in two arrays, whole: the codes, first inputs and second inputs of its 64 parts in one, their
 // numbers x, y, z and w in the other.
 pub fn lay_out(model: ImplicitModel, words: &mut [u32; 192], numbers: &mut [f64; 256])
-    ensures numbers_after { flat_of words.new numbers.new ≡ layout_of (map part_in model.parts) }
-    ensures parts_len { length model.parts ≡ 64 }
+    ensures laid { flat_of words.new numbers.new ≡ layout_of (map part_in model.parts) }
+    ensures long { length model.parts ≡ 64 }
 {
     let parts = model.parts;
     lay_parts(parts, words, numbers);

@@ -98,7 +98,7 @@ pub fn fill_values(
 )
     requires { (count ≤ 64) × (count ≤ length values.old) }
     ensures values { values.new ≡ values_to (parts_of (flat_in words numbers) count) x y z count ++ drop count values.old }
-    ensures count_in_bounds { count ≤ length values.old }
+    ensures fits { count ≤ length values.old }
 {
     let mut p: usize = 0;
     while p < count {

@@ -99,8 +99,8 @@ pub fn fill_parts(
 
 // The first n lanes of row p, into the front of `results`.
 pub fn copy_row(values: &[f64], p: usize, n: usize, results: &mut [f64])
-    requires n_in_bounds { lane_at p n ≤ length values.now }
-    requires n_in_bounds_2 { n ≤ length results.old }
+    requires source_long { lane_at p n ≤ length values.now }
+    requires results_long { n ≤ length results.old }
     ensures { results.new ≡ filled 0 n (λ k. get_or values.now (lane_at p k) past) results.old }
 {
     let row = p * 64;

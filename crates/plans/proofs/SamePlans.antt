@@ -2,7 +2,6 @@
 use mathlib.Core.Path.{◌≡◌, ap, ◌∙◌}
 use mathlib.Core.List.{map}
 use Prim.Native.Nat.{ℕ}
-use lib.Ieee.{Float}
 use Rattle.model.specs.Part.{part_in}
 use Rattle.model.specs.Model.{model_value}
 use Rattle.model.proofs.SameParts.{same_value}

@@ -1,6 +1,6 @@
 -- `counts::point_count` meets its contract: dimensions that are cut off right above the largest product are refused
 -- where the whole ones are, and are those where they pass.
-use Rattle.std.proofs.Common.{sym, ap, ◌∙◌, rules}
+use Rattle.std.proofs.Common.{sym, ap, ◌∙◌}
 use Rattle.geometry.specs.Causes.{first_of}
 use Rattle.geometry.specs.Values.{vec3i}
 use Rattle.geometry.specs.Index.{dimensions_refused}

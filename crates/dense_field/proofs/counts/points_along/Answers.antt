@@ -1,5 +1,5 @@
 -- `counts::points_along` meets its contract: one point more than the steps.
-use Rattle.std.proofs.Common.{ap, arith, rules}
+use Rattle.std.proofs.Common.{ap, arith}
 use lib.Ieee.{to_unsigned}
 use Rattle.dense_field.specs.Points.{points_along}
 use Rattle.dense_field.proofs.counts.points_along.Goals as goal

@@ -6,7 +6,7 @@ use Rattle.dense_field.proofs.counts.small_count.Goals as goal
 
 pub truncating_f64_to_u64-requires : goal.truncating_f64_to_u64-requires
 unfolding of_bits neg
-truncating_f64_to_u64-requires c = record { lower_bound = subst T (sym c.if-q-2.true) tt; upper_bound = below_most _ c.if-q.true; }
+truncating_f64_to_u64-requires c = record { lower_bound = subst T (sym c.if-q-2.true) tt; upper_bound = below_most _ c.if-q.true }
 
 pub returns-then-q-2 : goal.returns-then-q-2
 unfolding of_bits neg

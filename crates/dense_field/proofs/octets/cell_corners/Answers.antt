@@ -1,5 +1,5 @@
 -- `cell_corners` meets its contract: the corners where no cause applies.
-use Rattle.std.proofs.Common.{eqb, sym, ap, ◌∙◌, rules, eq-eqb, ne_eqb}
+use Rattle.std.proofs.Common.{eqb, sym, ap, ◌∙◌, eq-eqb, ne_eqb}
 use Rattle.dense_field.specs.Cells.{cell_corners_of, no_points}
 use Rattle.dense_field.proofs.octets.cell_corners.Goals as goal
 

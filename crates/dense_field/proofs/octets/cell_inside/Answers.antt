@@ -1,6 +1,6 @@
 -- `octets::cell_inside` meets its contract: an index that is not below its dimension has no point after it.
 use mathlib.Core.Bool.{and-false}
-use Rattle.std.proofs.Common.{◌+◌, ◌≤◌, arith, rules, le-ltb, lt-ltb}
+use Rattle.std.proofs.Common.{◌+◌, ◌≤◌, arith, le-ltb, lt-ltb}
 use Rattle.dense_field.specs.Octets.{cell_inside}
 use Rattle.dense_field.proofs.OctetLaws.{and_third}
 use Rattle.dense_field.proofs.octets.cell_inside.Goals as goal

@@ -1,5 +1,5 @@
 -- `cell_values` meets its contract: the octet where no cause applies.
-use Rattle.std.proofs.Common.{eqb, sym, ap, ◌∙◌, rules, eq-eqb, ne_eqb}
+use Rattle.std.proofs.Common.{eqb, sym, ap, ◌∙◌, eq-eqb, ne_eqb}
 use Rattle.dense_field.specs.Cells.{cell_values_of, no_values}
 use Rattle.dense_field.proofs.OctetLaws.{found}
 use Rattle.dense_field.proofs.octets.cell_values.Goals as goal

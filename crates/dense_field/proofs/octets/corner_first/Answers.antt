@@ -1,5 +1,5 @@
 -- `octets::corner_first` meets its contract.
-use Rattle.std.proofs.Common.{◌∙◌, rules}
+use Rattle.std.proofs.Common.{◌∙◌}
 use lib.Ieee.{binary64, add, mul}
 use Rattle.dense_field.specs.Octets.{corner_index}
 use Rattle.dense_field.proofs.octets.corner_first.Goals as goal

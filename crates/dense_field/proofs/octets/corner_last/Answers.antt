@@ -1,5 +1,5 @@
 -- `octets::corner_last` meets its contract: one is added to the index as a float.
-use Rattle.std.proofs.Common.{◌≡◌, refl, ◌∙◌, rules}
+use Rattle.std.proofs.Common.{◌≡◌, refl, ◌∙◌}
 use lib.Ieee.{binary64, add, mul, of_bits, of_int}
 use Rattle.geometry.specs.Axis.{as_float}
 use Rattle.dense_field.specs.Octets.{corner_index}

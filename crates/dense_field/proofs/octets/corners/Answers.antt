@@ -1,5 +1,5 @@
 -- `octets::corners` meets its contract: the six coordinates in octet order.
-use Rattle.std.proofs.Common.{[], ◌∷◌, ◌∙◌, rules}
+use Rattle.std.proofs.Common.{[], ◌∷◌, ◌∙◌}
 use Rattle.geometry.specs.Values.{vec3}
 use Rattle.geometry.specs.Octet.{octet_order}
 use Rattle.dense_field.specs.Octets.{corner_at, corners_of}

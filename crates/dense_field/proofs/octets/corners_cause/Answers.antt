@@ -1,5 +1,5 @@
 -- `octets::corners_cause` meets its contract: each test is the cause that it stands for.
-use Rattle.std.proofs.Common.{sym, ◌∙◌, rules}
+use Rattle.std.proofs.Common.{sym, ◌∙◌}
 use Rattle.geometry.specs.Causes.{first_of}
 use Rattle.dense_field.specs.Cells.{corners_cause}
 use Rattle.dense_field.proofs.octets.corners_cause.Goals as goal

@@ -1,5 +1,5 @@
 -- `octets::octet_cause` meets its contract.
-use Rattle.std.proofs.Common.{sym, ◌∙◌, rules}
+use Rattle.std.proofs.Common.{sym, ◌∙◌}
 use Rattle.geometry.specs.Causes.{first_of}
 use Rattle.dense_field.specs.Cells.{octet_cause}
 use Rattle.dense_field.proofs.octets.octet_cause.Goals as goal

@@ -1,5 +1,5 @@
 -- `octet_step` meets its contract: a cell comes with its octet, and any other step with zeros.
-use Rattle.std.proofs.Common.{◌≡◌, List, sym, refl, ap, ◌∙◌, arith, rules}
+use Rattle.std.proofs.Common.{◌≡◌, List, sym, refl, ap, ◌∙◌}
 use Rattle.dense_field.specs.Cells.{octet_walk_of, step_values, no_values}
 use Rattle.dense_field.specs.Octets.{octet_of}
 use Rattle.dense_field.proofs.OctetLaws.{stepped}

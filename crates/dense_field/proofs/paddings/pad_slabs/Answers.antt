@@ -1,5 +1,5 @@
 -- `paddings::pad_slabs` meets its contract: the slabs before k are padded.
-use Rattle.std.proofs.Common.{◌≡◌, ◌+◌, ◌-◌, ◌*◌, ◌≤◌, length, sym, ap, ◌∙◌, mul_comm, arith, rules}
+use Rattle.std.proofs.Common.{◌≡◌, ◌+◌, ◌*◌, length, sym, ap, ◌∙◌, mul_comm, arith, rules}
 use Rattle.lists.specs.Filled.{filled}
 use Rattle.lists.proofs.Filling.{filled_none, filled_length, filled_done}
 use Rattle.dense_field.specs.Padding.{padded_at}
@@ -17,7 +17,7 @@ loop-k-init c =
 pub pad_slab-requires : goal.pad_slab-requires
 pad_slab-requires c =
     let p = c.requires in
-    let long = c.loop-k.invariant.1 in record { lent = as_long p long; inside = omega arith; }
+    let long = c.loop-k.invariant.1 in record { lent = as_long p long; inside = omega arith }
 
 pub loop-k-preserved : goal.loop-k-preserved
 loop-k-preserved c =

@@ -1,10 +1,7 @@
 -- `paddings::pad_slabs` meets its contract: the slabs before k are padded.
-use Rattle.std.proofs.Common.{◌≡◌, ◌+◌, ◌-◌, ◌*◌, ◌≤◌, length, sym, ap, ◌∙◌, mul_comm, arith, rules}
+use Rattle.std.proofs.Common.{◌≡◌, ◌-◌, ◌*◌, ◌≤◌, length}
 use Rattle.lists.specs.Filled.{filled}
-use Rattle.lists.proofs.Filling.{filled_none, filled_length, filled_done}
 use Rattle.dense_field.specs.Padding.{padded_at}
-use Rattle.dense_field.proofs.Lending.{as_long}
-use Rattle.dense_field.proofs.PadLaws.{pad_more, pad_all}
 use Rattle.dense_field.proofs.paddings.pad_slabs.Given as goal
 
 abbrev pub invariant-loop-k : goal.invariant-loop-k

@@ -1,5 +1,5 @@
 -- `padding` meets its contract: a refusal changes nothing, and else the outside is set.
-use Rattle.std.proofs.Common.{sym, refl, ◌∙◌, rules}
+use Rattle.std.proofs.Common.{sym, refl, ◌∙◌}
 use Rattle.geometry.specs.Causes.{first_of}
 use Rattle.dense_field.specs.Outcomes.{outcome_of}
 use Rattle.dense_field.proofs.Lending.{lent}
@@ -8,7 +8,7 @@ use Rattle.dense_field.proofs.paddings.padding.Goals as goal
 pub returns-then-values_refused : goal.returns-then-values_refused
 unfolding first_of outcome_of
 returns-then-values_refused c =
-    let refused = sym c.values_refused.ensures ∙ c.if-values_refused.true in record { answer = rw refused refl; values = rw refused refl; }
+    let refused = sym c.values_refused.ensures ∙ c.if-values_refused.true in record { answer = rw refused refl; values = rw refused refl }
 
 pub pad_slabs-requires : goal.pad_slabs-requires
 pad_slabs-requires c = lent _ _ (sym c.values_refused.ensures ∙ c.if-values_refused.false)
@@ -16,4 +16,4 @@ pad_slabs-requires c = lent _ _ (sym c.values_refused.ensures ∙ c.if-values_re
 pub returns : goal.returns
 unfolding first_of outcome_of
 returns c =
-    let passed = sym c.values_refused.ensures ∙ c.if-values_refused.false in record { answer = rw passed refl; values = rw passed c.pad_slabs.ensures; }
+    let passed = sym c.values_refused.ensures ∙ c.if-values_refused.false in record { answer = rw passed refl; values = rw passed c.pad_slabs.ensures }

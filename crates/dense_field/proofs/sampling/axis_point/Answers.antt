@@ -1,5 +1,4 @@
 -- `sampling::axis_point` meets its contract.
-use Rattle.std.proofs.Common.{rules}
 use lib.Ieee.{binary64, add, mul}
 use Rattle.dense_field.proofs.sampling.axis_point.Goals as goal
 

@@ -1,8 +1,6 @@
 -- `sampling::fill_along` meets its contract: at each turn the first t places are set.
-use Rattle.std.proofs.Common.{◌≡◌, ℕ, ◌+◌, ◌-◌, ◌≤◌, length, sym, ap, ◌∙◌, arith, rules}
-use lib.Ieee.{Float}
+use Rattle.std.proofs.Common.{◌≡◌, ◌+◌, ◌-◌, ◌≤◌, length}
 use Rattle.lists.specs.Filled.{filled}
-use Rattle.lists.proofs.Filling.{filled_none, filled_length, filled_store_lem, filled_done}
 use Rattle.dense_field.specs.Inner.Runs.{axis_point}
 use Rattle.dense_field.proofs.sampling.fill_along.Given as goal
 

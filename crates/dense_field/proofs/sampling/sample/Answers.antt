@@ -1,5 +1,5 @@
 -- `sample` meets its contract: a refusal changes nothing, and else each value is the model's at its point.
-use Rattle.std.proofs.Common.{eqb, sym, refl, ap, ◌∙◌, rules, ne_eqb}
+use Rattle.std.proofs.Common.{eqb, sym, refl, ap, ◌∙◌, ne_eqb}
 use Rattle.dense_field.specs.Sampling.{sample_outcome}
 use Rattle.dense_field.specs.declared.Applied.TheVariants.{Refused}
 use Rattle.dense_field.proofs.Lending.{lent}
@@ -10,7 +10,7 @@ pub returns-then-cause-ne0 : goal.returns-then-cause-ne0
 unfolding sample_outcome
 returns-then-cause-ne0 c =
     let number = c.sample_cause-cause.ensures in
-    let some = ap (λ m. eqb m 0) (sym number) ∙ ne_eqb _ _ c.if-cause-ne0.true in record { answer = rw some (ap Refused number); values = rw some refl; }
+    let some = ap (λ m. eqb m 0) (sym number) ∙ ne_eqb _ _ c.if-cause-ne0.true in record { answer = rw some (ap Refused number); values = rw some refl }
 
 pub sample_places-requires : goal.sample_places-requires
 sample_places-requires c =
@@ -27,7 +27,10 @@ returns c =
     let a = s.args in
     let none = sym s.sample_cause-cause.ensures ∙ s.if-cause-ne0.false in
     let zero = ap (λ m. eqb m 0) none in
-    let in_order = (passed _ _ _ _ _ none).in_order in record { answer = rw zero refl; values = rw zero
+    let in_order = (passed _ _ _ _ _ none).in_order in record {
+      answer = rw zero refl;
+      values = rw zero
           (places.sample_places.ensures
-          ∙ flat_sampled a.model _ a.origin a.cell a.n in_order laid.lay_out.ensures.parts_len
-          laid.lay_out.ensures.numbers_after); }
+          ∙ flat_sampled a.model _ a.origin a.cell a.n in_order laid.lay_out.ensures.long
+          laid.lay_out.ensures.laid);
+    }

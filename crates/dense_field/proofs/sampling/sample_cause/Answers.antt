@@ -1,5 +1,5 @@
 -- `sampling::sample_cause` meets its contract: each test is the cause that it stands for.
-use Rattle.std.proofs.Common.{sym, ◌∙◌, rules}
+use Rattle.std.proofs.Common.{sym, ◌∙◌}
 use Rattle.geometry.specs.Causes.{first_of}
 use Rattle.dense_field.specs.Sampling.{sample_cause}
 use Rattle.dense_field.proofs.sampling.sample_cause.Goals as goal

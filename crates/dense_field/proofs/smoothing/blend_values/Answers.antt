@@ -1,10 +1,7 @@
 -- `smoothing::blend_values` meets its contract: at each turn the first i values are blended.
-use Rattle.std.proofs.Common.{◌≡◌, ◌+◌, ◌-◌, ◌≤◌, length, sym, ap, ◌∙◌, arith, rules}
+use Rattle.std.proofs.Common.{◌+◌, sym, ap, ◌∙◌, arith, rules}
 use lib.Ieee.{Float, binary64, sub}
-use Rattle.lists.specs.Filled.{filled}
 use Rattle.lists.proofs.Filling.{filled_none, filled_store_lem, filled_done}
-use Rattle.geometry.specs.Axis.{as_float}
-use Rattle.dense_field.specs.Inner.Offsets.{offset_blend}
 use Rattle.dense_field.proofs.SmoothingLaws.{one_as_float, blended_read}
 use Rattle.dense_field.proofs.smoothing.blend_values.Goals as goal
 

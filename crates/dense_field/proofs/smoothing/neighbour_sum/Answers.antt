@@ -1,5 +1,4 @@
 -- `smoothing::neighbour_sum` meets its contract: each neighbour stands in the slice.
-use Rattle.std.proofs.Common.{rules}
 use Rattle.dense_field.proofs.SmoothingLaws.{neighbours_read}
 use Rattle.dense_field.proofs.smoothing.neighbour_sum.Goals as goal
 

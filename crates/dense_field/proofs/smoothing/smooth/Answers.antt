@@ -7,7 +7,7 @@ use Rattle.dense_field.proofs.smoothing.smooth.Goals as goal
 
 pub returns-then-smooth_refused : goal.returns-then-smooth_refused
 returns-then-smooth_refused c =
-    let e = sym c.smooth_refused.ensures ∙ c.if-smooth_refused.true in record { answer = simp e; values = simp e; scratch = simp e; }
+    let e = sym c.smooth_refused.ensures ∙ c.if-smooth_refused.true in record { answer = simp e; values = simp e; scratch = simp e }
 
 pub slice_bounds-smooth_rounds-end : goal.slice_bounds-smooth_rounds-end
 slice_bounds-smooth_rounds-end c =
@@ -33,4 +33,4 @@ returns c =
     let e = sym w.smooth_refused.ensures ∙ w.if-smooth_refused.false in
     let part = called.new.scratch in
     let kept : length part ≡ length (take (length a.values.now) a.scratch.now) = search rules in
-    let long = length_front a.scratch.now part (length a.values.now) kept in record { answer = simp e; values = simp e called.ensures; scratch = simp e (c.zero_floats.ensures ∙ ap (λ (m : ℕ). replicate m plus_zero) long); }
+    let long = length_front a.scratch.now part (length a.values.now) kept in record { answer = simp e; values = simp e called.ensures; scratch = simp e (c.zero_floats.ensures ∙ ap (λ (m : ℕ). replicate m plus_zero) long) }

@@ -1,5 +1,5 @@
 -- `smoothing::smooth_once` meets its contract: at each turn the first k slabs are smoothed.
-use Rattle.std.proofs.Common.{◌≡◌, ℕ, ◌+◌, ◌-◌, ◌*◌, ◌≤◌, length, sym, ap, ◌∙◌, arith, rules}
+use Rattle.std.proofs.Common.{◌≡◌, ℕ, ◌+◌, ◌*◌, length, sym, ap, ◌∙◌, arith, rules}
 use Rattle.lists.specs.Filled.{filled}
 use Rattle.lists.proofs.Filling.{filled_none, filled_length, filled_done, filled_more}
 use Rattle.dense_field.specs.Smoothing.{smoothed_at}
@@ -14,7 +14,7 @@ loop-k-init c =
 
 pub smooth_slab-requires : goal.smooth_slab-requires
 smooth_slab-requires c =
-    let p = c.requires in record { lent = (p.0, c.loop-k.invariant.1 ∙ p.1); inside = omega arith; }
+    let p = c.requires in record { lent = (p.0, c.loop-k.invariant.1 ∙ p.1); inside = omega arith }
 
 pub loop-k-preserved : goal.loop-k-preserved
 loop-k-preserved c =

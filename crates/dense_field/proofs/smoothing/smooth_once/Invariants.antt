@@ -1,9 +1,7 @@
 -- `smoothing::smooth_once` meets its contract: at each turn the first k slabs are smoothed.
-use Rattle.std.proofs.Common.{◌≡◌, ℕ, ◌+◌, ◌-◌, ◌*◌, ◌≤◌, length, sym, ap, ◌∙◌, arith, rules}
+use Rattle.std.proofs.Common.{◌≡◌, ◌-◌, ◌*◌, ◌≤◌, length}
 use Rattle.lists.specs.Filled.{filled}
-use Rattle.lists.proofs.Filling.{filled_none, filled_length, filled_done, filled_more}
 use Rattle.dense_field.specs.Smoothing.{smoothed_at}
-use Rattle.dense_field.proofs.SmoothingLaws.{all_slabs}
 use Rattle.dense_field.proofs.smoothing.smooth_once.Given as goal
 
 abbrev pub invariant-loop-k : goal.invariant-loop-k

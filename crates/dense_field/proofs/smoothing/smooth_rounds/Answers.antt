@@ -1,8 +1,7 @@
 -- `smoothing::smooth_rounds` meets its contract: at each turn the rounds that are left, on the values so far, give the result.
-use Rattle.std.proofs.Common.{◌≡◌, ◌-◌, ◌≤◌, length, sym, refl, ap, ◌∙◌, arith, rules}
+use Rattle.std.proofs.Common.{length, sym, refl, ap, ◌∙◌, arith, rules}
 use Rattle.lists.proofs.Filling.{filled_copy}
 use Rattle.float.specs.Zero.{plus_zero}
-use Rattle.dense_field.specs.Smoothing.{smoothed}
 use Rattle.dense_field.proofs.Lending.{as_long}
 use Rattle.dense_field.proofs.SmoothingLaws.{once_length, no_rounds, rounds_done, round_more}
 use Rattle.dense_field.proofs.smoothing.smooth_rounds.Goals as goal

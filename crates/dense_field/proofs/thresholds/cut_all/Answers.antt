@@ -1,5 +1,5 @@
 -- `thresholds::cut_all` meets its contract: at each turn the values before i are cut, and the others are as they were.
-use Rattle.std.proofs.Common.{◌≡◌, ◌+◌, ◌-◌, ◌≤◌, List, length, get_or, set, sym, refl, ap, ◌∙◌, ap₂, add-one, arith, rules}
+use Rattle.std.proofs.Common.{◌≡◌, ◌+◌, List, length, get_or, set, sym, refl, ap, ◌∙◌, ap₂, add-one, arith, rules}
 use lib.Ieee.{Float, nan}
 use Rattle.dense_field.specs.Threshold.{cut}
 use Rattle.root.proofs.RowLaws.{map_first, map_first_none, map_first_length, map_first_next, map_first_set, map_first_all}

@@ -1,5 +1,5 @@
 -- `walks::cell_max` meets its contract: the three coordinates of a corner.
-use Rattle.std.proofs.Common.{◌∙◌, rules}
+use Rattle.std.proofs.Common.{◌∙◌}
 use Rattle.geometry.specs.Values.{vec3}
 use Rattle.dense_field.specs.Walks.{walk_cell}
 use Rattle.dense_field.proofs.walks.cell_max.Goals as goal

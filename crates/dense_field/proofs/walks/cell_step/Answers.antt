@@ -1,5 +1,5 @@
 -- `walks::cell_step` meets its contract: a cell by how the walk stands.
-use Rattle.std.proofs.Common.{sym, ◌∙◌, ap₂, arith, rules}
+use Rattle.std.proofs.Common.{sym, ◌∙◌, ap₂, arith}
 use Rattle.geometry.specs.Values.{box}
 use Rattle.dense_field.specs.Walks.{walk_cell}
 use Rattle.dense_field.specs.declared.CellStep.TheVariants.{Cell}

@@ -1,5 +1,5 @@
 -- `walks::point_step` meets its contract: a point by how the walk stands.
-use Rattle.std.proofs.Common.{sym, ◌∙◌, ap₂, arith, rules}
+use Rattle.std.proofs.Common.{sym, ◌∙◌, ap₂, arith}
 use Rattle.dense_field.specs.declared.PointStep.TheVariants.{Point}
 use Rattle.dense_field.proofs.WalkLaws.{walk_passed}
 use Rattle.dense_field.proofs.StandLaws.{point_by, stand_passed}

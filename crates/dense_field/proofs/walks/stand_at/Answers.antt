@@ -1,5 +1,5 @@
 -- `walks::stand_at` meets its contract: each test is the cause that it stands for.
-use Rattle.std.proofs.Common.{sym, ◌∙◌, rules, le-ltb, lt-ltb}
+use Rattle.std.proofs.Common.{sym, ◌∙◌, le-ltb, lt-ltb}
 use Rattle.geometry.specs.Causes.{first_of}
 use Rattle.dense_field.specs.Inner.Stands.{stand_of}
 use Rattle.dense_field.proofs.walks.stand_at.Goals as goal

@@ -1,5 +1,5 @@
 -- `walks::walk_point` meets its contract: the three coordinates of a point.
-use Rattle.std.proofs.Common.{◌∙◌, rules}
+use Rattle.std.proofs.Common.{◌∙◌}
 use Rattle.geometry.specs.Values.{vec3}
 use Rattle.dense_field.specs.Walks.{walk_point}
 use Rattle.dense_field.proofs.walks.walk_point.Goals as goal

@@ -1,5 +1,5 @@
 -- `walks::walk_refused` meets its contract: each test is its part of cause 11.
-use Rattle.std.proofs.Common.{sym, ◌∙◌, rules, le-ltb, lt-ltb}
+use Rattle.std.proofs.Common.{sym, ◌∙◌, le-ltb, lt-ltb}
 use Rattle.dense_field.specs.Walks.{walk_refused}
 use Rattle.dense_field.proofs.WalkLaws.{leb_not_ltb}
 use Rattle.dense_field.proofs.walks.walk_refused.Goals as goal

@@ -4,7 +4,6 @@ use mathlib.Core.Path.{◌≡◌, ap}
 use native.Mathlib.Omega.{arith}
 use Rattle.grid.specs.Blocks.{cube}
 use Rattle.engine.proofs.ChildLaws.{leaf_stopped, leaf_through}
-use borrow.Author.Rules.{rules}
 use Rattle.engine.proofs.children.leaf_from.Goals as goal
 
 pub fill_leaf-next-requires : goal.fill_leaf-next-requires
@@ -18,13 +17,19 @@ returns-then-next-cube_of c =
     let s = c in
     let a = s.args in
     let f = a.leaf in
-    let next = c.fill_leaf-next in record { answer = leaf_stopped f.leaves f.left f.node f.child f.point (cube a.l) next.result next.ensures.answer
-          (omega (arith, c.cube_of.ensures)); store = next.ensures.store; }
+    let next = c.fill_leaf-next in record {
+      answer = leaf_stopped f.leaves f.left f.node f.child f.point (cube a.l) next.result next.ensures.answer
+          (omega (arith, c.cube_of.ensures));
+      store = next.ensures.store;
+    }
 
 pub returns : goal.returns
 returns c =
     let s = c in
     let a = s.args in
     let f = a.leaf in
-    let next = c.fill_leaf-next in record { answer = leaf_through f.leaves f.left f.node f.child f.point (cube a.l) next.result next.ensures.answer
-          (omega (arith, c.cube_of.ensures)); store = next.ensures.store; }
+    let next = c.fill_leaf-next in record {
+      answer = leaf_through f.leaves f.left f.node f.child f.point (cube a.l) next.result next.ensures.answer
+          (omega (arith, c.cube_of.ensures));
+      store = next.ensures.store;
+    }

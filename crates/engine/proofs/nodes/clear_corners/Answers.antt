@@ -3,7 +3,6 @@ use mathlib.Core.Path.{sym}
 use lib.Seq.{length-take-le}
 use Rattle.float.specs.Zero.{plus_zero}
 use Rattle.engine.proofs.Stretch.{put_cleared}
-use borrow.Author.Rules.{rules}
 use Rattle.engine.proofs.nodes.clear_corners.Goals as goal
 
 pub slice_bounds-zero_floats-end-2 : goal.slice_bounds-zero_floats-end-2

@@ -1,7 +1,7 @@
 -- `nodes::run_from` meets its contract: from where the job stands now the same is left as from where it stood, each turn comes to a later node, and
 -- the corners that a clearing leaves out are +0.
 use Prim.Native.Nat.{suc, ◌+◌, ◌-◌, ◌≤◌, ◌<◌}
-use mathlib.Core.Path.{◌≡◌, refl, sym, ap, ◌∙◌}
+use mathlib.Core.Path.{◌≡◌, refl, sym, ◌∙◌}
 use native.Mathlib.Numerals.{add-one}
 use native.Mathlib.Omega.{arith}
 use lib.ListN.{length, get_or-eq_default}

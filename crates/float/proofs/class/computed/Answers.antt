@@ -1,5 +1,5 @@
 -- `computed` meets its contract: 0 / 0 is the NaN.
-use Rattle.std.proofs.Common.{sym, ◌∙◌, rules}
+use Rattle.std.proofs.Common.{sym, ◌∙◌}
 use Rattle.float.proofs.Nan.{only_nan, zero_by_zero}
 use Rattle.float.proofs.class.computed.Goals as goal
 

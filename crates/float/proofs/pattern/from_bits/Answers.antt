@@ -1,5 +1,5 @@
 -- `from_bits` meets its contract: the test passes at the NaN patterns alone.
-use Rattle.std.proofs.Common.{not, T, sym, ◌∙◌, subst, rules, le-ltb, lt-ltb}
+use Rattle.std.proofs.Common.{not, T, sym, ◌∙◌, subst, le-ltb, lt-ltb}
 use Rattle.float.proofs.Bits.{nan_test, nan_value}
 use Rattle.float.proofs.Nan.{zero_by_zero}
 use Rattle.float.proofs.pattern.from_bits.Goals as goal

@@ -1,5 +1,5 @@
 -- `to_bits` meets its contract.
-use Rattle.std.proofs.Common.{sym, ap, ◌∙◌, rules}
+use Rattle.std.proofs.Common.{sym, ap, ◌∙◌}
 use lib.Ieee.{binary64, to_bits}
 use Rattle.float.proofs.Bits.{nan_pattern}
 use Rattle.float.proofs.Nan.{only_nan, no_nan}

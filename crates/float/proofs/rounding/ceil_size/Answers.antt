@@ -1,5 +1,5 @@
 -- `ceil_size` meets its contract: one more than the whole part where that is below the size.
-use Rattle.std.proofs.Common.{true, false, ◌∙◌, arith, rules}
+use Rattle.std.proofs.Common.{true, false, ◌∙◌, arith}
 use Rattle.float.proofs.Whole.{in_range, whole_small, ceil_by_test}
 use Rattle.float.proofs.rounding.ceil_size.Goals as goal
 

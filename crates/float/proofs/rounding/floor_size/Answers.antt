@@ -1,5 +1,5 @@
 -- `floor_size` meets its contract: the whole part, as a float again.
-use Rattle.std.proofs.Common.{pos, ap, ◌∙◌, rules}
+use Rattle.std.proofs.Common.{pos, ap, ◌∙◌}
 use lib.Ieee.{binary64, of_int}
 use Rattle.float.proofs.Whole.{in_range, floor_size}
 use Rattle.float.proofs.rounding.floor_size.Goals as goal

@@ -2,8 +2,7 @@
 use mathlib.Core.Path.{refl}
 use Prim.Native.Nat.{◌-◌}
 use Rattle.forms.proofs.DigitLaws.{count_one}
-use Rattle.forms.proofs.Turns.{Counted, count_turn}
-use borrow.Author.Rules.{rules}
+use Rattle.forms.proofs.Turns.{count_turn}
 use native.Mathlib.Omega.{arith}
 use Rattle.forms.proofs.digits.decimal_count.Goals as goal
 

@@ -1,7 +1,6 @@
 -- `digit_byte` meets its contract.
 use mathlib.Core.Path.{sym}
 use Rattle.forms.proofs.DigitLaws.{byte_number, byte_letter}
-use borrow.Author.Rules.{rules}
 use Rattle.forms.proofs.digits.digit_byte.Goals as goal
 
 pub returns-then-d-lt10 : goal.returns-then-d-lt10

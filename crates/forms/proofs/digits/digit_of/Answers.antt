@@ -1,7 +1,6 @@
 -- `digit_of` meets its contract: one law for each range of bytes.
 use mathlib.Core.Path.{sym}
 use Rattle.forms.proofs.DigitLaws.{digit_below, digit_number, digit_between, digit_letter, digit_above}
-use borrow.Author.Rules.{rules}
 use native.Mathlib.Omega.{arith}
 use Rattle.forms.proofs.digits.digit_of.Goals as goal
 

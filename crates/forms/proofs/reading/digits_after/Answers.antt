@@ -1,11 +1,7 @@
 -- `digits_after` meets its contract. The invariant: what is left to read gives what the whole gives, and the number is not above the limit.
-use mathlib.Core.Path.{◌≡◌, sym, ◌∙◌}
-use Prim.Native.Nat.{◌-◌, ◌≤◌}
-use lib.ListN.{length, drop}
+use mathlib.Core.Path.{sym, ◌∙◌}
 use Rattle.forms.specs.Inner.Places.{Finds}
-use Rattle.forms.specs.Fronts.{decimal_after}
 use Rattle.forms.proofs.Turns.{after_turn, after_past, after_ends, after_all}
-use borrow.Author.Rules.{rules}
 use native.Mathlib.Omega.{arith}
 use Rattle.forms.proofs.reading.digits_after.Goals as goal
 

@@ -1,7 +1,6 @@
 -- `keep` meets its contract.
 use mathlib.Core.Path.{sym, ◌∙◌}
 use Rattle.forms.proofs.Pieces.{cond_true, cond_false}
-use borrow.Author.Rules.{rules}
 use native.Mathlib.Omega.{arith}
 use Rattle.forms.proofs.reading.keep.Goals as goal
 

@@ -1,7 +1,6 @@
 -- `next_field` meets its contract.
 use mathlib.Core.Path.{sym, ◌∙◌}
 use Rattle.forms.proofs.Pieces.{cond_true, cond_false}
-use borrow.Author.Rules.{rules}
 use Rattle.forms.proofs.reading.next_field.Goals as goal
 
 pub returns-then-is_field : goal.returns-then-is_field

@@ -1,7 +1,6 @@
 -- `read_byte` meets its contract.
 use Rattle.forms.specs.Inner.Places.{Finds}
 use Rattle.forms.proofs.Turns.{byte_here, byte_off, byte_ended}
-use borrow.Author.Rules.{rules}
 use native.Mathlib.Omega.{arith}
 use Rattle.forms.proofs.reading.read_byte.Goals as goal
 

@@ -2,7 +2,6 @@
 use Rattle.forms.specs.Inner.Places.{Finds}
 use Rattle.forms.proofs.AnswerLaws.{finds_same}
 use Rattle.forms.proofs.Turns.{front_ended, front_nought, front_none, front_large, front_first}
-use borrow.Author.Rules.{rules}
 use native.Mathlib.Omega.{arith}
 use Rattle.forms.proofs.reading.read_decimal.Goals as goal
 

@@ -1,11 +1,8 @@
 -- `read_form` meets its contract. The invariant: with the numbers kept so far, what is left to read gives what the whole gives.
 use mathlib.Core.Path.{refl}
-use Prim.Native.Nat.{◌-◌}
-use lib.ListN.{length}
 use Rattle.forms.specs.Inner.Places.{ReadsTo}
 use Rattle.forms.proofs.AnswerLaws.{finds_off, finds_number}
-use Rattle.forms.proofs.FormTurns.{Kept, kept_first, kept_room, kept_off, kept_turn, kept_done}
-use borrow.Author.Rules.{rules}
+use Rattle.forms.proofs.FormTurns.{kept_first, kept_room, kept_off, kept_turn, kept_done}
 use native.Mathlib.Omega.{arith}
 use Rattle.forms.proofs.reading.read_form.Goals as goal
 

@@ -1,12 +1,7 @@
 -- `read_form` meets its contract. The invariant: with the numbers kept so far, what is left to read gives what the whole gives.
-use mathlib.Core.Path.{refl}
 use Prim.Native.Nat.{◌-◌}
 use lib.ListN.{length}
-use Rattle.forms.specs.Inner.Places.{ReadsTo}
-use Rattle.forms.proofs.AnswerLaws.{finds_off, finds_number}
-use Rattle.forms.proofs.FormTurns.{Kept, kept_first, kept_room, kept_off, kept_turn, kept_done}
-use borrow.Author.Rules.{rules}
-use native.Mathlib.Omega.{arith}
+use Rattle.forms.proofs.FormTurns.{Kept}
 use Rattle.forms.proofs.reading.read_form.Given as goal
 
 abbrev pub invariant-loop-i : goal.invariant-loop-i

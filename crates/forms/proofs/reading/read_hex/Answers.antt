@@ -1,11 +1,8 @@
 -- `read_hex` meets its contract. The invariant: what is left to read gives what the whole gives, and the number has room for the digits left.
-use mathlib.Core.Path.{◌≡◌, sym, ◌∙◌}
-use Prim.Native.Nat.{◌+◌, ◌*◌, ◌^◌, ◌≤◌, ◌<◌}
-use lib.ListN.{length, drop}
+use mathlib.Core.Path.{sym, ◌∙◌}
+use Prim.Native.Nat.{◌<◌}
 use Rattle.forms.specs.Inner.Places.{Finds}
-use Rattle.forms.specs.Fronts.{hex_after}
 use Rattle.forms.proofs.Turns.{hex_ended, hex_turn, hex_stop, hex_done, room_one, room_turn}
-use borrow.Author.Rules.{rules}
 use native.Mathlib.Omega.{arith}
 use Rattle.forms.proofs.reading.read_hex.Goals as goal
 

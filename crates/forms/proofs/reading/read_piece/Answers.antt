@@ -1,7 +1,6 @@
 -- `read_piece` meets its contract: a piece is one of three.
 use Rattle.forms.proofs.AnswerLaws.{finds_same}
 use Rattle.forms.proofs.Pieces.{as_hex, as_decimal, as_byte}
-use borrow.Author.Rules.{rules}
 use Rattle.forms.proofs.reading.read_piece.Goals as goal
 
 pub returns-then-piece-eq72 : goal.returns-then-piece-eq72

@@ -1,13 +1,10 @@
 -- `form_length` meets its contract. The invariant: with the bytes that are left, the whole length.
-use mathlib.Core.Path.{◌≡◌, ap}
-use Prim.Native.Nat.{◌+◌, ◌*◌, ◌-◌, ◌≤◌}
+use mathlib.Core.Path.{ap}
 use native.Mathlib.Nat.{zero-add}
-use mathlib.Core.List.{map}
 use lib.ListN.{length, get_or}
-use Rattle.forms.specs.Forms.{piece_of, spell}
+use Rattle.forms.specs.Forms.{piece_of}
 use Rattle.forms.proofs.Pieces.{piece_widest}
-use Rattle.forms.proofs.FormTurns.{spell_from, length_turn, count_goes, spell_done}
-use borrow.Author.Rules.{rules}
+use Rattle.forms.proofs.FormTurns.{length_turn, count_goes, spell_done}
 use native.Mathlib.Omega.{arith}
 use Rattle.forms.proofs.writing.form_length.Goals as goal
 

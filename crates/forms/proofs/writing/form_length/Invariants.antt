@@ -1,14 +1,10 @@
 -- `form_length` meets its contract. The invariant: with the bytes that are left, the whole length.
-use mathlib.Core.Path.{◌≡◌, ap}
+use mathlib.Core.Path.{◌≡◌}
 use Prim.Native.Nat.{◌+◌, ◌*◌, ◌-◌, ◌≤◌}
-use native.Mathlib.Nat.{zero-add}
 use mathlib.Core.List.{map}
-use lib.ListN.{length, get_or}
+use lib.ListN.{length}
 use Rattle.forms.specs.Forms.{piece_of, spell}
-use Rattle.forms.proofs.Pieces.{piece_widest}
-use Rattle.forms.proofs.FormTurns.{spell_from, length_turn, count_goes, spell_done}
-use borrow.Author.Rules.{rules}
-use native.Mathlib.Omega.{arith}
+use Rattle.forms.proofs.FormTurns.{spell_from}
 use Rattle.forms.proofs.writing.form_length.Given as goal
 
 abbrev pub invariant-loop-i : goal.invariant-loop-i

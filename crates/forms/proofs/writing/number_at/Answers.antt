@@ -1,7 +1,6 @@
 -- `number_at` meets its contract.
 use mathlib.Core.Path.{sym}
 use lib.ListN.{get_or-eq_default}
-use borrow.Author.Rules.{rules}
 use Rattle.forms.proofs.writing.number_at.Goals as goal
 
 pub returns-else-count-numbers : goal.returns-else-count-numbers

@@ -1,7 +1,6 @@
 -- `piece_length` meets its contract: a piece is one of three.
 use mathlib.Core.Path.{sym, ◌∙◌}
 use Rattle.forms.proofs.Pieces.{hex_length, decimal_length, byte_length}
-use borrow.Author.Rules.{rules}
 use Rattle.forms.proofs.writing.piece_length.Goals as goal
 
 pub returns-then-piece-eq72 : goal.returns-then-piece-eq72

@@ -1,12 +1,8 @@
 -- `put_digits` meets its contract. The invariant: the digits that are left to put give what all digits give.
-use mathlib.Core.Path.{◌≡◌, refl, ◌∙◌}
-use Prim.Native.Nat.{◌≤◌}
+use mathlib.Core.Path.{refl, ◌∙◌}
 use native.Mathlib.Nat.{mod-lt}
-use lib.ListN.{length, length-set}
-use lib.Seq.{sets}
-use Rattle.forms.specs.Digits.{digits}
+use lib.ListN.{length-set}
 use Rattle.forms.proofs.Turns.{put_turn, put_done}
-use borrow.Author.Rules.{rules}
 use native.Mathlib.Omega.{arith}
 use Rattle.forms.proofs.writing.put_digits.Goals as goal
 

@@ -1,13 +1,9 @@
 -- `put_digits` meets its contract. The invariant: the digits that are left to put give what all digits give.
-use mathlib.Core.Path.{◌≡◌, refl, ◌∙◌}
+use mathlib.Core.Path.{◌≡◌}
 use Prim.Native.Nat.{◌≤◌}
-use native.Mathlib.Nat.{mod-lt}
-use lib.ListN.{length, length-set}
+use lib.ListN.{length}
 use lib.Seq.{sets}
 use Rattle.forms.specs.Digits.{digits}
-use Rattle.forms.proofs.Turns.{put_turn, put_done}
-use borrow.Author.Rules.{rules}
-use native.Mathlib.Omega.{arith}
 use Rattle.forms.proofs.writing.put_digits.Given as goal
 
 abbrev pub invariant-loop-left : goal.invariant-loop-left

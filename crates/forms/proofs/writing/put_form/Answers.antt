@@ -1,12 +1,7 @@
 -- `put_form` meets its contract. The invariant: the bytes that are left to put give what all bytes give.
-use mathlib.Core.Path.{◌≡◌, refl, ap, ◌∙◌}
-use Prim.Native.Nat.{◌+◌, ◌-◌, ◌≤◌}
-use mathlib.Core.List.{map}
+use mathlib.Core.Path.{refl, ap, ◌∙◌}
 use lib.ListN.{length}
-use lib.Seq.{sets}
-use Rattle.forms.specs.Forms.{piece_of, spell}
-use Rattle.forms.proofs.FormTurns.{spell_from, length_turn, piece_within, stores_turn, count_goes, spell_done}
-use borrow.Author.Rules.{rules}
+use Rattle.forms.proofs.FormTurns.{length_turn, piece_within, stores_turn, count_goes, spell_done}
 use native.Mathlib.Omega.{arith}
 use Rattle.forms.proofs.writing.put_form.Goals as goal
 
@@ -54,4 +49,4 @@ pub returns : goal.returns
 returns c =
     let a = c.args in
     let s = c.loop-i in
-    let done = spell_done a.form.now a.numbers.now s.i s.count s.invariant.4 c.loop-i-test.false in record { answer = omega (arith, s.invariant.1, ap length done); out = rw done at s.invariant.0; }
+    let done = spell_done a.form.now a.numbers.now s.i s.count s.invariant.4 c.loop-i-test.false in record { answer = omega (arith, s.invariant.1, ap length done); out = rw done at s.invariant.0 }

@@ -1,13 +1,11 @@
 -- `put_form` meets its contract. The invariant: the bytes that are left to put give what all bytes give.
-use mathlib.Core.Path.{◌≡◌, refl, ap, ◌∙◌}
+use mathlib.Core.Path.{◌≡◌}
 use Prim.Native.Nat.{◌+◌, ◌-◌, ◌≤◌}
 use mathlib.Core.List.{map}
 use lib.ListN.{length}
 use lib.Seq.{sets}
 use Rattle.forms.specs.Forms.{piece_of, spell}
-use Rattle.forms.proofs.FormTurns.{spell_from, length_turn, piece_within, stores_turn, count_goes, spell_done}
-use borrow.Author.Rules.{rules}
-use native.Mathlib.Omega.{arith}
+use Rattle.forms.proofs.FormTurns.{spell_from}
 use Rattle.forms.proofs.writing.put_form.Given as goal
 
 abbrev pub invariant-loop-i : goal.invariant-loop-i

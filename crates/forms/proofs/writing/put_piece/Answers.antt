@@ -4,7 +4,6 @@ use Prim.Native.Nat.{ℕ}
 use Rattle.forms.specs.Digits.{digits}
 use Rattle.forms.proofs.Pieces.{spell_hex, spell_decimal, spell_byte, hex_length, decimal_length, byte_length}
 use Rattle.forms.proofs.Stores.{sets_same}
-use borrow.Author.Rules.{rules}
 use native.Mathlib.Omega.{arith}
 use Rattle.forms.proofs.writing.put_piece.Goals as goal
 
@@ -14,7 +13,7 @@ put_hex-requires c = let a = c.args in omega (arith, hex_length a.piece a.x c.if
 pub returns-then-piece-eq72 : goal.returns-then-piece-eq72
 returns-then-piece-eq72 c =
     let a = c.args in
-    let is = c.if-piece-eq72.true in record { answer = omega (arith, hex_length a.piece a.x is); out = c.put_hex.ensures ∙ sets_same _ _ (spell_hex _ _ is); }
+    let is = c.if-piece-eq72.true in record { answer = omega (arith, hex_length a.piece a.x is); out = c.put_hex.ensures ∙ sets_same _ _ (spell_hex _ _ is) }
 
 pub put_digits-requires : goal.put_digits-requires
 put_digits-requires c =
@@ -38,11 +37,11 @@ pub returns-then-piece-eq68 : goal.returns-then-piece-eq68
 returns-then-piece-eq68 c =
     let a = c.args in
     let is = c.if-piece-eq68.true in
-    let count = c.decimal_count-count.ensures in record { answer = omega (arith, count, decimal_length a.piece a.x is); out = c.put_digits.ensures ∙ sets_same _ _ (spell_decimal _ _ is ∙ ap (λ (k : ℕ). digits 10 k a.x) (sym count)); }
+    let count = c.decimal_count-count.ensures in record { answer = omega (arith, count, decimal_length a.piece a.x is); out = c.put_digits.ensures ∙ sets_same _ _ (spell_decimal _ _ is ∙ ap (λ (k : ℕ). digits 10 k a.x) (sym count)) }
 
 pub bounds-out-at : goal.bounds-out-at
 bounds-out-at c = let a = c.args in omega (arith, byte_length a.piece a.x c.if-piece-eq72.false c.if-piece-eq68.false)
 
 pub returns : goal.returns
 returns c =
-    let a = c.args in record { answer = omega (arith, byte_length a.piece a.x c.if-piece-eq72.false c.if-piece-eq68.false); out = sets_same _ _ (spell_byte _ _ c.if-piece-eq72.false c.if-piece-eq68.false); }
+    let a = c.args in record { answer = omega (arith, byte_length a.piece a.x c.if-piece-eq72.false c.if-piece-eq68.false); out = sets_same _ _ (spell_byte _ _ c.if-piece-eq72.false c.if-piece-eq68.false) }

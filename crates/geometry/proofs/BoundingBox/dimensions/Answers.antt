@@ -1,5 +1,4 @@
 -- `BoundingBox::dimensions` meets its contract: each part is its computed difference.
-use borrow.Author.Rules.{rules}
 use Rattle.geometry.specs.Box.{dimensions_of}
 use Rattle.geometry.proofs.BoundingBox.dimensions.Goals as goal
 

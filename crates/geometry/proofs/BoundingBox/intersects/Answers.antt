@@ -26,13 +26,13 @@ unfolding intersects_of
 returns-then-self-other-5 c =
     let s = c.args in
     let f2 : c.if-self-other.value ≡ two s.self s.other =
-        elim c.if-self-other.branch [ then-self-other w ↦ and_then w.if-self-other.true w.value-is | else-self-other w ↦ and_else _ w.if-self-other.false w.value-is ] in
+    elim c.if-self-other.branch [ then-self-other w ↦ and_then w.if-self-other.true w.value-is | else-self-other w ↦ and_else _ w.if-self-other.false w.value-is ] in
     let f3 : c.if-self-other-2.value ≡ three s.self s.other =
-        rw (sym f2) (elim c.if-self-other-2.branch [ then-self-other-2 w ↦ and_then w.if-self-other-2.true w.value-is | else-self-other-2 w ↦ and_else _ w.if-self-other-2.false w.value-is ]) in
+    rw (sym f2) (elim c.if-self-other-2.branch [ then-self-other-2 w ↦ and_then w.if-self-other-2.true w.value-is | else-self-other-2 w ↦ and_else _ w.if-self-other-2.false w.value-is ]) in
     let f4 : c.if-self-other-3.value ≡ four s.self s.other =
-        rw (sym f3) (elim c.if-self-other-3.branch [ then-self-other-3 w ↦ and_then w.if-self-other-3.true w.value-is | else-self-other-3 w ↦ and_else _ w.if-self-other-3.false w.value-is ]) in
+    rw (sym f3) (elim c.if-self-other-3.branch [ then-self-other-3 w ↦ and_then w.if-self-other-3.true w.value-is | else-self-other-3 w ↦ and_else _ w.if-self-other-3.false w.value-is ]) in
     let f5 : c.if-self-other-4.value ≡ five s.self s.other =
-        rw (sym f4) (elim c.if-self-other-4.branch [ then-self-other-4 w ↦ and_then w.if-self-other-4.true w.value-is | else-self-other-4 w ↦ and_else _ w.if-self-other-4.false w.value-is ]) in
+    rw (sym f4) (elim c.if-self-other-4.branch [ then-self-other-4 w ↦ and_then w.if-self-other-4.true w.value-is | else-self-other-4 w ↦ and_else _ w.if-self-other-4.false w.value-is ]) in
     rw (sym f5) (and_then c.if-self-other-5.true refl)
 
 pub returns-else-self-other-5 : goal.returns-else-self-other-5
@@ -40,11 +40,11 @@ unfolding intersects_of
 returns-else-self-other-5 c =
     let s = c.args in
     let f2 : c.if-self-other.value ≡ two s.self s.other =
-        elim c.if-self-other.branch [ then-self-other w ↦ and_then w.if-self-other.true w.value-is | else-self-other w ↦ and_else _ w.if-self-other.false w.value-is ] in
+    elim c.if-self-other.branch [ then-self-other w ↦ and_then w.if-self-other.true w.value-is | else-self-other w ↦ and_else _ w.if-self-other.false w.value-is ] in
     let f3 : c.if-self-other-2.value ≡ three s.self s.other =
-        rw (sym f2) (elim c.if-self-other-2.branch [ then-self-other-2 w ↦ and_then w.if-self-other-2.true w.value-is | else-self-other-2 w ↦ and_else _ w.if-self-other-2.false w.value-is ]) in
+    rw (sym f2) (elim c.if-self-other-2.branch [ then-self-other-2 w ↦ and_then w.if-self-other-2.true w.value-is | else-self-other-2 w ↦ and_else _ w.if-self-other-2.false w.value-is ]) in
     let f4 : c.if-self-other-3.value ≡ four s.self s.other =
-        rw (sym f3) (elim c.if-self-other-3.branch [ then-self-other-3 w ↦ and_then w.if-self-other-3.true w.value-is | else-self-other-3 w ↦ and_else _ w.if-self-other-3.false w.value-is ]) in
+    rw (sym f3) (elim c.if-self-other-3.branch [ then-self-other-3 w ↦ and_then w.if-self-other-3.true w.value-is | else-self-other-3 w ↦ and_else _ w.if-self-other-3.false w.value-is ]) in
     let f5 : c.if-self-other-4.value ≡ five s.self s.other =
-        rw (sym f4) (elim c.if-self-other-4.branch [ then-self-other-4 w ↦ and_then w.if-self-other-4.true w.value-is | else-self-other-4 w ↦ and_else _ w.if-self-other-4.false w.value-is ]) in
+    rw (sym f4) (elim c.if-self-other-4.branch [ then-self-other-4 w ↦ and_then w.if-self-other-4.true w.value-is | else-self-other-4 w ↦ and_else _ w.if-self-other-4.false w.value-is ]) in
     rw (sym f5) (and_else _ c.if-self-other-5.false refl)

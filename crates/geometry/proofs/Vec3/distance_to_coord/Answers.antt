@@ -1,6 +1,5 @@
 -- `Vec3::distance_to_coord` meets its contract: the root of the square that it calls for.
 use mathlib.Core.Path.{◌∙◌, ap}
-use borrow.Author.Rules.{rules}
 use Rattle.geometry.specs.Distance.{distance_of}
 use Rattle.root.specs.Root.{square_root}
 use Rattle.geometry.proofs.Vec3.distance_to_coord.Goals as goal

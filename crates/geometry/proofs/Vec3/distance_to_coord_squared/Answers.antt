@@ -1,5 +1,4 @@
 -- `Vec3::distance_to_coord_squared` meets its contract: what it computes is the definition's own sum.
-use borrow.Author.Rules.{rules}
 use Rattle.geometry.specs.Distance.{square, distance_squared_of}
 use Rattle.geometry.proofs.Vec3.distance_to_coord_squared.Goals as goal
 

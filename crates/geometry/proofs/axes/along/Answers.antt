@@ -1,6 +1,5 @@
 -- `along` meets its contract.
 use mathlib.Core.Path.{ap, ap₂, ◌∙◌}
-use borrow.Author.Rules.{rules}
 use lib.Ieee.{binary64, add, mul}
 use Rattle.geometry.specs.Axis.{along}
 use Rattle.geometry.proofs.axes.along.Goals as goal

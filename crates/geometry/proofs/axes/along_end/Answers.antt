@@ -1,6 +1,5 @@
 -- `along_end` meets its contract.
 use mathlib.Core.Path.{ap₂, ◌∙◌}
-use borrow.Author.Rules.{rules}
 use lib.Ieee.{binary64, add}
 use Rattle.geometry.specs.Axis.{along_end}
 use Rattle.geometry.proofs.axes.along_end.Goals as goal

@@ -1,6 +1,5 @@
 -- `step_along` meets its contract.
 use mathlib.Core.Path.{ap, ◌∙◌}
-use borrow.Author.Rules.{rules}
 use lib.Ieee.{binary64, div}
 use Rattle.geometry.specs.Axis.{step_along}
 use Rattle.geometry.proofs.axes.step_along.Goals as goal

@@ -1,7 +1,6 @@
 -- `next_indices` meets its contract.
 use borrow.Author.Tests.{lt-ltb, le-ltb}
 use Rattle.geometry.specs.Index.{next_indices}
-use borrow.Author.Rules.{rules}
 use Rattle.geometry.proofs.places.next_indices.Goals as goal
 
 pub returns-then-at-nx : goal.returns-then-at-nx

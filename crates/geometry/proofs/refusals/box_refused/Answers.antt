@@ -1,6 +1,5 @@
 -- `box_refused` meets its contract.
 use mathlib.Core.Path.{sym, ◌∙◌}
-use borrow.Author.Rules.{rules}
 use Rattle.lists.proofs.Tests.{or_fifth}
 use Rattle.geometry.specs.Bounds.{box_refused}
 use Rattle.geometry.proofs.refusals.box_refused.Goals as goal

@@ -1,6 +1,5 @@
 -- `cell_refused` meets its contract.
 use mathlib.Core.Path.{sym, ◌∙◌}
-use borrow.Author.Rules.{rules}
 use Rattle.geometry.specs.Bounds.{cell_refused}
 use Rattle.geometry.proofs.refusals.cell_refused.Goals as goal
 

@@ -4,7 +4,6 @@ use mathlib.Core.Bool.{or-true}
 use Prim.Native.Nat.{◌*◌, ◌<◌}
 use native.Mathlib.Nat.{le-mul_of_pos_right}
 use native.Mathlib.Omega.{arith}
-use borrow.Author.Rules.{rules}
 use borrow.Author.Tests.{eq-eqb, ne_eqb}
 use Rattle.geometry.specs.Index.{dimensions_refused}
 use Rattle.geometry.proofs.Grid.{too_many, x_le, y_le, z_le, small_product}

@@ -1,6 +1,5 @@
 -- `point_refused` meets its contract.
 use mathlib.Core.Path.{sym, ◌∙◌}
-use borrow.Author.Rules.{rules}
 use Rattle.geometry.specs.Bounds.{point_refused}
 use Rattle.geometry.proofs.refusals.point_refused.Goals as goal
 

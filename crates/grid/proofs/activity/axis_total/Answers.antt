@@ -1,5 +1,5 @@
 -- `axis_total` meets its contract: the nodes passed so far are counted.
-use Rattle.std.proofs.Common.{◌≡◌, ◌-◌, ◌≤◌, refl, ap, ◌∙◌, arith, rules}
+use Rattle.std.proofs.Common.{◌≡◌, refl, ap, ◌∙◌, arith}
 use Rattle.lists.specs.Sums.{sum_from}
 use Rattle.grid.specs.Inner.Activity.{axis_total}
 use Rattle.grid.proofs.ActiveCounts.{axis_count_le, total_few, axis_total_more}

@@ -1,8 +1,6 @@
 -- `axis_total` meets its contract: the nodes passed so far are counted.
-use Rattle.std.proofs.Common.{◌≡◌, ◌-◌, ◌≤◌, refl, ap, ◌∙◌, arith, rules}
-use Rattle.lists.specs.Sums.{sum_from}
+use Rattle.std.proofs.Common.{◌≡◌, ◌-◌, ◌≤◌}
 use Rattle.grid.specs.Inner.Activity.{axis_total}
-use Rattle.grid.proofs.ActiveCounts.{axis_count_le, total_few, axis_total_more}
 use Rattle.grid.proofs.activity.axis_total.Given as goal
 
 abbrev pub invariant-loop-i : goal.invariant-loop-i

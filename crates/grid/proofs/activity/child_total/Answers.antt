@@ -1,5 +1,5 @@
 -- `child_total` meets its contract: the product fits.
-use Rattle.std.proofs.Common.{◌*◌, ◌≤◌, arith, rules}
+use Rattle.std.proofs.Common.{◌*◌, ◌≤◌, arith}
 use Rattle.grid.specs.Limits.{children_of}
 use Rattle.grid.proofs.BlockLaws.{cube_le}
 use Rattle.grid.proofs.LimitLaws.{inner_block, few_nodes, nodes_few, product_few}

@@ -1,5 +1,5 @@
 -- `grid_counts` meets its contract.
-use Rattle.std.proofs.Common.{arith, rules}
+use Rattle.std.proofs.Common.{arith}
 use Rattle.grid.proofs.LimitLaws.{few_nodes, nodes_few}
 use Rattle.grid.proofs.activity.grid_counts.Goals as goal
 

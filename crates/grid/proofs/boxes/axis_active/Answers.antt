@@ -1,6 +1,5 @@
 -- `axis_active` meets its contract: the second test is made only where the first holds.
 use Rattle.grid.proofs.Active.{axis_then, axis_else}
-use Rattle.std.proofs.Common.{rules}
 use Rattle.grid.proofs.boxes.axis_active.Goals as goal
 
 pub returns-then-least-along_end : goal.returns-then-least-along_end

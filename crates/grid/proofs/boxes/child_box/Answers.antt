@@ -1,6 +1,5 @@
 -- `child_box` meets its contract.
 use Rattle.grid.specs.Boxes.{child_box}
-use Rattle.std.proofs.Common.{rules}
 use Rattle.grid.proofs.boxes.child_box.Goals as goal
 
 pub returns : goal.returns

@@ -1,6 +1,5 @@
 -- `child_box_at` meets its contract: each end on each axis is its own call.
 use Rattle.grid.specs.Boxes.{child_box_at}
-use Rattle.std.proofs.Common.{rules}
 use Rattle.grid.proofs.boxes.child_box_at.Goals as goal
 
 pub returns : goal.returns

@@ -1,6 +1,5 @@
 -- `is_active` meets its contract.
 use Rattle.grid.specs.Boxes.{active}
-use Rattle.std.proofs.Common.{rules}
 use Rattle.grid.proofs.boxes.is_active.Goals as goal
 
 pub returns : goal.returns

@@ -1,5 +1,5 @@
 -- `node_box` meets its contract: the counts along x and y are at least 1.
-use Rattle.std.proofs.Common.{◌<◌, sym, subst, rules}
+use Rattle.std.proofs.Common.{◌<◌, sym, subst}
 use Rattle.grid.proofs.Counts.{i_above, j_above}
 use Rattle.grid.specs.Boxes.{node_box}
 use Rattle.grid.proofs.boxes.node_box.Goals as goal

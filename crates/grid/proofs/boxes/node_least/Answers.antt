@@ -1,6 +1,5 @@
 -- `node_least` meets its contract.
 use Rattle.grid.specs.Boxes.{node_least}
-use Rattle.std.proofs.Common.{rules}
 use Rattle.grid.proofs.boxes.node_least.Goals as goal
 
 pub returns : goal.returns

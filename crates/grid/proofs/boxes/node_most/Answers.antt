@@ -1,6 +1,5 @@
 -- `node_most` meets its contract.
 use Rattle.grid.specs.Boxes.{node_most}
-use Rattle.std.proofs.Common.{rules}
 use Rattle.grid.proofs.boxes.node_most.Goals as goal
 
 pub returns : goal.returns

@@ -1,5 +1,5 @@
 -- `cause_one` meets its contract.
-use Rattle.std.proofs.Common.{sym, ◌∙◌, rules}
+use Rattle.std.proofs.Common.{sym, ◌∙◌}
 use Rattle.grid.specs.Limits.{refused_by_one}
 use Rattle.grid.proofs.limits.cause_one.Goals as goal
 

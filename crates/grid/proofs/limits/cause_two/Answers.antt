@@ -1,5 +1,5 @@
 -- `cause_two` meets its contract.
-use Rattle.std.proofs.Common.{sym, ◌∙◌, rules}
+use Rattle.std.proofs.Common.{sym, ◌∙◌}
 use Rattle.grid.specs.Limits.{refused_by_two}
 use Rattle.grid.proofs.limits.cause_two.Goals as goal
 

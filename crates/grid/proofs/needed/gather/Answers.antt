@@ -1,6 +1,6 @@
 -- `gather` meets its contract: the places read so far that were marked stand in front.
-use Rattle.std.proofs.Common.{◌≡◌, ◌-◌, ◌≤◌, arith, rules}
-use Rattle.grid.proofs.GatherLaws.{Gathering, gathering_start, gathering_more, gathering_skip}
+use Rattle.std.proofs.Common.{◌≡◌, arith, rules}
+use Rattle.grid.proofs.GatherLaws.{gathering_start, gathering_more, gathering_skip}
 use Rattle.grid.proofs.needed.gather.Goals as goal
 use Rattle.grid.proofs.needed.gather.Goals.{then-list-corner-ne0, else-list-corner-ne0}
 
@@ -14,7 +14,7 @@ loop-corner-preserved c =
     let a = b.args in (
       omega arith,
       elim c.if-list-corner-ne0.branch [
-        then-list-corner-ne0 w ↦ gathering_more a.list.now l.corner l.count l.list l.invariant.1 (omega arith) w.if-list-corner-ne0.true w.list-is w.count-is
+        | then-list-corner-ne0 w ↦ gathering_more a.list.now l.corner l.count l.list l.invariant.1 (omega arith) w.if-list-corner-ne0.true w.list-is w.count-is
         | else-list-corner-ne0 w ↦ gathering_skip a.list.now l.corner l.count l.list l.invariant.1 w.if-list-corner-ne0.false w.list-is w.count-is
       ],
     )

@@ -1,6 +1,6 @@
 -- `gather` meets its contract: the places read so far that were marked stand in front.
-use Rattle.std.proofs.Common.{◌≡◌, ◌-◌, ◌≤◌, ⊎_elim, arith, rules}
-use Rattle.grid.proofs.GatherLaws.{Gathering, gathering_start, gathering_more, gathering_skip}
+use Rattle.std.proofs.Common.{◌-◌, ◌≤◌}
+use Rattle.grid.proofs.GatherLaws.{Gathering}
 use Rattle.grid.proofs.needed.gather.Given as goal
 
 abbrev pub invariant-loop-corner : goal.invariant-loop-corner

@@ -1,5 +1,5 @@
 -- `list_needed` meets its contract: the marks of all children, gathered.
-use Rattle.std.proofs.Common.{◌≡◌, ◌+◌, length, refl, ap, ◌∙◌, arith, rules}
+use Rattle.std.proofs.Common.{◌≡◌, ◌+◌, length, refl, ap, ◌∙◌, arith}
 use lib.ListN.{length-replicate}
 use Rattle.slices.proofs.Rest.{rest_lent}
 use Rattle.grid.specs.Blocks.{cube}

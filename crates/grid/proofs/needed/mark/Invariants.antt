@@ -1,5 +1,5 @@
 -- `mark` meets its contract: the rows passed so far are marked.
-use Rattle.std.proofs.Common.{◌≡◌, ℕ, ◌+◌, ◌-◌, ◌*◌, ◌≤◌, length, refl, ◌∙◌, subst, mul-le-mul, zero-mul, arith, rules}
+use Rattle.std.proofs.Common.{◌≡◌, ◌-◌, ◌*◌, ◌≤◌, length}
 use Rattle.grid.specs.Inner.CornerMarks.{Marks}
 use Rattle.grid.proofs.needed.mark.Given as goal
 

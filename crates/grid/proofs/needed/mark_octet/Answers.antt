@@ -1,5 +1,5 @@
 -- `mark_octet` meets its contract: its stores are those of `marked` at the eight corners.
-use Rattle.std.proofs.Common.{refl, arith, length-set, rules}
+use Rattle.std.proofs.Common.{refl, arith, length-set}
 use Rattle.grid.specs.Inner.CornerMarks.{marked, eight_from}
 use Rattle.grid.proofs.needed.mark_octet.Goals as goal
 

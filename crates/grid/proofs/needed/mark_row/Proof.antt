@@ -75,11 +75,11 @@ loop-i-preserved c =
     let more : l.i < a.n = omega arith in (
       omega arith,
       elim c.if-kinds-first-ne0.branch [
-        then-kinds-first-ne0 w ↦ ap length (w.list-is ∙ w.mark_octet.ensures) ∙ length_marked l.list _ ∙ l.invariant.1
+        | then-kinds-first-ne0 w ↦ ap length (w.list-is ∙ w.mark_octet.ensures) ∙ length_marked l.list _ ∙ l.invariant.1
         | else-kinds-first-ne0 w ↦ ap length w.list-is ∙ l.invariant.1
       ],
       elim c.if-kinds-first-ne0.branch [
-        then-kinds-first-ne0 w ↦ row_more a.n a.row l.i a.kinds.now l.list s.requires.0 s.requires.1 more l.invariant.2 w.if-kinds-first-ne0.true (w.list-is ∙ w.mark_octet.ensures)
+        | then-kinds-first-ne0 w ↦ row_more a.n a.row l.i a.kinds.now l.list s.requires.0 s.requires.1 more l.invariant.2 w.if-kinds-first-ne0.true (w.list-is ∙ w.mark_octet.ensures)
         | else-kinds-first-ne0 w ↦ row_skip a.n a.row l.i a.kinds.now l.list s.requires.0 s.requires.1 more l.invariant.2 w.if-kinds-first-ne0.false w.list-is
       ],
     )

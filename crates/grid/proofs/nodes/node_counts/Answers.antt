@@ -1,6 +1,5 @@
 -- `node_counts` meets its contract.
 use Rattle.grid.specs.Nodes.{node_counts}
-use Rattle.std.proofs.Common.{rules}
 use Rattle.grid.proofs.nodes.node_counts.Goals as goal
 
 pub returns : goal.returns

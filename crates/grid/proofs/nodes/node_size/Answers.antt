@@ -1,5 +1,5 @@
 -- `node_size` meets its contract: the product of two 32-bit numbers fits 64 bits.
-use Rattle.std.proofs.Common.{◌≤◌, mul-le-mul, arith, rules}
+use Rattle.std.proofs.Common.{◌≤◌, mul-le-mul, arith}
 use Rattle.grid.specs.Nodes.{node_size}
 use Rattle.grid.proofs.nodes.node_size.Goals as goal
 

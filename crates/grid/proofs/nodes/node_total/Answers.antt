@@ -1,5 +1,5 @@
 -- `node_total` meets its contract: the product of the counts fits, and so does its first part.
-use Rattle.std.proofs.Common.{◌*◌, ◌^◌, ◌<◌, sym, ap, subst, arith, rules}
+use Rattle.std.proofs.Common.{◌*◌, ◌^◌, ◌<◌, sym, ap, subst, arith}
 use Rattle.grid.proofs.Counts.{area_le}
 use Rattle.grid.specs.Nodes.{nodes_of}
 use Rattle.grid.proofs.nodes.node_total.Goals as goal

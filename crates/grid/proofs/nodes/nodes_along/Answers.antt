@@ -1,5 +1,5 @@
 -- `nodes_along` meets its contract: by the quotient's place among 1 and 2 ^ 64.
-use Rattle.std.proofs.Common.{max, T, sym, ap, ◌∙◌, subst, rules}
+use Rattle.std.proofs.Common.{max, T, sym, ap, ◌∙◌, subst}
 use lib.Ieee.{of_bits, to_unsigned}
 use Rattle.grid.specs.Nodes.{nodes_along}
 use Rattle.float.proofs.Unsigned.{max_above, max_below, past_all, above_minus}
@@ -7,7 +7,7 @@ use Rattle.grid.proofs.nodes.nodes_along.Goals as goal
 
 pub truncating_f64_to_u64-requires : goal.truncating_f64_to_u64-requires
 unfolding of_bits
-truncating_f64_to_u64-requires c = record { lower_bound = above_minus _ c.if-n.true; upper_bound = subst T (sym c.if-n-2.true) tt; }
+truncating_f64_to_u64-requires c = record { lower_bound = above_minus _ c.if-n.true; upper_bound = subst T (sym c.if-n-2.true) tt }
 
 pub returns-then-n-2 : goal.returns-then-n-2
 unfolding of_bits nodes_along

@@ -1,5 +1,4 @@
 -- `corner_along` meets its contract.
-use Rattle.std.proofs.Common.{rules}
 use Rattle.grid.proofs.points.corner_along.Goals as goal
 
 pub returns : goal.returns

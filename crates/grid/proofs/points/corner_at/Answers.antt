@@ -1,6 +1,5 @@
 -- `corner_at` meets its contract.
 use Rattle.grid.specs.Inner.Steps.{corner_at}
-use Rattle.std.proofs.Common.{rules}
 use Rattle.grid.proofs.points.corner_at.Goals as goal
 
 pub returns : goal.returns

@@ -1,7 +1,6 @@
 -- `corner_point` meets its contract.
 use Rattle.grid.specs.Corners.{corner_point}
 use Rattle.grid.specs.Inner.Steps.{corner_at}
-use Rattle.std.proofs.Common.{rules}
 use Rattle.grid.proofs.points.corner_point.Goals as goal
 
 pub returns : goal.returns

@@ -1,6 +1,5 @@
 -- `corner_points` meets its contract: the places passed hold their corners.
-use Rattle.std.proofs.Common.{◌≡◌, ℕ, ◌+◌, ◌-◌, ◌≤◌, length, get_or, sym, ap, ◌∙◌, arith, rules}
-use Rattle.lists.specs.Filled.{filled}
+use Rattle.std.proofs.Common.{◌≡◌, ℕ, ◌+◌, length, get_or, sym, ap, ◌∙◌, arith, rules}
 use Rattle.lists.proofs.Filling.{filled_none, front_store, filled_done, filled_same}
 use Rattle.geometry.specs.Index.{indices_of}
 use Rattle.grid.specs.Corners.{corner_point}
@@ -33,4 +32,4 @@ returns c =
     let a = c.args in
     let last : c.loop-q.q ≡ length a.list.now = omega arith in
     let same : (q : ℕ) → corner_at a.b.min c.corner_step-c.result (indices_of (get_or a.list.now q 0) (a.n + 1) (a.n + 1)) ≡ corner_point a.b a.n (get_or a.list.now q 0) =
-    λ q. corner_stepped a.b a.n (get_or a.list.now q 0) c.corner_step-c.ensures in record { xs = filled_done 0 _ _ inv.1 last ∙ filled_same 0 _ _ _ _ (λ q from below. ap (λ p. p.x) (same q)); ys = filled_done 0 _ _ inv.2 last ∙ filled_same 0 _ _ _ _ (λ q from below. ap (λ p. p.y) (same q)); zs = filled_done 0 _ _ inv.3 last ∙ filled_same 0 _ _ _ _ (λ q from below. ap (λ p. p.z) (same q)); }
+    λ q. corner_stepped a.b a.n (get_or a.list.now q 0) c.corner_step-c.ensures in record { xs = filled_done 0 _ _ inv.1 last ∙ filled_same 0 _ _ _ _ (λ q from below. ap (λ p. p.x) (same q)); ys = filled_done 0 _ _ inv.2 last ∙ filled_same 0 _ _ _ _ (λ q from below. ap (λ p. p.y) (same q)); zs = filled_done 0 _ _ inv.3 last ∙ filled_same 0 _ _ _ _ (λ q from below. ap (λ p. p.z) (same q)) }

@@ -1,11 +1,8 @@
 -- `corner_points` meets its contract: the places passed hold their corners.
-use Rattle.std.proofs.Common.{◌≡◌, ℕ, ◌+◌, ◌-◌, ◌≤◌, length, get_or, sym, ap, ◌∙◌, arith, rules}
+use Rattle.std.proofs.Common.{◌≡◌, ◌-◌, ◌≤◌, length, get_or}
 use Rattle.lists.specs.Filled.{filled}
-use Rattle.lists.proofs.Filling.{filled_none, front_store, filled_done, filled_same}
 use Rattle.geometry.specs.Index.{indices_of}
-use Rattle.grid.specs.Corners.{corner_point}
 use Rattle.grid.specs.Inner.Steps.{corner_at}
-use Rattle.grid.proofs.Stepped.{corner_stepped}
 use Rattle.grid.proofs.points.corner_points.Given as goal
 
 abbrev pub invariant-loop-q : goal.invariant-loop-q

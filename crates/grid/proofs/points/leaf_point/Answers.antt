@@ -1,5 +1,5 @@
 -- `leaf_point` meets its contract.
-use Rattle.std.proofs.Common.{ap, ◌∙◌, rules}
+use Rattle.std.proofs.Common.{ap, ◌∙◌}
 use Rattle.grid.proofs.Stepped.{leaf_stepped}
 use Rattle.grid.specs.Inner.Steps.{stepped_point}
 use Rattle.grid.proofs.points.leaf_point.Goals as goal

@@ -1,6 +1,5 @@
 -- `leaf_points` meets its contract: the places passed hold their points, and the indices are those of the next one.
-use Rattle.std.proofs.Common.{◌≡◌, ℕ, ◌+◌, ◌-◌, ◌<◌, ◌≤◌, sym, ap, ◌∙◌, subst, add-zero, add_assoc, arith, rules}
-use Rattle.lists.specs.Filled.{filled}
+use Rattle.std.proofs.Common.{◌≡◌, ℕ, ◌+◌, ◌<◌, sym, ap, ◌∙◌, subst, add-zero, add_assoc, arith, rules}
 use Rattle.lists.proofs.Filling.{filled_none, front_store, filled_done, filled_same}
 use Rattle.geometry.specs.Index.{indices_of, next_indices}
 use Rattle.geometry.proofs.Inverse.{column_below, line_below}
@@ -58,4 +57,4 @@ returns c =
     let last : c.loop-q.q ≡ a.count = omega arith in
     let steps = c.leaf_steps-steps in
     let same : (q : ℕ) → stepped_point a.b.min steps.result (indices_of (a.first + q) l l) ≡ leaf_point a.b l (a.first + q) =
-    λ q. leaf_stepped a.b l (a.first + q) steps.ensures in record { xs = filled_done 0 _ _ inv.2 last ∙ filled_same 0 _ _ _ _ (λ q from below. ap (λ p. p.x) (same q)); ys = filled_done 0 _ _ inv.3 last ∙ filled_same 0 _ _ _ _ (λ q from below. ap (λ p. p.y) (same q)); zs = filled_done 0 _ _ inv.4 last ∙ filled_same 0 _ _ _ _ (λ q from below. ap (λ p. p.z) (same q)); }
+    λ q. leaf_stepped a.b l (a.first + q) steps.ensures in record { xs = filled_done 0 _ _ inv.2 last ∙ filled_same 0 _ _ _ _ (λ q from below. ap (λ p. p.x) (same q)); ys = filled_done 0 _ _ inv.3 last ∙ filled_same 0 _ _ _ _ (λ q from below. ap (λ p. p.y) (same q)); zs = filled_done 0 _ _ inv.4 last ∙ filled_same 0 _ _ _ _ (λ q from below. ap (λ p. p.z) (same q)) }

@@ -1,14 +1,8 @@
 -- `leaf_points` meets its contract: the places passed hold their points, and the indices are those of the next one.
-use Rattle.std.proofs.Common.{◌≡◌, ℕ, ◌+◌, ◌-◌, ◌<◌, ◌≤◌, sym, ap, ◌∙◌, subst, add-zero, add_assoc, arith, rules}
+use Rattle.std.proofs.Common.{◌≡◌, ◌+◌, ◌-◌, ◌≤◌}
 use Rattle.lists.specs.Filled.{filled}
-use Rattle.lists.proofs.Filling.{filled_none, front_store, filled_done, filled_same}
-use Rattle.geometry.specs.Index.{indices_of, next_indices}
-use Rattle.geometry.proofs.Inverse.{column_below, line_below}
-use Rattle.geometry.proofs.Next.{next_of}
-use Rattle.grid.specs.Leaves.{leaf_point}
+use Rattle.geometry.specs.Index.{indices_of}
 use Rattle.grid.specs.Inner.Steps.{stepped_point}
-use Rattle.geometry.proofs.Division.{slab_le}
-use Rattle.grid.proofs.Stepped.{leaf_stepped}
 use Rattle.grid.proofs.points.leaf_points.Given as goal
 
 abbrev pub invariant-loop-q : goal.invariant-loop-q

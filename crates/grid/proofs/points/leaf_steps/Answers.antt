@@ -1,6 +1,5 @@
 -- `leaf_steps` meets its contract.
 use Rattle.grid.specs.Inner.Steps.{leaf_steps}
-use Rattle.std.proofs.Common.{rules}
 use Rattle.grid.proofs.points.leaf_steps.Goals as goal
 
 pub returns : goal.returns

@@ -1,5 +1,5 @@
 -- `octet` meets its contract: a child's indices are below n.
-use Rattle.std.proofs.Common.{sym, ap, ◌∙◌, subst, rules}
+use Rattle.std.proofs.Common.{sym, ap, ◌∙◌, subst}
 use Rattle.geometry.specs.Octet.{octet_places}
 use Rattle.grid.specs.Corners.{octet}
 use Rattle.grid.proofs.Octets.{Within, within}

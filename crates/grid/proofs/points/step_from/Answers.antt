@@ -1,5 +1,4 @@
 -- `step_from` meets its contract.
-use Rattle.std.proofs.Common.{rules}
 use Rattle.grid.proofs.points.step_from.Goals as goal
 
 pub returns : goal.returns

@@ -1,6 +1,5 @@
 -- `stepped_point` meets its contract.
 use Rattle.grid.specs.Inner.Steps.{stepped_point}
-use Rattle.std.proofs.Common.{rules}
 use Rattle.grid.proofs.points.stepped_point.Goals as goal
 
 pub returns : goal.returns

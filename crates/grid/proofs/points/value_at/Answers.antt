@@ -1,6 +1,5 @@
 -- `value_at` meets its contract: within the list it does not matter what stands past its end.
 use Rattle.lists.proofs.Lists.{get_d_any}
-use Rattle.std.proofs.Common.{rules}
 use Rattle.grid.proofs.points.value_at.Goals as goal
 
 pub returns : goal.returns

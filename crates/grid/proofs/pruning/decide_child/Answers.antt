@@ -1,6 +1,5 @@
 -- `decide_child` meets its contract: the rule's test is `is_pruned`'s.
 use Rattle.grid.specs.Pruning.{verdict_of}
-use Rattle.std.proofs.Common.{rules}
 use Rattle.grid.proofs.pruning.decide_child.Goals as goal
 
 pub returns-then-is_pruned : goal.returns-then-is_pruned

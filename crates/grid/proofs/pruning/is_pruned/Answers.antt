@@ -1,6 +1,5 @@
 -- `is_pruned` meets its contract: the second test is made only where the first fails.
 use Rattle.grid.proofs.Pruned.{pruned_below, pruned_above}
-use Rattle.std.proofs.Common.{rules}
 use Rattle.grid.proofs.pruning.is_pruned.Goals as goal
 
 pub returns-then-hi-h : goal.returns-then-hi-h

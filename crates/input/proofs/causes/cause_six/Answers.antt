@@ -1,6 +1,5 @@
 -- `cause_six` meets its contract.
 use mathlib.Core.Path.{ap, ◌∙◌}
-use borrow.Author.Rules.{rules}
 use Rattle.input.specs.Needed.{shorter}
 use Rattle.input.specs.Causes.{refused_by_six}
 use Rattle.input.proofs.causes.cause_six.Goals as goal

@@ -1,6 +1,5 @@
 -- `cause_three` meets its contract.
 use mathlib.Core.Path.{sym, ◌∙◌}
-use borrow.Author.Rules.{rules}
 use Rattle.input.specs.Causes.{refused_by_three}
 use Rattle.input.proofs.causes.cause_three.Goals as goal
 

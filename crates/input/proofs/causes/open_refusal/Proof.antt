@@ -1,5 +1,5 @@
 -- `open_refusal` meets its contract: test by test, the refusal is that of the causes that are left.
-use mathlib.Core.Path.{◌≡◌, refl, sym, ◌∙◌}
+use mathlib.Core.Path.{◌≡◌, sym, ◌∙◌}
 use mathlib.Core.Bool.{false}
 use Prim.Native.Nat.{ℕ}
 use lib.ListN.{drop}

@@ -3,7 +3,6 @@ use Prim.Native.Nat.{◌*◌, ◌≤◌}
 use native.Mathlib.Omega.{arith}
 use Rattle.grid.proofs.BlockLaws.{cube_le}
 use Rattle.grid.proofs.LimitLaws.{inner_block, leaf_block, few_children, active_few, store_few}
-use borrow.Author.Rules.{rules}
 use Rattle.input.proofs.needed.needed_lengths.Goals as goal
 
 pub child_total-children-requires : goal.child_total-children-requires

@@ -2,7 +2,6 @@
 use mathlib.Core.Path.{sym, ap, ◌∙◌}
 use Rattle.schedule.specs.Possible.{valid_cursor}
 use Rattle.plans.specs.Inner.GridPlan.{grid_plan}
-use borrow.Author.Rules.{rules}
 use Rattle.judging.proofs.cursors.cursor_right.Goals as goal
 
 pub corner_right-requires : goal.corner_right-requires

@@ -1,6 +1,5 @@
 -- `active_up_to` meets its contract: the nonzero kinds before a place are the active children.
-use mathlib.Core.Path.{◌≡◌, sym, ap, ◌∙◌}
-use mathlib.Core.Bool.{true}
+use mathlib.Core.Path.{sym, ap, ◌∙◌}
 use Prim.Native.Nat.{◌+◌, ◌*◌}
 use native.Mathlib.Omega.{arith}
 use lib.Seq.{length-take-le}

@@ -1,12 +1,10 @@
 -- `count_nonzero` meets its contract: the kinds passed so far are counted.
 use mathlib.Core.Path.{◌≡◌, refl, ap, ◌∙◌}
-use Prim.Native.Nat.{◌-◌, ◌≤◌}
 use native.Mathlib.Omega.{arith}
 use lib.ListN.{length, get_or}
 use Rattle.lists.specs.Sums.{sum_from, sum_below, bit}
 use Rattle.lists.specs.Flags.{nonzero}
 use Rattle.judging.proofs.Judgement.{count_more, count_skip}
-use borrow.Author.Rules.{rules}
 use Rattle.judging.proofs.leaves.count_nonzero.Goals as goal
 use Rattle.judging.proofs.leaves.count_nonzero.Goals.{then-kinds-i-ne0, else-kinds-i-ne0}
 
@@ -21,7 +19,7 @@ loop-i-preserved c =
       omega arith,
       elim c.if-kinds-i-ne0.branch [ then-kinds-i-ne0 w ↦ omega arith | else-kinds-i-ne0 w ↦ omega arith ],
       elim c.if-kinds-i-ne0.branch [
-        then-kinds-i-ne0 w ↦ count_more l b.loop-i.i b.loop-i.invariant.2 w.if-kinds-i-ne0.true w.count-is
+        | then-kinds-i-ne0 w ↦ count_more l b.loop-i.i b.loop-i.invariant.2 w.if-kinds-i-ne0.true w.count-is
         | else-kinds-i-ne0 w ↦ count_skip l b.loop-i.i b.loop-i.invariant.2 w.if-kinds-i-ne0.false w.count-is
       ],
     )

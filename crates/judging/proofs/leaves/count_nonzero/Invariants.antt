@@ -1,13 +1,9 @@
 -- `count_nonzero` meets its contract: the kinds passed so far are counted.
-use mathlib.Core.Path.{◌≡◌, refl, ap, ◌∙◌}
-use mathlib.Core.Logic.{⊎_elim}
+use mathlib.Core.Path.{◌≡◌}
 use Prim.Native.Nat.{◌-◌, ◌≤◌}
-use native.Mathlib.Omega.{arith}
 use lib.ListN.{length, get_or}
-use Rattle.lists.specs.Sums.{sum_from, sum_below, bit}
+use Rattle.lists.specs.Sums.{sum_below, bit}
 use Rattle.lists.specs.Flags.{nonzero}
-use Rattle.judging.proofs.Judgement.{count_more, count_skip}
-use borrow.Author.Rules.{rules}
 use Rattle.judging.proofs.leaves.count_nonzero.Given as goal
 
 abbrev pub invariant-loop-i : goal.invariant-loop-i

@@ -7,7 +7,6 @@ use Rattle.schedule.specs.Totals.{active_up_to}
 use Rattle.schedule.specs.Possible.{inside_child}
 use Rattle.plans.specs.Inner.GridPlan.{grid_plan}
 use Rattle.judging.proofs.Judgement.{leaves_many, leaves_none, leaves_right}
-use borrow.Author.Rules.{rules}
 use Rattle.judging.proofs.leaves.wrong_leaves.Goals as goal
 
 pub active_up_to-requires : goal.active_up_to-requires

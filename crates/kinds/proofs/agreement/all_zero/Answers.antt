@@ -1,9 +1,7 @@
 -- `all_zero` meets its contract: the kinds passed so far are 0.
-use mathlib.Core.Path.{◌≡◌, ap}
-use mathlib.Core.Bool.{true, false}
-use Prim.Native.Nat.{◌-◌, ◌≤◌}
-use lib.ListN.{length, take}
-use Rattle.lists.specs.Flags.{nonzero, agrees_from}
+use mathlib.Core.Path.{ap}
+use mathlib.Core.Bool.{false}
+use Rattle.lists.specs.Flags.{nonzero}
 use Rattle.lists.proofs.Flags.{agrees_none, agrees_one, differs_one, agrees_all, nonzero_true}
 use borrow.Author.Rules.{rules}
 use Rattle.kinds.proofs.agreement.all_zero.Goals as goal

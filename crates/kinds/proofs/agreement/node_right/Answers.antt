@@ -3,7 +3,6 @@ use mathlib.Core.Path.{sym, subst, ◌∙◌}
 use Prim.Native.Nat.{◌<◌}
 use Rattle.grid.proofs.Counts.{i_above, j_above}
 use Rattle.kinds.proofs.NodeKinds.{node_agrees}
-use borrow.Author.Rules.{rules}
 use Rattle.kinds.proofs.agreement.node_right.Goals as goal
 
 pub indices-at-requires : goal.indices-at-requires

@@ -1,9 +1,8 @@
 -- `row_right` meets its contract: the kinds passed so far are right.
-use mathlib.Core.Path.{◌≡◌, sym, ap, ◌∙◌}
-use mathlib.Core.Bool.{Bool, true, ◌&&◌}
-use Prim.Native.Nat.{◌-◌, ◌≤◌}
+use mathlib.Core.Path.{sym, ap, ◌∙◌}
+use mathlib.Core.Bool.{Bool, ◌&&◌}
 use native.Mathlib.Omega.{arith}
-use lib.ListN.{length, get_or, take}
+use lib.ListN.{get_or}
 use borrow.Author.Tests.{not-true, not-false}
 use Rattle.lists.specs.Flags.{agrees_from}
 use Rattle.kinds.specs.Inner.Tables.{table_test}

@@ -1,14 +1,10 @@
 -- `row_right` meets its contract: the kinds passed so far are right.
-use mathlib.Core.Path.{◌≡◌, sym, ap, ◌∙◌}
-use mathlib.Core.Bool.{Bool, true, ◌&&◌}
+use mathlib.Core.Path.{◌≡◌}
+use mathlib.Core.Bool.{true}
 use Prim.Native.Nat.{◌-◌, ◌≤◌}
-use native.Mathlib.Omega.{arith}
-use lib.ListN.{length, get_or, take}
-use borrow.Author.Tests.{not-true, not-false}
+use lib.ListN.{length, take}
 use Rattle.lists.specs.Flags.{agrees_from}
 use Rattle.kinds.specs.Inner.Tables.{table_test}
-use Rattle.lists.proofs.Flags.{agrees_none, agrees_one, differs_one, agrees_all, compared_same, compared_other}
-use borrow.Author.Rules.{rules}
 use Rattle.kinds.proofs.agreement.row_right.Given as goal
 
 abbrev pub invariant-loop-i : goal.invariant-loop-i

@@ -1,12 +1,11 @@
 -- `axis_table` meets its contract: the children tested so far are in the table.
-use mathlib.Core.Path.{◌≡◌, ◌∙◌}
+use mathlib.Core.Path.{◌∙◌}
 use mathlib.Core.Bool.{false}
-use Prim.Native.Nat.{ℕ, ◌-◌, ◌≤◌, ◌<◌}
+use Prim.Native.Nat.{◌<◌}
 use native.Mathlib.Omega.{arith}
-use lib.ListN.{length, get_or, length-set}
+use lib.ListN.{length, length-set}
 use lib.Seq.{get_or-set_same, get_or-set_other}
 use borrow.Author.Count.{below_none, below_more}
-use Rattle.grid.specs.Inner.Activity.{axis_active}
 use borrow.Author.Rules.{rules}
 use Rattle.kinds.proofs.tables.axis_table.Goals as goal
 

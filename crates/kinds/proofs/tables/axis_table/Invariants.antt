@@ -1,13 +1,9 @@
 -- `axis_table` meets its contract: the children tested so far are in the table.
-use mathlib.Core.Path.{◌≡◌, ◌∙◌}
+use mathlib.Core.Path.{◌≡◌}
 use mathlib.Core.Bool.{false}
 use Prim.Native.Nat.{ℕ, ◌-◌, ◌≤◌, ◌<◌}
-use native.Mathlib.Omega.{arith}
-use lib.ListN.{length, get_or, length-set}
-use lib.Seq.{get_or-set_same, get_or-set_other}
-use borrow.Author.Count.{below_none, below_more}
+use lib.ListN.{length, get_or}
 use Rattle.grid.specs.Inner.Activity.{axis_active}
-use borrow.Author.Rules.{rules}
 use Rattle.kinds.proofs.tables.axis_table.Given as goal
 
 abbrev pub invariant-loop-c : goal.invariant-loop-c

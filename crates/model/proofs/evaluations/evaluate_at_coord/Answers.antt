@@ -1,5 +1,4 @@
 -- `evaluate_at_coord` meets its contract: the laid out parts of a model that cause 4 passes have the model's value.
-use borrow.Author.Rules.{rules}
 use mathlib.Core.Path.{sym, ap, ◌∙◌}
 use Rattle.geometry.specs.Causes.{first_of}
 use Rattle.model.specs.Model.{evaluation_of}
@@ -20,4 +19,4 @@ returns c =
     simp passed
     (ap Value
     (c.evaluate_flat-value.ensures.answer
-    ∙ laid_value a.model passed _ a.x a.y a.z laid.parts_len laid.numbers_after))
+    ∙ laid_value a.model passed _ a.x a.y a.z laid.long laid.laid))

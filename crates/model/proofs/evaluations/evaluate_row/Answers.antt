@@ -1,5 +1,4 @@
 -- `evaluate_row` meets its contract: the rows are filled for counts of 64 at most.
-use borrow.Author.Rules.{rules}
 use mathlib.Core.Path.{◌∙◌}
 use Rattle.model.specs.Flat.{Flat, flat_of}
 use Rattle.model.specs.Row.{evaluated_rows}

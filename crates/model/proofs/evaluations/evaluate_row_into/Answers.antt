@@ -13,9 +13,12 @@ returns-then-parts-eq0 c =
     let l : Flat = flat_of a.words.now a.numbers.now in
     let parts = c.at_most_64-parts in
     let points = c.at_most_64-points in
-    let filled = c.fill_parts.ensures in record { values = filled ∙ (λ i. evaluated_rows l (parts.ensures i) (points.ensures i) a.px.now a.py.now a.pz.now a.values.now); results = row_of_none l parts.result points.result a.px.now a.py.now a.pz.now a.values.now a.results.now
+    let filled = c.fill_parts.ensures in record {
+      values = filled ∙ (λ i. evaluated_rows l (parts.ensures i) (points.ensures i) a.px.now a.py.now a.pz.now a.values.now);
+      results = row_of_none l parts.result points.result a.px.now a.py.now a.pz.now a.values.now a.results.now
           c.if-parts-eq0.true c.fill_floats.ensures
-          ∙ (λ i. model_row l (parts.ensures i) (points.ensures i) a.px.now a.py.now a.pz.now a.results.now); }
+          ∙ (λ i. model_row l (parts.ensures i) (points.ensures i) a.px.now a.py.now a.pz.now a.results.now);
+    }
 
 pub returns : goal.returns
 returns c =
@@ -23,6 +26,9 @@ returns c =
     let l : Flat = flat_of a.words.now a.numbers.now in
     let parts = c.at_most_64-parts in
     let points = c.at_most_64-points in
-    let filled = c.fill_parts.ensures in record { values = filled ∙ (λ i. evaluated_rows l (parts.ensures i) (points.ensures i) a.px.now a.py.now a.pz.now a.values.now); results = row_of_last l parts.result points.result a.px.now a.py.now a.pz.now a.values.now a.results.now
+    let filled = c.fill_parts.ensures in record {
+      values = filled ∙ (λ i. evaluated_rows l (parts.ensures i) (points.ensures i) a.px.now a.py.now a.pz.now a.values.now);
+      results = row_of_last l parts.result points.result a.px.now a.py.now a.pz.now a.values.now a.results.now
           (omega arith) (omega arith) filled (search rules) c.copy_row.ensures
-          ∙ (λ i. model_row l (parts.ensures i) (points.ensures i) a.px.now a.py.now a.pz.now a.results.now); }
+          ∙ (λ i. model_row l (parts.ensures i) (points.ensures i) a.px.now a.py.now a.pz.now a.results.now);
+    }

@@ -1,7 +1,5 @@
 -- `lanes::fill_add` meets its contract: the lanes passed so far hold the sum of two earlier rows.
-use borrow.Author.Rules.{rules}
 use mathlib.Core.Path.{◌≡◌, ap, ◌∙◌}
-use Prim.Native.Nat.{◌-◌, ◌≤◌}
 use Rattle.model.proofs.Rows.{no_lanes, pairs, pair_more}
 use lib.Ieee.{binary64, add}
 use native.Mathlib.Omega.{arith}

@@ -1,5 +1,4 @@
 -- `lanes::fill_constant` meets its contract: the row's lanes are a stretch of the values.
-use borrow.Author.Rules.{rules}
 use Rattle.model.specs.Inner.Lanes.{filled_row}
 use Rattle.model.proofs.lanes.fill_constant.Goals as goal
 

@@ -1,7 +1,5 @@
 -- `lanes::fill_max` meets its contract: the lanes passed so far hold the greater of two earlier rows.
-use borrow.Author.Rules.{rules}
 use mathlib.Core.Path.{◌≡◌, ap, ◌∙◌}
-use Prim.Native.Nat.{◌-◌, ◌≤◌}
 use Rattle.model.proofs.Rows.{no_lanes, pairs, pair_more}
 use Rattle.float.specs.Select.{max_of}
 use native.Mathlib.Omega.{arith}

@@ -1,10 +1,8 @@
 -- `lanes::fill_max` meets its contract: the lanes passed so far hold the greater of two earlier rows.
-use borrow.Author.Rules.{rules}
-use mathlib.Core.Path.{◌≡◌, ap, ◌∙◌}
+use mathlib.Core.Path.{◌≡◌}
 use Prim.Native.Nat.{◌-◌, ◌≤◌}
-use Rattle.model.proofs.Rows.{no_lanes, pairs, pair_more}
+use Rattle.model.proofs.Rows.{pairs}
 use Rattle.float.specs.Select.{max_of}
-use native.Mathlib.Omega.{arith}
 use Rattle.model.proofs.lanes.fill_max.Given as goal
 
 abbrev pub invariant-loop-i : goal.invariant-loop-i

@@ -1,7 +1,6 @@
 -- `lanes::fill_neg` meets its contract: the lanes passed so far hold an earlier row's, negated.
-use borrow.Author.Rules.{rules}
 use mathlib.Core.Path.{◌≡◌, ap, ◌∙◌}
-use Prim.Native.Nat.{ℕ, ◌-◌, ◌≤◌}
+use Prim.Native.Nat.{ℕ}
 use Rattle.model.specs.Inner.Lanes.{lane_at, filled_row}
 use lib.ListN.{get_or}
 use Rattle.model.specs.Part.{past}

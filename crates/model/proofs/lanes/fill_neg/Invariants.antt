@@ -1,13 +1,10 @@
 -- `lanes::fill_neg` meets its contract: the lanes passed so far hold an earlier row's, negated.
-use borrow.Author.Rules.{rules}
-use mathlib.Core.Path.{◌≡◌, ap, ◌∙◌}
-use Prim.Native.Nat.{ℕ, ◌-◌, ◌≤◌}
+use mathlib.Core.Path.{◌≡◌}
+use Prim.Native.Nat.{◌-◌, ◌≤◌}
 use Rattle.model.specs.Inner.Lanes.{lane_at, filled_row}
 use lib.ListN.{get_or}
 use Rattle.model.specs.Part.{past}
-use Rattle.model.proofs.Rows.{no_lanes, lane_more, read_row}
 use lib.Ieee.{neg}
-use native.Mathlib.Omega.{arith}
 use Rattle.model.proofs.lanes.fill_neg.Given as goal
 
 abbrev pub invariant-loop-i : goal.invariant-loop-i

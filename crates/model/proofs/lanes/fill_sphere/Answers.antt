@@ -1,5 +1,4 @@
 -- `lanes::fill_sphere` meets its contract: the squares, their roots, and the roots less the radius, one after the other.
-use borrow.Author.Rules.{rules}
 use Prim.Native.Nat.{ℕ}
 use lib.ListN.{get_or}
 use lib.Ieee.{Float, binary64, sub}

@@ -1,7 +1,5 @@
 -- `lanes::fill_sub` meets its contract: the lanes passed so far hold the difference of two earlier rows.
-use borrow.Author.Rules.{rules}
 use mathlib.Core.Path.{◌≡◌, ap, ◌∙◌}
-use Prim.Native.Nat.{◌-◌, ◌≤◌}
 use Rattle.model.proofs.Rows.{no_lanes, pairs, pair_more}
 use lib.Ieee.{binary64, sub}
 use native.Mathlib.Omega.{arith}

@@ -1,10 +1,8 @@
 -- `lanes::fill_sub` meets its contract: the lanes passed so far hold the difference of two earlier rows.
-use borrow.Author.Rules.{rules}
-use mathlib.Core.Path.{◌≡◌, ap, ◌∙◌}
+use mathlib.Core.Path.{◌≡◌}
 use Prim.Native.Nat.{◌-◌, ◌≤◌}
-use Rattle.model.proofs.Rows.{no_lanes, pairs, pair_more}
+use Rattle.model.proofs.Rows.{pairs}
 use lib.Ieee.{binary64, sub}
-use native.Mathlib.Omega.{arith}
 use Rattle.model.proofs.lanes.fill_sub.Given as goal
 
 abbrev pub invariant-loop-i : goal.invariant-loop-i

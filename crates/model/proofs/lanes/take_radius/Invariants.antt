@@ -1,13 +1,10 @@
 -- `lanes::take_radius` meets its contract: the lanes passed so far have lost the radius.
-use borrow.Author.Rules.{rules}
-use mathlib.Core.Path.{◌≡◌, ap, ◌∙◌}
-use Prim.Native.Nat.{ℕ, ◌-◌, ◌≤◌}
+use mathlib.Core.Path.{◌≡◌}
+use Prim.Native.Nat.{◌-◌, ◌≤◌}
 use Rattle.model.specs.Inner.Lanes.{lane_at, filled_row}
 use lib.ListN.{get_or}
 use Rattle.model.specs.Part.{past}
-use Rattle.model.proofs.Rows.{no_lanes, lane_more, read_own}
-use lib.Ieee.{Float, binary64, sub}
-use native.Mathlib.Omega.{arith}
+use lib.Ieee.{binary64, sub}
 use Rattle.model.proofs.lanes.take_radius.Given as goal
 
 abbrev pub invariant-loop-i : goal.invariant-loop-i

@@ -1,5 +1,4 @@
 -- `lanes::take_roots` meets its contract: the part that is lent holds the row's lanes.
-use borrow.Author.Rules.{rules}
 use Rattle.root.specs.Root.{square_root}
 use Rattle.model.proofs.Middle.{lent_row}
 use Rattle.model.proofs.lanes.take_roots.Goals as goal

@@ -1,5 +1,4 @@
 -- `layout::entries` meets its contract: each case has its part's entries.
-use borrow.Author.Rules.{rules}
 use mathlib.Core.Path.{◌≡◌, sym, subst}
 use Prim.Native.Nat.{ℕ}
 use lib.Ieee.{Float}

@@ -1,5 +1,4 @@
 -- `layout::entry_at` meets its contract: it reads the entries that the part at a place is made from.
-use borrow.Author.Rules.{rules}
 use mathlib.Core.Path.{refl}
 use Rattle.model.specs.Flat.{part_at}
 use Rattle.model.proofs.layout.entry_at.Goals as goal

@@ -2,7 +2,7 @@
 use borrow.Author.Rules.{rules}
 use mathlib.Core.Path.{◌≡◌, sym, ap, ◌∙◌}
 use mathlib.Core.List.{map}
-use Prim.Native.Nat.{ℕ, ◌+◌, ◌-◌, ◌≤◌, ◌<◌}
+use Prim.Native.Nat.{ℕ, ◌+◌, ◌≤◌, ◌<◌}
 use lib.ListN.{length, replicate, length-replicate}
 use native.Mathlib.Omega.{arith}
 use Rattle.lists.proofs.Lists.{get_or_map_in}
@@ -39,4 +39,4 @@ returns c =
     let words = c.loop-p.invariant.1 ∙ ap (λ (p : ℕ). laid parts word_entries 0 p (replicate 192 0)) last
     ∙ laid_all parts word_entries 0 (replicate 192 0) (length-replicate {A = ℕ} 192 0) in
     let numbers = c.loop-p.invariant.2 ∙ ap (λ (p : ℕ). laid parts number_entries 0 p (replicate 256 plus_zero)) last
-    ∙ laid_all parts number_entries 0 (replicate 256 plus_zero) (length-replicate 256 plus_zero) in record { numbers_after = λ i. flat_of (words i) (numbers i); parts_len = long; }
+    ∙ laid_all parts number_entries 0 (replicate 256 plus_zero) (length-replicate 256 plus_zero) in record { laid = λ i. flat_of (words i) (numbers i); long = long }

@@ -1,15 +1,12 @@
 -- `layout::lay_parts` meets its contract: the places passed so far hold their parts' entries.
-use borrow.Author.Rules.{rules}
-use mathlib.Core.Path.{◌≡◌, sym, ap, ◌∙◌}
+use mathlib.Core.Path.{◌≡◌}
 use mathlib.Core.List.{map}
-use Prim.Native.Nat.{ℕ, ◌+◌, ◌-◌, ◌≤◌, ◌<◌}
-use lib.ListN.{length, replicate, length-replicate}
-use native.Mathlib.Omega.{arith}
-use Rattle.lists.proofs.Lists.{get_or_map_in}
+use Prim.Native.Nat.{◌-◌, ◌≤◌}
+use lib.ListN.{replicate}
 use Rattle.float.specs.Zero.{plus_zero}
 use Rattle.model.specs.Part.{part_in}
-use Rattle.model.specs.Flat.{flat_of, word_entries, number_entries}
-use Rattle.model.proofs.EntryRows.{laid, laid_none, laid_all, words_more, numbers_more}
+use Rattle.model.specs.Flat.{word_entries, number_entries}
+use Rattle.model.proofs.EntryRows.{laid}
 use Rattle.model.proofs.layout.lay_parts.Given as goal
 
 abbrev pub invariant-loop-p : goal.invariant-loop-p

@@ -1,5 +1,4 @@
 -- `point::entry_value` meets its contract: each return is the value of the code that its tests found.
-use borrow.Author.Rules.{rules}
 use mathlib.Core.Path.{sym, ◌∙◌}
 use Rattle.model.proofs.ByCode.{of_constant, of_sphere, of_plane, of_min, of_max, of_add, of_sub, of_neg, first_late, second_late, of_other, beyond}
 use native.Mathlib.Omega.{arith}

@@ -1,5 +1,4 @@
 -- `point::part_value` meets its contract: it hands the part's entries on.
-use borrow.Author.Rules.{rules}
 use mathlib.Core.Path.{ap, ◌∙◌}
 use Rattle.model.specs.Part.{part_value}
 use Rattle.model.proofs.point.part_value.Goals as goal

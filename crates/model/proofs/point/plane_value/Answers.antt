@@ -1,5 +1,4 @@
 -- `point::plane_value` meets its contract: what it computes is the definition's own sum.
-use borrow.Author.Rules.{rules}
 use Rattle.model.specs.Part.{plane_value}
 use Rattle.model.proofs.point.plane_value.Goals as goal
 

@@ -1,5 +1,4 @@
 -- `point::sphere_value` meets its contract.
-use borrow.Author.Rules.{rules}
 use mathlib.Core.Path.{ap, ◌∙◌}
 use lib.Ieee.{Float, binary64, sub}
 use Rattle.geometry.specs.Distance.{distance_of}

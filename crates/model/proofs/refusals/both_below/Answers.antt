@@ -1,5 +1,4 @@
 -- `both_below` meets its contract: the second test counts where the first holds.
-use borrow.Author.Rules.{rules}
 use mathlib.Core.Path.{sym, ◌∙◌}
 use Rattle.model.proofs.refusals.both_below.Goals as goal
 

@@ -1,7 +1,6 @@
 -- `cause_four` meets its contract: each test is one of the three that cause 4 has.
 use mathlib.Core.Path.{ap}
 use mathlib.Core.Bool.{not, or-true}
-use borrow.Author.Rules.{rules}
 use borrow.Author.Tests.{eq-eqb, ne_eqb, lt-ltb, le-ltb}
 use Rattle.model.specs.Model.{refused_by_four}
 use Rattle.model.proofs.refusals.cause_four.Goals as goal

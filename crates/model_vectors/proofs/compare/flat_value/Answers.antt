@@ -4,4 +4,4 @@ use Rattle.model_vectors.proofs.Laid.{at_point}
 use Rattle.model_vectors.proofs.compare.flat_value.Goals as goal
 
 pub returns : goal.returns
-returns c = c.evaluate_flat.ensures.answer ∙ at_point c.args.model _ c.lay_out.ensures.numbers_after _ _ _
+returns c = c.evaluate_flat.ensures.answer ∙ at_point c.args.model _ c.lay_out.ensures.laid _ _ _

@@ -7,4 +7,4 @@ use Rattle.model_vectors.proofs.compare.row_value.Goals as goal
 pub returns : goal.returns
 returns c =
     ap (λ (row : List Float). get_or row 3 _) c.evaluate_row_into.ensures.results
-    ∙ in_row c.args.model _ c.lay_out.ensures.numbers_after _ _ _ _ _ _ _ _ (search rules) c.around-px.ensures c.around-py.ensures c.around-pz.ensures
+    ∙ in_row c.args.model _ c.lay_out.ensures.laid _ _ _ _ _ _ _ _ (search rules) c.around-px.ensures c.around-py.ensures c.around-pz.ensures

@@ -1,7 +1,6 @@
 -- `digits` meets its contract: where the trial has objections the number is searched for.
 use native.Mathlib.Omega.{arith}
 use Rattle.root.proofs.LowDigits.{low_top}
-use borrow.Author.Rules.{rules}
 use Rattle.root.proofs.bits.digits.Goals as goal
 
 pub returns-then-t-eq0 : goal.returns-then-t-eq0

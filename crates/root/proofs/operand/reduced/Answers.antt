@@ -4,4 +4,4 @@ use borrow.Author.Rules.{rules}
 use Rattle.root.proofs.operand.reduced.Goals as goal
 
 pub returns : goal.returns
-returns c = record { range = search rules; digits = same_top _; }
+returns c = record { range = search rules; digits = same_top _ }

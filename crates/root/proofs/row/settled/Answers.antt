@@ -1,6 +1,5 @@
 -- `settled` meets its contract: a trial below 2 ^ 63 is the root's bits.
 use Rattle.root.proofs.Patterns.{number_bits}
-use borrow.Author.Rules.{rules}
 use Rattle.root.proofs.row.settled.Goals as goal
 
 pub float_from_bits-result : goal.float_from_bits-result

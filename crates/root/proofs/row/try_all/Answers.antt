@@ -1,6 +1,6 @@
 -- `try_all` meets its contract: the elements so far have been tried.
 use mathlib.Core.Path.{◌≡◌, subst}
-use Prim.Native.Nat.{ℕ, ◌≤◌, ◌-◌}
+use Prim.Native.Nat.{ℕ}
 use native.Mathlib.Omega.{arith}
 use lib.ListN.{length}
 use Rattle.root.specs.Inner.Trials.{AllTried}

@@ -1,11 +1,8 @@
 -- `try_all` meets its contract: the elements so far have been tried.
-use mathlib.Core.Path.{◌≡◌, subst}
-use Prim.Native.Nat.{ℕ, ◌≤◌, ◌-◌}
-use native.Mathlib.Omega.{arith}
+use mathlib.Core.Path.{◌≡◌}
+use Prim.Native.Nat.{◌≤◌, ◌-◌}
 use lib.ListN.{length}
 use Rattle.root.specs.Inner.Trials.{AllTried}
-use Rattle.root.proofs.RowLaws.{tried_none, tried_next}
-use borrow.Author.Rules.{rules}
 use Rattle.root.proofs.row.try_all.Given as goal
 
 abbrev pub invariant-loop-i : goal.invariant-loop-i

@@ -1,7 +1,6 @@
 -- `estimate` meets its contract: both patterns are a number's.
 use native.Mathlib.Omega.{arith}
 use Rattle.root.proofs.Patterns.{number_bits}
-use borrow.Author.Rules.{rules}
 use Rattle.root.proofs.seed.estimate.Goals as goal
 
 pub float_from_bits-a : goal.float_from_bits-a

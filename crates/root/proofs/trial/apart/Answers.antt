@@ -1,9 +1,7 @@
 -- `apart` meets its contract: where both float comparisons hold the exact square is near.
-use mathlib.Core.Logic.{⊎_elim}
 use native.Mathlib.Omega.{arith}
 use Rattle.root.proofs.Patterns.{number_bits}
 use Rattle.root.proofs.SquareNear.{square_near}
-use borrow.Author.Rules.{rules}
 use Rattle.root.proofs.trial.apart.Goals as goal
 use Rattle.root.proofs.trial.apart.Goals.{then-low-square, else-low-square, then-square-high, else-square-high}
 
@@ -18,20 +16,20 @@ float_from_bits-high c = number_bits _ (omega arith)
 
 pub overflow_add-result : goal.overflow_add-result
 overflow_add-result c = elim c.if-low-square.branch [
-    then-low-square v ↦ elim c.if-square-high.branch [ then-square-high w ↦ omega (arith, v.below-is, w.above-is) | else-square-high w ↦ omega (arith, v.below-is, w.above-is) ]
-    | else-low-square v ↦ elim c.if-square-high.branch [ then-square-high w ↦ omega (arith, v.below-is, w.above-is) | else-square-high w ↦ omega (arith, v.below-is, w.above-is) ]
-  ]
+  | then-low-square v ↦ elim c.if-square-high.branch [ then-square-high w ↦ omega (arith, v.below-is, w.above-is) | else-square-high w ↦ omega (arith, v.below-is, w.above-is) ]
+  | else-low-square v ↦ elim c.if-square-high.branch [ then-square-high w ↦ omega (arith, v.below-is, w.above-is) | else-square-high w ↦ omega (arith, v.below-is, w.above-is) ]
+]
 
 pub returns : goal.returns
 returns c =
     let p = c.requires in
     elim c.if-low-square.branch [
-      then-low-square v ↦ elim c.if-square-high.branch [
-        then-square-high w ↦ (omega (arith, v.below-is, w.above-is), λ z. square_near _ p.0 _ p.1 p.2 v.if-low-square.true w.if-square-high.true)
+      | then-low-square v ↦ elim c.if-square-high.branch [
+        | then-square-high w ↦ (omega (arith, v.below-is, w.above-is), λ z. square_near _ p.0 _ p.1 p.2 v.if-low-square.true w.if-square-high.true)
         | else-square-high w ↦ (omega (arith, v.below-is, w.above-is), λ z. absurd (omega (arith, v.below-is, w.above-is)))
       ]
       | else-low-square v ↦ elim c.if-square-high.branch [
-        then-square-high w ↦ (omega (arith, v.below-is, w.above-is), λ z. absurd (omega (arith, v.below-is, w.above-is)))
+        | then-square-high w ↦ (omega (arith, v.below-is, w.above-is), λ z. absurd (omega (arith, v.below-is, w.above-is)))
         | else-square-high w ↦ (omega (arith, v.below-is, w.above-is), λ z. absurd (omega (arith, v.below-is, w.above-is)))
       ]
     ]

@@ -1,7 +1,6 @@
 -- `low_square` meets its contract: what is left out is a multiple of 2 ^ 61.
 use native.Mathlib.Omega.{arith}
 use Rattle.root.proofs.LowDigits.{low_square, products}
-use borrow.Author.Rules.{rules}
 use Rattle.root.proofs.trial.low_square.Goals as goal
 
 pub overflow_mul-result : goal.overflow_mul-result

@@ -4,7 +4,6 @@ use Prim.Native.Nat.{ℕ, ◌*◌, ◌^◌}
 use native.Mathlib.Omega.{arith}
 use Rattle.root.specs.Nearest.{nearest_root}
 use Rattle.root.proofs.TrialLaws.{tried_bits}
-use borrow.Author.Rules.{rules}
 use Rattle.root.proofs.trial.try_root.Goals as goal
 
 pub returns : goal.returns

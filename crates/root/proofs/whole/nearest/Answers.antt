@@ -1,6 +1,5 @@
 -- `nearest` meets its contract: the nearest number is q or above it, and below `past`.
 use mathlib.Core.Path.{sym, ◌∙◌}
-use Prim.Native.Nat.{◌+◌, ◌-◌, ◌*◌, ◌^◌, ◌≤◌, ◌<◌}
 use native.Mathlib.Omega.{arith}
 use borrow.Author.Tests.{ltb-true, ltb-false}
 use Rattle.root.proofs.NearestLaws.{nearest_is, reached}

@@ -1,6 +1,5 @@
 -- `reaches` meets its contract: the quotients compare as the whole numbers do.
 use Rattle.root.proofs.WholeLaws.{reach_test}
-use borrow.Author.Rules.{rules}
 use Rattle.root.proofs.whole.reaches.Goals as goal
 
 pub returns : goal.returns

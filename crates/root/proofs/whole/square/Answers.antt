@@ -1,6 +1,5 @@
 -- `square` meets its contract: the three products put together are the square, and they are small.
 use native.Mathlib.Omega.{arith}
-use borrow.Author.Rules.{rules}
 use Rattle.root.proofs.WholeLaws.{square_split, products}
 use Rattle.root.proofs.whole.square.Goals as goal
 

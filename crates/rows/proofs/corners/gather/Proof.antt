@@ -127,7 +127,7 @@ loop-corner-preserved c =
     ∙ ap (λ v. next_indices v side side) l.invariant.3
     ∙ next_of side side (omega arith) (omega arith) l.corner in
     elim c.if-has_child.branch [
-      then-has_child+else-count-most w ↦ (
+      | then-has_child+else-count-most w ↦ (
         omega (arith, below h.before.before.before),
         omega (arith, w.count-is),
         ap length w.list-is ∙ length-set l.list l.count l.corner ∙ l.invariant.2,

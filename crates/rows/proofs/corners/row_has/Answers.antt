@@ -6,7 +6,6 @@ use native.Mathlib.Omega.{arith}
 use Rattle.grid.specs.CornerList.{nonzero_at}
 use Rattle.grid.proofs.MarkLaws.{is_nonzero, is_zero}
 use Rattle.rows.proofs.AroundLaws.{either_before, either_here, either_none}
-use borrow.Author.Rules.{rules}
 use Rattle.rows.proofs.corners.row_has.Goals as goal
 use Rattle.rows.proofs.corners.row_has.Goals.{then-i-gt0+else-kinds-first-ne0, else-i-gt0}
 

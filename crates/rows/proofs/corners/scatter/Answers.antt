@@ -1,6 +1,5 @@
 -- `scatter` meets its contract: the values passed stand at their places.
 use mathlib.Core.Path.{◌≡◌, ap, ◌∙◌}
-use Prim.Native.Nat.{◌-◌, ◌≤◌}
 use native.Mathlib.Omega.{arith}
 use lib.ListN.{length}
 use Rattle.rows.specs.Inner.Written.{scattered}

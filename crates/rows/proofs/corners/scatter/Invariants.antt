@@ -1,11 +1,8 @@
 -- `scatter` meets its contract: the values passed stand at their places.
-use mathlib.Core.Path.{◌≡◌, ap, ◌∙◌}
+use mathlib.Core.Path.{◌≡◌}
 use Prim.Native.Nat.{◌-◌, ◌≤◌}
-use native.Mathlib.Omega.{arith}
 use lib.ListN.{length}
 use Rattle.rows.specs.Inner.Written.{scattered}
-use Rattle.rows.proofs.Writing.{scattered_none, scattered_next, scattered_length}
-use borrow.Author.Rules.{rules}
 use Rattle.rows.proofs.corners.scatter.Given as goal
 
 abbrev pub invariant-loop-q : goal.invariant-loop-q

@@ -1,10 +1,9 @@
 -- `axis_points` meets its contract: the places passed hold where their points stand.
 use mathlib.Core.Path.{◌≡◌, sym, ap, ◌∙◌}
-use Prim.Native.Nat.{◌+◌, ◌-◌, ◌≤◌}
+use Prim.Native.Nat.{◌+◌, ◌-◌}
 use native.Mathlib.Omega.{arith}
 use lib.Ieee.{binary64, add, mul}
 use Rattle.geometry.specs.Axis.{step_along, along}
-use Rattle.lists.specs.Filled.{filled}
 use Rattle.lists.proofs.Filling.{filled_none, filled_store_lem, filled_done}
 use borrow.Author.Rules.{rules}
 use Rattle.rows.proofs.points.axis_points.Goals as goal

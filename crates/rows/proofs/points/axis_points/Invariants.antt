@@ -1,12 +1,8 @@
 -- `axis_points` meets its contract: the places passed hold where their points stand.
-use mathlib.Core.Path.{◌≡◌, sym, ap, ◌∙◌}
-use Prim.Native.Nat.{◌+◌, ◌-◌, ◌≤◌}
-use native.Mathlib.Omega.{arith}
-use lib.Ieee.{binary64, add, mul}
-use Rattle.geometry.specs.Axis.{step_along, along}
+use mathlib.Core.Path.{◌≡◌}
+use Prim.Native.Nat.{◌-◌, ◌≤◌}
+use Rattle.geometry.specs.Axis.{along}
 use Rattle.lists.specs.Filled.{filled}
-use Rattle.lists.proofs.Filling.{filled_none, filled_store_lem, filled_done}
-use borrow.Author.Rules.{rules}
 use Rattle.rows.proofs.points.axis_points.Given as goal
 
 abbrev pub invariant-loop-i : goal.invariant-loop-i

@@ -1,9 +1,8 @@
 -- `copy_row` meets its contract: at each turn the first t values are copied.
 use mathlib.Core.Path.{◌≡◌, sym, ap, ◌∙◌}
-use Prim.Native.Nat.{◌+◌, ◌-◌, ◌≤◌}
+use Prim.Native.Nat.{◌+◌, ◌-◌}
 use native.Mathlib.Omega.{arith}
 use lib.ListN.{length, get_or}
-use Rattle.lists.specs.Filled.{filled}
 use Rattle.lists.proofs.Filling.{filled_none, filled_length, filled_store_lem, filled_done}
 use Rattle.model.specs.Part.{past}
 use borrow.Author.Rules.{rules}

@@ -5,7 +5,7 @@ use native.Mathlib.Omega.{arith}
 use borrow.Author.Rules.{rules}
 use lib.Ieee.{nan}
 use lib.ListN.{get_or}
-use Rattle.slices.proofs.Passed.{Passed, none_passed, one_more, all_passed}
+use Rattle.slices.proofs.Passed.{none_passed, one_more, all_passed}
 use Rattle.slices.proofs.stretches.copy_floats.Goals as goal
 
 pub loop-i-init : goal.loop-i-init

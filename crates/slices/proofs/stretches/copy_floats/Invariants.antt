@@ -1,11 +1,8 @@
 -- `stretches::copy_floats` meets its contract: at each turn the first i elements are copied.
-use Prim.Native.Nat.{◌+◌, ◌-◌}
-use mathlib.Core.Path.{◌≡◌, ap}
-use native.Mathlib.Omega.{arith}
-use borrow.Author.Rules.{rules}
+use Prim.Native.Nat.{◌-◌}
 use lib.Ieee.{nan}
 use lib.ListN.{get_or}
-use Rattle.slices.proofs.Passed.{Passed, none_passed, one_more, all_passed}
+use Rattle.slices.proofs.Passed.{Passed}
 use Rattle.slices.proofs.stretches.copy_floats.Given as goal
 
 abbrev pub invariant-loop-i : goal.invariant-loop-i

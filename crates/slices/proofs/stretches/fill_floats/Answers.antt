@@ -1,8 +1,7 @@
 -- `stretches::fill_floats` meets its contract: at each turn the first i floats of the stretch are set.
-use Prim.Native.Nat.{◌-◌}
 use mathlib.Core.Path.{refl}
 use borrow.Author.Rules.{rules}
-use Rattle.slices.proofs.Passed.{Passed, none_passed, one_more, all_passed}
+use Rattle.slices.proofs.Passed.{none_passed, one_more, all_passed}
 use Rattle.slices.proofs.stretches.fill_floats.Goals as goal
 
 pub loop-i-init : goal.loop-i-init

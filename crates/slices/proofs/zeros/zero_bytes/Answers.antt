@@ -1,8 +1,6 @@
 -- `zeros::zero_bytes` meets its contract: at each turn the first i elements are zero.
-use Prim.Native.Nat.{◌-◌}
 use borrow.Author.Rules.{rules}
-use lib.ListN.{length}
-use Rattle.slices.proofs.Passed.{Passed, none_passed, next_same, all_same}
+use Rattle.slices.proofs.Passed.{none_passed, next_same, all_same}
 use Rattle.slices.proofs.zeros.zero_bytes.Goals as goal
 
 pub loop-i-init : goal.loop-i-init

@@ -1,8 +1,7 @@
 -- `zeros::zero_bytes` meets its contract: at each turn the first i elements are zero.
 use Prim.Native.Nat.{◌-◌}
-use borrow.Author.Rules.{rules}
 use lib.ListN.{length}
-use Rattle.slices.proofs.Passed.{Passed, none_passed, next_same, all_same}
+use Rattle.slices.proofs.Passed.{Passed}
 use Rattle.slices.proofs.zeros.zero_bytes.Given as goal
 
 abbrev pub invariant-loop-i : goal.invariant-loop-i

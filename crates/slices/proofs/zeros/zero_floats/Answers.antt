@@ -1,6 +1,5 @@
 -- `zeros::zero_floats` meets its contract: the stretch is the whole slice.
 use mathlib.Core.Path.{refl, ◌∙◌}
-use borrow.Author.Rules.{rules}
 use lib.ListN.{length}
 use Rattle.float.specs.Zero.{plus_zero}
 use Rattle.lists.proofs.Filling.{filled_constant}

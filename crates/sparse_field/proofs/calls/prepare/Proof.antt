@@ -1,5 +1,4 @@
 -- `calls::prepare` meets its contract: every slice is zeroed, and the kinds are set over zeros.
-use Prim.Native.Nat.{ℕ, ◌≤◌}
 use mathlib.Core.Path.{◌≡◌, ap, ◌∙◌}
 use native.Mathlib.Omega.{arith}
 use lib.ListN.{length, length-replicate}

@@ -1,5 +1,5 @@
 -- `calls::stepped` meets its contract: a possible record gives the work its start, and the record follows from where it has come to.
-use Prim.Native.Nat.{◌-◌, ◌≤◌}
+use Prim.Native.Nat.{◌≤◌}
 use mathlib.Core.Path.{refl, sym, ap, ◌∙◌}
 use native.Mathlib.Omega.{arith}
 use Rattle.schedule.specs.Totals.{evaluations_bound}

@@ -4,7 +4,6 @@ use mathlib.Core.Bool.{not}
 use lib.Dec.{eqb}
 use borrow.Author.Tests.{eq-eqb}
 use Rattle.input.specs.Causes.{number_of}
-use borrow.Author.Rules.{rules}
 use Rattle.sparse_field.proofs.judgement.meets_cause.Goals as goal
 
 pub returns-in-None : goal.returns-in-None

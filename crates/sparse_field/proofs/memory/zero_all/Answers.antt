@@ -1,6 +1,5 @@
 -- `zero_all` meets its contract, slice by slice.
 use Rattle.schedule.specs.Lent.{memory_of}
-use borrow.Author.Rules.{rules}
 use Rattle.sparse_field.proofs.memory.zero_all.Goals as goal
 
 pub returns : goal.returns

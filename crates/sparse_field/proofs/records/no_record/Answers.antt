@@ -6,7 +6,6 @@ use Rattle.geometry.specs.Values.{box}
 use Rattle.schedule.specs.declared.Record.{Record}
 use Rattle.schedule.specs.declared.Cursor.TheVariants.{End}
 use Rattle.schedule.specs.NoRecord.{no_record, no_input, no_model}
-use borrow.Author.Rules.{rules}
 use Rattle.sparse_field.proofs.records.no_record.Goals as goal
 
 -- the record, by its bounds

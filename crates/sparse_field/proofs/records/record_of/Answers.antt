@@ -2,7 +2,6 @@
 use Prim.Native.Nat.{◌*◌, ◌≤◌}
 use mathlib.Core.Bool.{true}
 use native.Mathlib.Omega.{arith}
-use borrow.Author.Rules.{rules}
 use Rattle.grid.proofs.BlockLaws.{cube_le}
 use Rattle.grid.proofs.LimitLaws.{store_few}
 use Rattle.sparse_field.proofs.records.record_of.Goals as goal
