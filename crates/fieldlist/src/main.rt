@@ -4,8 +4,7 @@
 // line on standard error.
 #![tactic(auto)]
 
-use std::io;
-use std::io::Print;
+use std::io::{self, Print};
 
 // Room for a text: its first 5,148 bytes decide.
 fn text_room() -> [u8; 5148] {
@@ -17,16 +16,29 @@ fn listing_room() -> [u8; 88176] {
     [0; 88176]
 }
 
+// Says on standard error what failed, in the system's words without its number.
+fn tell_words(rt: &HostRuntime, what: &str, said: &str) -> io::Result<()> {
+    match said.split_once(" (os error ") {
+        Some((words, _)) => eprintln!(rt; "fieldlist: {what}: {words}"),
+        None => eprintln!(rt; "fieldlist: {what}: {said}"),
+    }
+}
+
+fn tell(rt: &HostRuntime, what: &str, error: &io::Error) -> io::Result<()> {
+    let said = format!(in rt.alloc(); "{error}")?;
+    tell_words(rt, what, said.as_str())
+}
+
 fn main(rt: HostRuntime) -> io::Result<()> {
     let mut text = text_room();
     let mut out = listing_room();
     let n = match streams::read_text(&mut rt.stdin(), &mut text) {
         Ok(n) => n,
-        Err(e) => return eprintln!(rt; "fieldlist: reading the text: {e}"),
+        Err(e) => return tell(&rt, "reading the text", &e),
     };
     let end = listing::list_whole(&text[..n], &mut out);
     match rt.write_all(&out[..end]) {
         Ok(()) => Ok(()),
-        Err(e) => eprintln!(rt; "fieldlist: writing the listing: {e}"),
+        Err(e) => tell(&rt, "writing the listing", &e),
     }
 }
