@@ -1,6 +1,5 @@
 -- `model_at` is safe and ends: a part takes five numbers.
 use Prim.Native.Nat.{◌-◌, ◌≤◌}
-use borrow.Author.Rules.{rules}
 use Rattle.cases.proofs.parts.model_at.Given as goal
 
 abbrev pub invariant-loop-p : goal.invariant-loop-p

@@ -3,7 +3,6 @@ use mathlib.Core.Path.{◌≡◌, sym, ◌∙◌}
 use mathlib.Core.Bool.{true, false}
 use lib.Ieee.{is_nan}
 use Rattle.listing.specs.Listing.{bits_in}
-use borrow.Author.Rules.{rules}
 use Rattle.listing.proofs.lines.bits_in.Goals as goal
 
 pub returns-then-is_nan : goal.returns-then-is_nan

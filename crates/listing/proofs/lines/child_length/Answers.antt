@@ -2,7 +2,6 @@
 use mathlib.Core.Path.{sym, ◌∙◌}
 use Rattle.listing.specs.Inner.Lengths.{constant_length}
 use Rattle.listing.proofs.LineLaws.{no_length, leaf_length_lem, constant_length_lem}
-use borrow.Author.Rules.{rules}
 use Rattle.listing.proofs.lines.child_length.Goals as goal
 
 pub returns-then-kind-eq0 : goal.returns-then-kind-eq0

@@ -4,7 +4,6 @@ use native.Mathlib.Nat.{mul-le-mul_left}
 use native.Mathlib.Omega.{arith}
 use borrow.Author.Tests.{eq-eqb, ne_eqb}
 use Rattle.listing.specs.Written.{placed}
-use borrow.Author.Rules.{rules}
 use Rattle.listing.proofs.lines.is_placed.Goals as goal
 
 pub returns-then-kind-ne2 : goal.returns-then-kind-ne2

@@ -2,7 +2,6 @@
 use native.Mathlib.Omega.{arith}
 use Rattle.listing.specs.Inner.Lengths.{leaf_length}
 use Rattle.listing.proofs.LineLaws.{leaf_front_most}
-use borrow.Author.Rules.{rules}
 use Rattle.listing.proofs.lines.leaf_length.Goals as goal
 
 pub overflow_add-result : goal.overflow_add-result

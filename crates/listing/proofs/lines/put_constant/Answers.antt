@@ -6,7 +6,6 @@ use native.Mathlib.Omega.{arith}
 use lib.ListN.{length}
 use lib.Seq.{sets}
 use Rattle.listing.proofs.LineLaws.{constant_put}
-use borrow.Author.Rules.{rules}
 use Rattle.listing.proofs.lines.put_constant.Goals as goal
 
 pub put_form-requires : goal.put_form-requires
@@ -18,4 +17,4 @@ pub returns : goal.returns
 returns c =
     let a = c.args in
     let same = constant_put a.v a.c a.x c.to_bits-bits.ensures in
-    let put = c.put_form.ensures in record { answer = put.answer ∙ ap (λ (t : List ℕ). a.at + length t) same; out = put.out ∙ ap (sets a.out.now a.at) same; }
+    let put = c.put_form.ensures in record { answer = put.answer ∙ ap (λ (t : List ℕ). a.at + length t) same; out = put.out ∙ ap (sets a.out.now a.at) same }

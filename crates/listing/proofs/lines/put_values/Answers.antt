@@ -1,8 +1,7 @@
 -- `lines::put_values` meets its contract: at each turn the first i values are put.
-use Prim.Native.Nat.{◌+◌, ◌*◌, ◌-◌, ◌≤◌, ◌<◌}
+use Prim.Native.Nat.{◌+◌, ◌≤◌, ◌<◌}
 use mathlib.Core.Path.{◌≡◌, refl, ap, ◌∙◌}
 use native.Mathlib.Omega.{arith}
-use borrow.Author.Rules.{rules}
 use lib.ListN.{length, take, set, length-set}
 use lib.Seq.{sets, take_all}
 use Rattle.listing.specs.Listing.{values_text}
@@ -69,4 +68,4 @@ pub returns : goal.returns
 returns c =
     let l = c.loop-i in
     let a = c.args in
-    let all : take l.i a.values.now ≡ a.values.now = take_all l.i a.values.now (omega (arith, c.loop-i-test.false)) in record { answer = omega (arith, l.invariant, c.loop-i-test.false, values_length a.nan a.values.now); out = l.invariant.3 ∙ ap (λ xs. sets a.out.now a.at (values_text a.nan xs)) all; }
+    let all : take l.i a.values.now ≡ a.values.now = take_all l.i a.values.now (omega (arith, c.loop-i-test.false)) in record { answer = omega (arith, l.invariant, c.loop-i-test.false, values_length a.nan a.values.now); out = l.invariant.3 ∙ ap (λ xs. sets a.out.now a.at (values_text a.nan xs)) all }

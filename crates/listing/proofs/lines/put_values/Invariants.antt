@@ -1,12 +1,9 @@
 -- `lines::put_values` meets its contract: at each turn the first i values are put.
-use Prim.Native.Nat.{◌+◌, ◌*◌, ◌-◌, ◌≤◌, ◌<◌}
-use mathlib.Core.Path.{◌≡◌, refl, ap, ◌∙◌}
-use native.Mathlib.Omega.{arith}
-use borrow.Author.Rules.{rules}
-use lib.ListN.{length, take, set, length-set}
-use lib.Seq.{sets, take_all}
+use Prim.Native.Nat.{◌+◌, ◌*◌, ◌-◌, ◌≤◌}
+use mathlib.Core.Path.{◌≡◌}
+use lib.ListN.{length, take}
+use lib.Seq.{sets}
 use Rattle.listing.specs.Listing.{values_text}
-use Rattle.listing.proofs.LineLaws.{values_length, value_put, put_long}
 use Rattle.listing.proofs.lines.put_values.Given as goal
 
 abbrev pub invariant-loop-i : goal.invariant-loop-i

@@ -2,7 +2,6 @@
 use mathlib.Core.Path.{ap, ◌∙◌}
 use Rattle.listing.specs.Written.{put_answer, put_bytes}
 use Rattle.listing.proofs.ListedLaws.{off_here, on_here}
-use borrow.Author.Rules.{rules}
 use Rattle.listing.proofs.list.list_job.Goals as goal
 
 pub returns-in-OffAt : goal.returns-in-OffAt
@@ -11,7 +10,7 @@ returns-in-OffAt c =
     let off = c.write_off in
     let is =
     off_here a.text.now _ _ c.read_job-reading.ensures
-    c.in-OffAt.is in record { answer = off.ensures.answer ∙ ap (λ bs. put_answer bs a.out.now) is; out = off.ensures.out ∙ ap (λ bs. put_bytes bs a.out.now) is; }
+    c.in-OffAt.is in record { answer = off.ensures.answer ∙ ap (λ bs. put_answer bs a.out.now) is; out = off.ensures.out ∙ ap (λ bs. put_bytes bs a.out.now) is }
 
 pub returns : goal.returns
 returns c =
@@ -19,4 +18,4 @@ returns c =
     let listed = c.list_read in
     let is =
     on_here a.text.now _ c.read_job-reading.ensures
-    c.in_default.is in record { answer = listed.ensures.answer ∙ ap (λ bs. put_answer bs a.out.now) is; out = listed.ensures.out ∙ ap (λ bs. put_bytes bs a.out.now) is; }
+    c.in_default.is in record { answer = listed.ensures.answer ∙ ap (λ bs. put_answer bs a.out.now) is; out = listed.ensures.out ∙ ap (λ bs. put_bytes bs a.out.now) is }

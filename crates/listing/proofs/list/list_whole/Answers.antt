@@ -1,12 +1,11 @@
 -- `list::list_whole` meets its contract: the listing fits, so only its length is answered.
-use borrow.Author.Rules.{rules}
 use Rattle.listing.proofs.ListedLaws.{whole_end, whole_unrefused, whole_printed}
 use Rattle.listing.proofs.list.list_whole.Goals as goal
 
 pub returns-in-Bytes : goal.returns-in-Bytes
 returns-in-Bytes c =
     let s = c in
-    let listed = c.list_job in record { answer = whole_end s.args.text.now s.args.out.now s.requires listed.ensures.answer _ c.in-Bytes.is; out = listed.ensures.out; }
+    let listed = c.list_job in record { answer = whole_end s.args.text.now s.args.out.now s.requires listed.ensures.answer _ c.in-Bytes.is; out = listed.ensures.out }
 
 pub returns-in-Refused : goal.returns-in-Refused
 returns-in-Refused c =

@@ -1,11 +1,7 @@
 -- `writing::all_placed` meets its contract: at each turn the children from j on decide.
 use Prim.Native.Nat.{◌-◌, ◌≤◌}
-use mathlib.Core.Path.{◌≡◌, sym, ap, ◌∙◌}
-use native.Mathlib.Omega.{arith}
-use borrow.Author.Rules.{rules}
-use borrow.Author.Tests.{not-true, not-false}
+use mathlib.Core.Path.{◌≡◌}
 use Rattle.listing.specs.Written.{all_placed}
-use Rattle.listing.proofs.ListingLaws.{placed_next, placed_fails, placed_done}
 use Rattle.listing.proofs.writing.all_placed.Given as goal
 
 abbrev pub invariant-loop-j : goal.invariant-loop-j

@@ -1,9 +1,8 @@
 -- `writing::lines_length` meets its contract: at each turn the first j lines are counted.
-use Prim.Native.Nat.{◌+◌, ◌-◌, ◌*◌, ◌≤◌}
+use Prim.Native.Nat.{◌+◌}
 use mathlib.Core.Path.{◌≡◌, refl, ap, ◌∙◌}
 use native.Mathlib.Numerals.{add-one}
 use native.Mathlib.Omega.{arith}
-use borrow.Author.Rules.{rules}
 use Rattle.lists.specs.Sums.{sum_from, sum_below}
 use Rattle.lists.proofs.Sums.{sum_below_snoc}
 use Rattle.listing.specs.Inner.Lengths.{length_at}

@@ -1,13 +1,8 @@
 -- `writing::lines_length` meets its contract: at each turn the first j lines are counted.
-use Prim.Native.Nat.{◌+◌, ◌-◌, ◌*◌, ◌≤◌}
-use mathlib.Core.Path.{◌≡◌, refl, ap, ◌∙◌}
-use native.Mathlib.Numerals.{add-one}
-use native.Mathlib.Omega.{arith}
-use borrow.Author.Rules.{rules}
-use Rattle.lists.specs.Sums.{sum_from, sum_below}
-use Rattle.lists.proofs.Sums.{sum_below_snoc}
+use Prim.Native.Nat.{◌-◌, ◌*◌, ◌≤◌}
+use mathlib.Core.Path.{◌≡◌}
+use Rattle.lists.specs.Sums.{sum_below}
 use Rattle.listing.specs.Inner.Lengths.{length_at}
-use Rattle.listing.proofs.ListingLaws.{length_most}
 use Rattle.listing.proofs.writing.lines_length.Given as goal
 
 abbrev pub invariant-loop-j : goal.invariant-loop-j

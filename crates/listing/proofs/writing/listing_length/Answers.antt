@@ -1,7 +1,6 @@
 -- `writing::listing_length` meets its contract.
 use native.Mathlib.Omega.{arith}
 use Rattle.listing.proofs.ListingLaws.{done_length, done_most, lengths_most}
-use borrow.Author.Rules.{rules}
 use Rattle.listing.proofs.writing.listing_length.Goals as goal
 
 pub overflow_add-result : goal.overflow_add-result

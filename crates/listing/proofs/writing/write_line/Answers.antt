@@ -7,14 +7,13 @@ use native.Mathlib.Omega.{arith}
 use lib.ListN.{length}
 use Rattle.forms.specs.Forms.{piece_of, spell}
 use Rattle.listing.proofs.ListingLaws.{refused_answer, refused_bytes, accepted_answer, accepted_bytes}
-use borrow.Author.Rules.{rules}
 use Rattle.listing.proofs.writing.write_line.Goals as goal
 
 pub returns-then-length-out : goal.returns-then-length-out
 returns-then-length-out c =
     let a = c.args in
     let bs = spell (map piece_of a.form.now) a.numbers.now in
-    let short : length a.out.now < length bs = omega (arith, c.if-length-out.true, c.form_length-length.ensures) in record { answer = refused_answer bs a.out.now short; out = refused_bytes bs a.out.now short; }
+    let short : length a.out.now < length bs = omega (arith, c.if-length-out.true, c.form_length-length.ensures) in record { answer = refused_answer bs a.out.now short; out = refused_bytes bs a.out.now short }
 
 pub returns : goal.returns
 returns c =
@@ -26,4 +25,4 @@ returns c =
       arith,
       c.if-length-out.false,
       c.form_length-length.ensures,
-    ) in record { answer = accepted_answer bs a.out.now c.form_length-length.ensures fits; out = accepted_bytes bs a.out.now fits (put.answer ∙ zero-add (length bs)) put.out c.zero_rest.ensures; }
+    ) in record { answer = accepted_answer bs a.out.now c.form_length-length.ensures fits; out = accepted_bytes bs a.out.now fits (put.answer ∙ zero-add (length bs)) put.out c.zero_rest.ensures }

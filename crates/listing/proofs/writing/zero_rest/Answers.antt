@@ -1,6 +1,5 @@
 -- `writing::zero_rest` meets its contract: the bytes from the place on are lent as a slice of their own.
 use mathlib.Core.Path.{refl}
-use borrow.Author.Rules.{rules}
 use Rattle.slices.proofs.Rest.{rest_lent}
 use Rattle.listing.proofs.writing.zero_rest.Goals as goal
 
