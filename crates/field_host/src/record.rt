@@ -1,7 +1,7 @@
 // A record in four arrays: 18 words, the model's codes and inputs, nine settings, the model's numbers.
 // Reading takes any arrays. Those that no record has read as a record that step refuses by 8.
 ghost use Rattle.std.specs.Prelude.{◌≡◌};
-ghost use Rattle.field_host.specs.Carried.{carried_of, fits, lengths_given, counts_given, cursor_given, cursor_of, flag_word, cursor_tag, cursor_node, cursor_place, cursor_point, unread, record_given, decoded, words_of, settings_of, encoded, };
+ghost use Rattle.field_host.specs.Carried.{carried_of, fits, lengths_given, counts_given, cursor_given, cursor_of, flag_word, cursor_tag, cursor_node, cursor_place, cursor_point, unread, record_given, decoded, words_of, settings_of, encoded};
 
 use crate::given::input_given;
 use grid::GridCounts;

@@ -4,6 +4,8 @@
 // line on standard error.
 #![tactic(auto)]
 
+use arrayvec::ArrayString;
+use std::fmt::Write;
 use std::io::{self, Print};
 
 // Room for a text: its first 5,148 bytes decide.
@@ -16,7 +18,7 @@ fn listing_room() -> [u8; 88176] {
     [0; 88176]
 }
 
-// Says on standard error what failed, in the system's words without its number.
+// Says on standard error what failed: the words before a number of the system's.
 fn tell_words(rt: &HostRuntime, what: &str, said: &str) -> io::Result<()> {
     match said.split_once(" (os error ") {
         Some((words, _)) => eprintln!(rt; "fieldlist: {what}: {words}"),
@@ -24,21 +26,25 @@ fn tell_words(rt: &HostRuntime, what: &str, said: &str) -> io::Result<()> {
     }
 }
 
+// The same of an error. An error has fewer words than the room has bytes; longer ones would be left out.
 fn tell(rt: &HostRuntime, what: &str, error: &io::Error) -> io::Result<()> {
-    let said = format!(in rt.alloc(); "{error}")?;
+    let mut said: ArrayString<256> = ArrayString::new();
+    let _ = write!(said, "{error}");
     tell_words(rt, what, said.as_str())
 }
 
-fn main(rt: HostRuntime) -> io::Result<()> {
+fn main(rt: HostRuntime) {
     let mut text = text_room();
     let mut out = listing_room();
     let n = match streams::read_text(&mut rt.stdin(), &mut text) {
         Ok(n) => n,
-        Err(e) => return tell(&rt, "reading the text", &e),
+        Err(e) => {
+            let _ = tell(&rt, "reading the text", &e);
+            return;
+        }
     };
     let end = listing::list_whole(&text[..n], &mut out);
-    match rt.write_all(&out[..end]) {
-        Ok(()) => Ok(()),
-        Err(e) => tell(&rt, "writing the listing", &e),
+    if let Err(e) = rt.write_all(&out[..end]) {
+        let _ = tell(&rt, "writing the listing", &e);
     }
 }

@@ -1,5 +1,4 @@
 -- `cells::bench_cell_corner` meets its contract.
-use borrow.Author.Rules.{rules}
 use mathlib.Core.Path.{ap, ◌∙◌}
 use mathlib.Core.List.{List}
 use Prim.Native.Nat.{◌%◌}
@@ -15,4 +14,4 @@ pub returns : goal.returns
 returns c =
     let a = c.args in
     let answer = c.cell_corners-answer.ensures in
-    let point : CellCorners → List Float = λ r. coordinates (get_or r.points (a.corner % 8) (vec3 past past past)) in record { answer = ap (λ (r : CellCorners). r.refused) answer; out = c.put_point.ensures ∙ ap point answer; }
+    let point : CellCorners → List Float = λ r. coordinates (get_or r.points (a.corner % 8) (vec3 past past past)) in record { answer = ap (λ (r : CellCorners). r.refused) answer; out = c.put_point.ensures ∙ ap point answer }

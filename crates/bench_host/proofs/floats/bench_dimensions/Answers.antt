@@ -1,5 +1,4 @@
 -- `floats::bench_dimensions` meets its contract.
-use borrow.Author.Rules.{rules}
 use mathlib.Core.Path.{ap, ◌∙◌}
 use Rattle.geometry.specs.Box.{dimensions_of}
 use Rattle.field_host.specs.Answers.{coordinates}

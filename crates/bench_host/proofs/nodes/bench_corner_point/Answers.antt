@@ -1,5 +1,4 @@
 -- `nodes::bench_corner_point` meets its contract.
-use borrow.Author.Rules.{rules}
 use mathlib.Core.Path.{ap, ◌∙◌}
 use Rattle.grid.specs.Corners.{corner_point}
 use Rattle.field_host.specs.Answers.{coordinates}

@@ -1,5 +1,4 @@
 -- `nodes::bench_half_diagonal` meets its contract.
-use borrow.Author.Rules.{rules}
 use mathlib.Core.Path.{ap, ◌∙◌}
 use Rattle.grid.specs.Pruning.{half_diagonal}
 use Rattle.bench_host.proofs.nodes.bench_half_diagonal.Goals as goal

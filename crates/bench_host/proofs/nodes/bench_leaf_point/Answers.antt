@@ -1,5 +1,4 @@
 -- `nodes::bench_leaf_point` meets its contract: nothing is written where l is 0.
-use borrow.Author.Rules.{rules}
 use mathlib.Core.Path.{refl, ap, ◌∙◌}
 use borrow.Author.Tests.{eq-eqb, ne_eqb}
 use Rattle.grid.specs.Leaves.{leaf_point}

@@ -1,5 +1,4 @@
 -- `nodes::bench_node_box` meets its contract.
-use borrow.Author.Rules.{rules}
 use mathlib.Core.Path.{ap, ◌∙◌}
 use Rattle.grid.specs.Boxes.{node_box}
 use Rattle.field_host.specs.Answers.{ends}

@@ -1,5 +1,4 @@
 -- `dense::jisampode_sample` meets its contract.
-use borrow.Author.Rules.{rules}
 use mathlib.Core.Path.{ap, ◌∙◌}
 use mathlib.Core.Bool.{cond}
 use mathlib.Core.List.{List, map}
@@ -25,4 +24,4 @@ returns c =
     let values : ImplicitModel → List Float =
     λ m. cond (eqb (number m) 0) (sampled (map part_in m.parts) m.count origin a.cell n) old in
     let given = c.model_given-model.ensures in
-    let sampling = c.sample.ensures in record { answer = c.number.ensures ∙ ap outcome_number (sampling.answer ∙ ap (λ m. sample_outcome (number m)) given); values = sampling.values ∙ ap values given; }
+    let sampling = c.sample.ensures in record { answer = c.number.ensures ∙ ap outcome_number (sampling.answer ∙ ap (λ m. sample_outcome (number m)) given); values = sampling.values ∙ ap values given }

@@ -1,5 +1,4 @@
 -- `dense::jisampode_smooth` meets its contract.
-use borrow.Author.Rules.{rules}
 use mathlib.Core.Path.{ap, ◌∙◌}
 use Rattle.field_host.specs.Answers.{outcome_number}
 use Rattle.field_host.proofs.dense.jisampode_smooth.Goals as goal

@@ -1,8 +1,7 @@
 -- `dense::jisampode_threshold` meets its contract.
-use borrow.Author.Rules.{rules}
 use mathlib.Core.Path.{ap, ◌∙◌}
 use Rattle.field_host.specs.Answers.{outcome_number}
 use Rattle.field_host.proofs.dense.jisampode_threshold.Goals as goal
 
 pub returns : goal.returns
-returns c = record { answer = c.number.ensures ∙ ap outcome_number c.threshold.ensures.answer; values = c.threshold.ensures.values; }
+returns c = record { answer = c.number.ensures ∙ ap outcome_number c.threshold.ensures.answer; values = c.threshold.ensures.values }

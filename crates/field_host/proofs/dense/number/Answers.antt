@@ -1,5 +1,4 @@
 -- `dense::number` meets its contract: each case has its number.
-use borrow.Author.Rules.{rules}
 use mathlib.Core.Path.{refl}
 use Rattle.field_host.specs.Answers.{outcome_number}
 use Rattle.field_host.proofs.dense.number.Goals as goal

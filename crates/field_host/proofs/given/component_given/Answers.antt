@@ -1,5 +1,4 @@
 -- `given::component_given` meets its contract.
-use borrow.Author.Rules.{rules}
 use Rattle.field_host.specs.Given.{part_given}
 use Rattle.field_host.proofs.given.component_given.Goals as goal
 

@@ -1,5 +1,4 @@
 -- `given::input_given` meets its contract.
-use borrow.Author.Rules.{rules}
 use lib.ListN.{get_or}
 use Rattle.model.specs.Part.{past}
 use Rattle.field_host.specs.Given.{grid_given, input_given}

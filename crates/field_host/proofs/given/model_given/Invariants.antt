@@ -1,11 +1,8 @@
 -- `given::model_given` meets its contract: the places passed so far hold their parts.
-use borrow.Author.Rules.{rules}
-use mathlib.Core.Path.{◌≡◌, sym, ◌∙◌}
+use mathlib.Core.Path.{◌≡◌}
 use Prim.Native.Nat.{◌-◌, ◌≤◌}
-use native.Mathlib.Omega.{arith}
-use lib.ListN.{replicate, length-replicate}
+use lib.ListN.{replicate}
 use Rattle.lists.specs.Filled.{filled}
-use Rattle.lists.proofs.Filling.{filled_none, front_store, filled_done, filled_all}
 use Rattle.float.specs.Zero.{plus_zero}
 use Rattle.model.specs.declared.ModelComponent.{ModelComponent}
 use Rattle.model.specs.declared.Part.TheVariants.{Constant}

@@ -1,5 +1,4 @@
 -- `given::part_coded` meets its contract: a code above 7 is no part.
-use borrow.Author.Rules.{rules}
 use mathlib.Core.Path.{refl}
 use native.Mathlib.Omega.{arith}
 use borrow.Author.Tests.{lt-ltb, le-ltb}

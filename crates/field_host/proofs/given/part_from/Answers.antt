@@ -9,7 +9,6 @@ use Rattle.float.specs.Zero.{plus_zero}
 use Rattle.geometry.specs.declared.Vec3.{Vec3}
 use Rattle.model.specs.declared.Part.TheVariants.{Constant, Sphere, Plane, Min, Max, Add, Sub, Neg}
 use Rattle.model.specs.Flat.{part_from}
-use Rattle.model.proofs.ByCode.{beyond}
 use Rattle.field_host.proofs.given.part_from.Goals as goal
 
 -- a code that no part has

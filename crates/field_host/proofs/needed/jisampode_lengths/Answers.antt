@@ -1,5 +1,4 @@
 -- `needed::jisampode_lengths` meets its contract, for an input with a cause and without.
-use borrow.Author.Rules.{rules}
 use mathlib.Core.Path.{refl, sym, ap, ◌∙◌}
 use Rattle.input.specs.declared.Input.{Input}
 use Rattle.input.specs.Causes.{number_of}
@@ -15,7 +14,7 @@ returns-in-By c =
     sym
     (c.any_refusal-refusal.ensures
     ∙ ap (λ (x : Input). any_refusal x) c.input_given-input.ensures)
-    ∙ c.in-By.is in record { answer = rw known refl; lengths = rw known refl; }
+    ∙ c.in-By.is in record { answer = rw known refl; lengths = rw known refl }
 
 pub needed_lengths-l-requires : goal.needed_lengths-l-requires
 needed_lengths-l-requires c =
@@ -32,4 +31,4 @@ returns c =
     (c.any_refusal-refusal.ensures
     ∙ ap (λ (x : Input). any_refusal x) c.input_given-input.ensures)
     ∙ c.in_default.is in
-    let lengths = ap length_list c.needed_lengths-l.ensures ∙ ap (λ (x : Input). length_list (needed_lengths x.grid)) given in record { answer = rw known refl; lengths = rw known lengths; }
+    let lengths = ap length_list c.needed_lengths-l.ensures ∙ ap (λ (x : Input). length_list (needed_lengths x.grid)) given in record { answer = rw known refl; lengths = rw known lengths }

@@ -1,5 +1,4 @@
 -- `reading::jisampode_cursor` meets its contract.
-use borrow.Author.Rules.{rules}
 use mathlib.Core.Path.{◌≡◌, refl, sym, ap, ◌∙◌}
 use borrow.Author.Tests.{ne_eqb}
 use mathlib.Core.List.{[], ◌∷◌}
@@ -10,8 +9,8 @@ pub returns-then-number-eq0 : goal.returns-then-number-eq0
 returns-then-number-eq0 c =
     let number = c.words_number-number.ensures in
     let at = c.cursor_words-at.ensures in
-    let words : _ ≡ cursor_words c.cursor_given.result = λ i. at.0 i ∷ at.1 i ∷ at.2 i ∷ at.3 i ∷ [] in record { answer = number; cursor = rw (sym number ∙ c.if-number-eq0.true) (words ∙ ap cursor_words c.cursor_given.ensures); }
+    let words : _ ≡ cursor_words c.cursor_given.result = λ i. at.0 i ∷ at.1 i ∷ at.2 i ∷ at.3 i ∷ [] in record { answer = number; cursor = rw (sym number ∙ c.if-number-eq0.true) (words ∙ ap cursor_words c.cursor_given.ensures) }
 
 pub returns-else-number-eq0 : goal.returns-else-number-eq0
 returns-else-number-eq0 c =
-    let number = c.words_number-number.ensures in record { answer = number; cursor = rw (ne_eqb _ _ (λ zero. c.if-number-eq0.false (number ∙ zero))) refl; }
+    let number = c.words_number-number.ensures in record { answer = number; cursor = rw (ne_eqb _ _ (λ zero. c.if-number-eq0.false (number ∙ zero))) refl }

@@ -1,5 +1,4 @@
 -- `reading::words_number` meets its contract: the flag first, then the words.
-use borrow.Author.Rules.{rules}
 use mathlib.Core.Path.{refl, sym, ◌∙◌}
 use borrow.Author.Tests.{eq-eqb, ne_eqb}
 use Rattle.field_host.specs.Hosted.{words_number}

@@ -1,5 +1,4 @@
 -- `record::decode` meets its contract: words that fit are read, others are not.
-use borrow.Author.Rules.{rules}
 use borrow.Author.Tests.{not-true, not-false}
 use mathlib.Core.Path.{sym, ap, ◌∙◌}
 use Rattle.input.specs.declared.Input.{Input}

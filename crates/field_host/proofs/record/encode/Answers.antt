@@ -1,5 +1,4 @@
 -- `record::encode` meets its contract.
-use borrow.Author.Rules.{rules}
 use Rattle.field_host.specs.Carried.{carried_of}
 use Rattle.field_host.proofs.record.encode.Goals as goal
 

@@ -1,5 +1,4 @@
 -- `record::put_words` meets its contract.
-use borrow.Author.Rules.{rules}
 use mathlib.Core.List.{[], ◌∷◌}
 use Rattle.field_host.proofs.record.put_words.Goals as goal
 

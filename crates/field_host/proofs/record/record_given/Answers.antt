@@ -1,5 +1,4 @@
 -- `record::record_given` meets its contract.
-use borrow.Author.Rules.{rules}
 use Rattle.field_host.specs.Carried.{flagged}
 use Rattle.field_host.proofs.record.record_given.Goals as goal
 

@@ -1,5 +1,4 @@
 -- `record::unread_record` meets its contract.
-use borrow.Author.Rules.{rules}
 use mathlib.Core.Path.{ap}
 use Rattle.schedule.specs.declared.Record.{Record}
 use Rattle.field_host.proofs.record.unread_record.Goals as goal

@@ -1,5 +1,4 @@
 -- `record::words_fit` meets its contract: the first word that does not fit decides.
-use borrow.Author.Rules.{rules}
 use Prim.Native.Nat.{◌<◌}
 use lib.ListN.{get_or}
 use native.Mathlib.Omega.{arith}

@@ -1,5 +1,4 @@
 -- `walks::jisampode_cell_step` meets its contract, by the calls that it makes.
-use borrow.Author.Rules.{rules}
 use mathlib.Core.Path.{ap, ◌∙◌}
 use Rattle.geometry.specs.declared.Vec3i.{Vec3i}
 use Rattle.geometry.specs.declared.BoundingBox.{BoundingBox}
@@ -19,4 +18,4 @@ returns c =
     c.cell_step-step.ensures
     ∙ ap (λ (x : BoundingBox). cell_step x n c.indices_in.result) bounds
     ∙ ap (λ (x : Vec3i). cell_step (box_in a.bounds.now) n x) at in
-    let put = c.put_cell_step.ensures in record { answer = put.answer ∙ ap cell_number step; cursor = put.cursor ∙ ap (cell_cursor a.cursor.now) step; cell = put.cell ∙ ap (cell_left a.cell.now) step; }
+    let put = c.put_cell_step.ensures in record { answer = put.answer ∙ ap cell_number step; cursor = put.cursor ∙ ap (cell_cursor a.cursor.now) step; cell = put.cell ∙ ap (cell_left a.cell.now) step }

@@ -1,5 +1,4 @@
 -- `walks::jisampode_octet_step` meets its contract, by the calls that it makes.
-use borrow.Author.Rules.{rules}
 use mathlib.Core.Path.{ap, ◌∙◌}
 use Rattle.geometry.specs.declared.Vec3i.{Vec3i}
 use Rattle.geometry.specs.Values.{vec3i}
@@ -14,4 +13,4 @@ returns c =
     let n = vec3i a.nx a.ny a.nz in
     let at = c.indices_in.ensures in
     let walk = c.walk_octet-walk.ensures ∙ ap (λ (x : Vec3i). octet_walk_of n a.values.now x) at in
-    let put = c.put_octet_step.ensures in record { answer = put.answer ∙ ap (λ (w : OctetWalk). octet_number w.step) walk; cursor = put.cursor ∙ ap (λ (w : OctetWalk). octet_cursor a.cursor.now w.step) walk; octet = put.octet ∙ ap (λ (w : OctetWalk). octet_left a.octet.now w) walk; }
+    let put = c.put_octet_step.ensures in record { answer = put.answer ∙ ap (λ (w : OctetWalk). octet_number w.step) walk; cursor = put.cursor ∙ ap (λ (w : OctetWalk). octet_cursor a.cursor.now w.step) walk; octet = put.octet ∙ ap (λ (w : OctetWalk). octet_left a.octet.now w) walk }

@@ -1,5 +1,4 @@
 -- `walks::jisampode_point_step` meets its contract, by the calls that it makes.
-use borrow.Author.Rules.{rules}
 use mathlib.Core.Path.{ap, ◌∙◌}
 use Rattle.geometry.specs.declared.Vec3i.{Vec3i}
 use Rattle.geometry.specs.declared.BoundingBox.{BoundingBox}
@@ -19,4 +18,4 @@ returns c =
     c.point_step-step.ensures
     ∙ ap (λ (x : BoundingBox). point_step x n c.indices_in.result) bounds
     ∙ ap (λ (x : Vec3i). point_step (box_in a.bounds.now) n x) at in
-    let put = c.put_point_step.ensures in record { answer = put.answer ∙ ap point_number step; cursor = put.cursor ∙ ap (point_cursor a.cursor.now) step; point = put.point ∙ ap (point_left a.point.now) step; }
+    let put = c.put_point_step.ensures in record { answer = put.answer ∙ ap point_number step; cursor = put.cursor ∙ ap (point_cursor a.cursor.now) step; point = put.point ∙ ap (point_left a.point.now) step }
