@@ -107,7 +107,8 @@ fn decide_at(
     let n = task.grid.inner;
     let c = visit.place;
     let j = visit.node * grid::cube_of(n as usize) + c;
-    if kinds[j] == grid::EMPTY {
+    let empty = kinds[j] == grid::EMPTY;
+    if empty {
         return Decision::Passed;
     }
     let band = task.band;

@@ -94,15 +94,15 @@ overflow_add-j c = omega (arith, few c.before)
 bounds-kinds-j : tie.Need-bounds-kinds-j
 bounds-kinds-j c = omega (arith, inside c.before.before)
 
-returns-then-kinds-j-eq-EMPTY : tie.Need-returns-then-kinds-j-eq-EMPTY
-returns-then-kinds-j-eq-EMPTY c =
+returns-then-empty : tie.Need-returns-then-empty
+returns-then-empty c =
     let p = c in
     let s = start p.before.before.before in
     let a = s.args in
     let w = a.visit in
     λ value store ready.
     let done = skipped a.task.grid (decide s) value w.node w.place w.left w.leaves (memory s store) w.bounds
-    s.requires.0.1 s.requires.0.2 ready p.cube_of.result p.cube_of.ensures c.if-kinds-j-eq-EMPTY.true in
+    s.requires.0.1 s.requires.0.2 ready p.cube_of.result p.cube_of.ensures c.if-empty.true in
     record { fits = tt; then = λ after r points. without_points _ _ _ _ _ done points }
 
 child_box-child-requires : tie.Need-child_box-child-requires
@@ -166,7 +166,7 @@ returns-in-Constant c =
     let done = constant_turn a.task.grid (decide s) value w.node w.place w.left w.leaves (memory s store) w.bounds
     s.requires.0.1 s.requires.0.2 ready p.cube_of.result p.cube_of.ensures
     d.octet_values-octet.ensures d.child_box-child.ensures d.decide_child-verdict.ensures
-    d.if-kinds-j-eq-EMPTY.false c.in-Constant.is (kind_above d.before c.in-Constant.is) in
+    d.if-empty.false c.in-Constant.is (kind_above d.before c.in-Constant.is) in
     record { fits = tt; then = λ after r points. without_points _ _ _ _ _ done points }
 
 shape_of-kinds-in-Leaf : tie.Need-shape_of-kinds-in-Leaf
@@ -187,11 +187,11 @@ returns-in-Leaf c =
       fits = leaf_inside a.task.grid (decide s) value w.node w.place w.left w.leaves (memory s store) w.bounds
           s.requires.0.1 s.requires.0.2 ready p.cube_of.result p.cube_of.ensures
           d.octet_values-octet.ensures d.child_box-child.ensures d.decide_child-verdict.ensures
-          d.if-kinds-j-eq-EMPTY.false;
+          d.if-empty.false;
       then = λ after r points. leaf_turn a.task.grid (decide s) value w.node w.place w.left w.leaves (memory s store) w.bounds
           s.requires.0.1 s.requires.0.2 ready p.cube_of.result p.cube_of.ensures
           d.octet_values-octet.ensures d.child_box-child.ensures d.decide_child-verdict.ensures
-          d.if-kinds-j-eq-EMPTY.false c.in-Leaf.is points.0 points.1;
+          d.if-empty.false c.in-Leaf.is points.0 points.1;
     }
 
 pub decide_at_spec : {M : Type 1} → statement M
@@ -203,7 +203,7 @@ decide_at_spec =
     overflow_mul-j
     overflow_add-j
     bounds-kinds-j
-    returns-then-kinds-j-eq-EMPTY
+    returns-then-empty
     child_box-child-requires
     octet_values-octet-requires
     decide_child-verdict-requires
