@@ -187,9 +187,11 @@ pub fn run_children(
     corners: &[f64],
 ) -> Progress
     requires sized { Sized task.grid × (visit.bounds ≡ node_box task.grid visit.node) × (visit.place ≤ cube task.grid.inner) × (task.parts ≤ 64) }
-    requires ready { Ready (plan_now task words reals) visit.node visit.place visit.leaves (memory_of kinds.old numbers.old places.old store.old corners.now) }
+    requires ready { Ready (plan_now task words reals) visit.node visit.place visit.leaves
+        (memory_of kinds.old numbers.old places.old store.old corners.now) }
     ensures { ChildrenAdvanced (plan_in task words reals) visit.node visit.place (cube task.grid.inner) visit.left visit.leaves
-        (memory_of kinds.old numbers.old places.old store.old corners.now) (memory_of kinds.new numbers.new places.new store.new corners.now) result }
+        (memory_of kinds.old numbers.old places.old store.old corners.now)
+        (memory_of kinds.new numbers.new places.new store.new corners.now) result }
 {
     let g = task.grid;
     let children = grid::cube_of(g.inner as usize);

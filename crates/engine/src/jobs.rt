@@ -26,10 +26,15 @@ pub fn run_job(
     corners: &mut [f64],
 ) -> Progress
     requires sized { Sized input.grid × (refused_by_four input.model ≡ false) }
-    requires lent { Lent (plan_of input) (memory_of kinds.old numbers.old places.old store.old corners.old)
+    requires lent { Lent (plan_of input)
+        (memory_of kinds.old numbers.old places.old store.old corners.old)
         × Startable (plan_of input) cursor leaves × (leaves ≤ active_all (plan_of input)) }
-    ensures { Advanced (plan_of input) budget leaves (memory_of kinds.old numbers.old places.old store.old corners.old) (memory_of kinds.new numbers.new places.new store.new corners.new)
-        (events_from (plan_of input) cursor (reading_in (memory_of kinds.old numbers.old places.old store.old corners.old))) [] result (active_all (plan_of input)) }
+    ensures { Advanced (plan_of input) budget leaves
+        (memory_of kinds.old numbers.old places.old store.old corners.old)
+        (memory_of kinds.new numbers.new places.new store.new corners.new)
+        (events_from (plan_of input) cursor (reading_in
+        (memory_of kinds.old numbers.old places.old store.old corners.old))) [] result
+        (active_all (plan_of input)) }
 {
     let model = input.model;
     let mut words = [0u32; 192];

@@ -26,8 +26,10 @@ fn evaluate_from(
     requires sized { Sized task.grid × (task.parts ≤ 64) }
     requires evaluable { Evaluable (plan_now task words reals) at kinds.now store.old corners.old }
     ensures { (numbers : List Float) (places : List ℕ)
-        → Standable (plan_in task words reals) at (memory_of kinds.now numbers places store.old corners.old)
-        → TurnMade task.grid (plan_in task words reals) at (memory_of kinds.now numbers places store.old corners.old)
+        → Standable (plan_in task words reals) at
+        (memory_of kinds.now numbers places store.old corners.old)
+        → TurnMade task.grid (plan_in task words reals) at
+        (memory_of kinds.now numbers places store.old corners.old)
         (memory_of kinds.now numbers places store.new corners.new) result }
 {
     let g = task.grid;
@@ -125,10 +127,13 @@ pub fn run_from(
     corners: &mut [f64],
 ) -> Progress
     requires sized { Sized task.grid × (task.parts ≤ 64) }
-    requires standable { Standable (plan_now task words reals) standing (memory_of kinds.old numbers.old places.old store.old corners.old) }
-    ensures { Advanced (plan_in task words reals) standing.left standing.leaves (memory_of kinds.old numbers.old places.old store.old corners.old)
+    requires standable { Standable (plan_now task words reals) standing
+        (memory_of kinds.old numbers.old places.old store.old corners.old) }
+    ensures { Advanced (plan_in task words reals) standing.left standing.leaves
+        (memory_of kinds.old numbers.old places.old store.old corners.old)
         (memory_of kinds.new numbers.new places.new store.new corners.new)
-        (events_from (plan_in task words reals) standing.cursor (reading_in (memory_of kinds.old numbers.old places.old store.old corners.old))) [] result
+        (events_from (plan_in task words reals) standing.cursor (reading_in
+        (memory_of kinds.old numbers.old places.old store.old corners.old))) [] result
         (active_all (plan_in task words reals)) }
 {
     let nodes = grid::node_total(task.grid);

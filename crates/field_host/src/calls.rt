@@ -22,7 +22,9 @@ fn hand_back(
     reals: &mut [f64; 256],
 ) -> u32
     ensures answer { result ≡ answer_number outcome.answer }
-    ensures carried { carried_of words.new parts.new settings.new reals.new ≡ carried_after outcome.answer outcome.next (carried_of words.old parts.old settings.old reals.old) }
+    ensures carried { carried_of words.new parts.new settings.new reals.new
+        ≡ carried_after outcome.answer outcome.next
+        (carried_of words.old parts.old settings.old reals.old) }
 {
     let answer = outcome.answer;
     match answer {
@@ -54,13 +56,16 @@ pub fn jisampode_open(
     corners: &mut [f64],
 ) -> u32
     ensures answer { result
-        ≡ (hosted (opens (input_lent settings inner leaf parts reals count)) (carried_of record_words.old record_parts.old record_settings.old record_reals.old)
+        ≡ (hosted (opens (input_lent settings inner leaf parts reals count))
+        (carried_of record_words.old record_parts.old record_settings.old record_reals.old)
         (memory_of kinds.old numbers.old places.old store.old corners.old)).number }
     ensures carried { carried_of record_words.new record_parts.new record_settings.new record_reals.new
-        ≡ (hosted (opens (input_lent settings inner leaf parts reals count)) (carried_of record_words.old record_parts.old record_settings.old record_reals.old)
+        ≡ (hosted (opens (input_lent settings inner leaf parts reals count))
+        (carried_of record_words.old record_parts.old record_settings.old record_reals.old)
         (memory_of kinds.old numbers.old places.old store.old corners.old)).carried }
     ensures memory { memory_of kinds.new numbers.new places.new store.new corners.new
-        ≡ (hosted (opens (input_lent settings inner leaf parts reals count)) (carried_of record_words.old record_parts.old record_settings.old record_reals.old)
+        ≡ (hosted (opens (input_lent settings inner leaf parts reals count))
+        (carried_of record_words.old record_parts.old record_settings.old record_reals.old)
         (memory_of kinds.old numbers.old places.old store.old corners.old)).memory }
 {
     let input = input_given(settings, inner, leaf, parts, reals, count);
@@ -89,13 +94,16 @@ pub fn jisampode_step(
     corners: &mut [f64],
 ) -> u32
     ensures answer { result
-        ≡ (hosted (steps budget) (carried_of record_words.old record_parts.old record_settings.old record_reals.old)
+        ≡ (hosted (steps budget)
+        (carried_of record_words.old record_parts.old record_settings.old record_reals.old)
         (memory_of kinds.old numbers.old places.old store.old corners.old)).number }
     ensures carried { carried_of record_words.new record_parts.new record_settings.new record_reals.new
-        ≡ (hosted (steps budget) (carried_of record_words.old record_parts.old record_settings.old record_reals.old)
+        ≡ (hosted (steps budget)
+        (carried_of record_words.old record_parts.old record_settings.old record_reals.old)
         (memory_of kinds.old numbers.old places.old store.old corners.old)).carried }
     ensures memory { memory_of kinds.new numbers.new places.new store.new corners.new
-        ≡ (hosted (steps budget) (carried_of record_words.old record_parts.old record_settings.old record_reals.old)
+        ≡ (hosted (steps budget)
+        (carried_of record_words.old record_parts.old record_settings.old record_reals.old)
         (memory_of kinds.old numbers.old places.old store.old corners.old)).memory }
 {
     let found = record::decode(record_words, record_parts, record_settings, record_reals);
@@ -122,11 +130,17 @@ pub fn jisampode_drop(
     corners: &mut [f64],
 ) -> u32
     ensures answer { result
-        ≡ (hosted drops (carried_of record_words.old record_parts.old record_settings.old record_reals.old) (memory_of kinds.old numbers.old places.old store.old corners.old)).number }
+        ≡ (hosted drops
+        (carried_of record_words.old record_parts.old record_settings.old record_reals.old)
+        (memory_of kinds.old numbers.old places.old store.old corners.old)).number }
     ensures carried { carried_of record_words.new record_parts.new record_settings.new record_reals.new
-        ≡ (hosted drops (carried_of record_words.old record_parts.old record_settings.old record_reals.old) (memory_of kinds.old numbers.old places.old store.old corners.old)).carried }
+        ≡ (hosted drops
+        (carried_of record_words.old record_parts.old record_settings.old record_reals.old)
+        (memory_of kinds.old numbers.old places.old store.old corners.old)).carried }
     ensures memory { memory_of kinds.new numbers.new places.new store.new corners.new
-        ≡ (hosted drops (carried_of record_words.old record_parts.old record_settings.old record_reals.old) (memory_of kinds.old numbers.old places.old store.old corners.old)).memory }
+        ≡ (hosted drops
+        (carried_of record_words.old record_parts.old record_settings.old record_reals.old)
+        (memory_of kinds.old numbers.old places.old store.old corners.old)).memory }
 {
     let found = sparse_field::no_record();
     let outcome = sparse_field::drop(found, kinds, numbers, places, store, corners);

@@ -1,7 +1,10 @@
 // A record in four arrays: 18 words, the model's codes and inputs, nine settings, the model's numbers.
 // Reading takes any arrays. Those that no record has read as a record that step refuses by 8.
 ghost use Rattle.std.specs.Prelude.{◌≡◌};
-ghost use Rattle.field_host.specs.Carried.{carried_of, fits, lengths_given, counts_given, cursor_given, cursor_of, flag_word, cursor_tag, cursor_node, cursor_place, cursor_point, unread, record_given, decoded, words_of, settings_of, encoded};
+ghost use Rattle.field_host.specs.Carried.{carried_of, decoded, encoded, fits, unread};
+ghost use Rattle.field_host.specs.Carried.{lengths_given, counts_given, cursor_given, record_given};
+ghost use Rattle.field_host.specs.Carried.{cursor_of, cursor_tag, cursor_node, cursor_place, cursor_point};
+ghost use Rattle.field_host.specs.Carried.{flag_word, words_of, settings_of};
 
 use crate::given::input_given;
 use grid::GridCounts;
@@ -136,7 +139,8 @@ pub struct CursorWords {
 }
 
 pub fn cursor_words(cursor: Cursor) -> CursorWords
-    ensures { (result.tag ≡ cursor_tag cursor) × (result.node ≡ cursor_node cursor) × (result.place ≡ cursor_place cursor) × (result.point ≡ cursor_point cursor) }
+    ensures { (result.tag ≡ cursor_tag cursor) × (result.node ≡ cursor_node cursor)
+        × (result.place ≡ cursor_place cursor) × (result.point ≡ cursor_point cursor) }
 {
     match cursor {
         Cursor::End => CursorWords {

@@ -29,13 +29,16 @@ pub extern "C" fn jisampode_open(
     corners: &mut [f64],
 ) -> u32
     ensures answer { result
-        ≡ (hosted (opens (input_lent settings inner leaf parts reals count)) (carried_of record_words.old record_parts.old record_settings.old record_reals.old)
+        ≡ (hosted (opens (input_lent settings inner leaf parts reals count))
+        (carried_of record_words.old record_parts.old record_settings.old record_reals.old)
         (memory_of kinds.old numbers.old places.old store.old corners.old)).number }
     ensures carried { carried_of record_words.new record_parts.new record_settings.new record_reals.new
-        ≡ (hosted (opens (input_lent settings inner leaf parts reals count)) (carried_of record_words.old record_parts.old record_settings.old record_reals.old)
+        ≡ (hosted (opens (input_lent settings inner leaf parts reals count))
+        (carried_of record_words.old record_parts.old record_settings.old record_reals.old)
         (memory_of kinds.old numbers.old places.old store.old corners.old)).carried }
     ensures memory { memory_of kinds.new numbers.new places.new store.new corners.new
-        ≡ (hosted (opens (input_lent settings inner leaf parts reals count)) (carried_of record_words.old record_parts.old record_settings.old record_reals.old)
+        ≡ (hosted (opens (input_lent settings inner leaf parts reals count))
+        (carried_of record_words.old record_parts.old record_settings.old record_reals.old)
         (memory_of kinds.old numbers.old places.old store.old corners.old)).memory }
 {
     field_host::jisampode_open(
@@ -72,13 +75,16 @@ pub extern "C" fn jisampode_step(
     corners: &mut [f64],
 ) -> u32
     ensures answer { result
-        ≡ (hosted (steps budget) (carried_of record_words.old record_parts.old record_settings.old record_reals.old)
+        ≡ (hosted (steps budget)
+        (carried_of record_words.old record_parts.old record_settings.old record_reals.old)
         (memory_of kinds.old numbers.old places.old store.old corners.old)).number }
     ensures carried { carried_of record_words.new record_parts.new record_settings.new record_reals.new
-        ≡ (hosted (steps budget) (carried_of record_words.old record_parts.old record_settings.old record_reals.old)
+        ≡ (hosted (steps budget)
+        (carried_of record_words.old record_parts.old record_settings.old record_reals.old)
         (memory_of kinds.old numbers.old places.old store.old corners.old)).carried }
     ensures memory { memory_of kinds.new numbers.new places.new store.new corners.new
-        ≡ (hosted (steps budget) (carried_of record_words.old record_parts.old record_settings.old record_reals.old)
+        ≡ (hosted (steps budget)
+        (carried_of record_words.old record_parts.old record_settings.old record_reals.old)
         (memory_of kinds.old numbers.old places.old store.old corners.old)).memory }
 {
     field_host::jisampode_step(
@@ -109,11 +115,17 @@ pub extern "C" fn jisampode_drop(
     corners: &mut [f64],
 ) -> u32
     ensures answer { result
-        ≡ (hosted drops (carried_of record_words.old record_parts.old record_settings.old record_reals.old) (memory_of kinds.old numbers.old places.old store.old corners.old)).number }
+        ≡ (hosted drops
+        (carried_of record_words.old record_parts.old record_settings.old record_reals.old)
+        (memory_of kinds.old numbers.old places.old store.old corners.old)).number }
     ensures carried { carried_of record_words.new record_parts.new record_settings.new record_reals.new
-        ≡ (hosted drops (carried_of record_words.old record_parts.old record_settings.old record_reals.old) (memory_of kinds.old numbers.old places.old store.old corners.old)).carried }
+        ≡ (hosted drops
+        (carried_of record_words.old record_parts.old record_settings.old record_reals.old)
+        (memory_of kinds.old numbers.old places.old store.old corners.old)).carried }
     ensures memory { memory_of kinds.new numbers.new places.new store.new corners.new
-        ≡ (hosted drops (carried_of record_words.old record_parts.old record_settings.old record_reals.old) (memory_of kinds.old numbers.old places.old store.old corners.old)).memory }
+        ≡ (hosted drops
+        (carried_of record_words.old record_parts.old record_settings.old record_reals.old)
+        (memory_of kinds.old numbers.old places.old store.old corners.old)).memory }
 {
     field_host::jisampode_drop(
         record_words,

@@ -192,9 +192,12 @@ fn write_possible(
     corners: &[f64],
     out: &mut [u8],
 ) -> Listing
-    requires { impossible sparse job (memory_of kinds.now numbers.now places.now store.now corners.now) ≡ false }
-    ensures answer { result ≡ (possible_written job nan (memory_of kinds.now numbers.now places.now store.now corners.now) out.old).answer }
-    ensures out { out.new ≡ (possible_written job nan (memory_of kinds.now numbers.now places.now store.now corners.now) out.old).bytes }
+    requires { impossible sparse job
+        (memory_of kinds.now numbers.now places.now store.now corners.now) ≡ false }
+    ensures answer { result ≡ (possible_written job nan
+        (memory_of kinds.now numbers.now places.now store.now corners.now) out.old).answer }
+    ensures out { out.new ≡ (possible_written job nan
+        (memory_of kinds.now numbers.now places.now store.now corners.now) out.old).bytes }
 {
     let cursor = job.cursor;
     if !at_end(cursor) {
@@ -231,8 +234,10 @@ pub fn write_listing(
     corners: &[f64],
     out: &mut [u8],
 ) -> Listing
-    ensures answer { result ≡ (written «record» nan (memory_of kinds.now numbers.now places.now store.now corners.now) out.old).answer }
-    ensures out { out.new ≡ (written «record» nan (memory_of kinds.now numbers.now places.now store.now corners.now) out.old).bytes }
+    ensures answer { result ≡ (written «record» nan
+        (memory_of kinds.now numbers.now places.now store.now corners.now) out.old).answer }
+    ensures out { out.new ≡ (written «record» nan
+        (memory_of kinds.now numbers.now places.now store.now corners.now) out.old).bytes }
 {
     if !record.opened {
         return Listing::Refused(7);

@@ -24,8 +24,10 @@ fn prepare(
     store: &mut [f64],
     corners: &mut [f64],
 )
-    requires { sparse.cause (lengths_of (memory_of kinds.old numbers.old places.old store.old corners.old)) input ≡ 0 }
-    ensures { memory_of kinds.new numbers.new places.new store.new corners.new ≡ start_memory input (lengths_of (memory_of kinds.old numbers.old places.old store.old corners.old)) }
+    requires { sparse.cause (lengths_of
+        (memory_of kinds.old numbers.old places.old store.old corners.old)) input ≡ 0 }
+    ensures { memory_of kinds.new numbers.new places.new store.new corners.new ≡ start_memory input
+        (lengths_of (memory_of kinds.old numbers.old places.old store.old corners.old)) }
 {
     memory::zero_all(kinds, numbers, places, store, corners);
     kinds::set_kinds(input.grid, kinds);
@@ -41,11 +43,15 @@ fn opened(
     store: &mut [f64],
     corners: &mut [f64],
 ) -> Record
-    requires { (lengths ≡ lengths_of (memory_of kinds.old numbers.old places.old store.old corners.old))
-        × (sparse.cause (lengths_of (memory_of kinds.old numbers.old places.old store.old corners.old)) input ≡ 0) }
-    ensures next { result ≡ (opened_engine sparse input (lengths_of (memory_of kinds.old numbers.old places.old store.old corners.old))).job_record }
+    requires { (lengths ≡ lengths_of
+        (memory_of kinds.old numbers.old places.old store.old corners.old))
+        × (sparse.cause (lengths_of
+        (memory_of kinds.old numbers.old places.old store.old corners.old)) input ≡ 0) }
+    ensures next { result ≡ (opened_engine sparse input (lengths_of
+        (memory_of kinds.old numbers.old places.old store.old corners.old))).job_record }
     ensures memory { memory_of kinds.new numbers.new places.new store.new corners.new
-        ≡ (opened_engine sparse input (lengths_of (memory_of kinds.old numbers.old places.old store.old corners.old))).memory }
+        ≡ (opened_engine sparse input (lengths_of
+        (memory_of kinds.old numbers.old places.old store.old corners.old))).memory }
 {
     prepare(input, kinds, numbers, places, store, corners);
     let start = Cursor::Corner(0, 0);
@@ -65,9 +71,13 @@ pub fn open(
     store: &mut [f64],
     corners: &mut [f64],
 ) -> Outcome
-    ensures answer { result.answer ≡ (called (opens input) found (memory_of kinds.old numbers.old places.old store.old corners.old)).answer }
-    ensures next { result.next ≡ (called (opens input) found (memory_of kinds.old numbers.old places.old store.old corners.old)).next.job_record }
-    ensures memory { memory_of kinds.new numbers.new places.new store.new corners.new ≡ (called (opens input) found (memory_of kinds.old numbers.old places.old store.old corners.old)).next.memory }
+    ensures answer { result.answer ≡ (called (opens input) found
+        (memory_of kinds.old numbers.old places.old store.old corners.old)).answer }
+    ensures next { result.next ≡ (called (opens input) found
+        (memory_of kinds.old numbers.old places.old store.old corners.old)).next.job_record }
+    ensures memory { memory_of kinds.new numbers.new places.new store.new corners.new ≡
+        (called (opens input) found
+        (memory_of kinds.old numbers.old places.old store.old corners.old)).next.memory }
 {
     let lengths = memory::lengths_of(kinds, numbers, places, store, corners);
     let refusal = input::open_refusal(input, lengths);
@@ -94,10 +104,13 @@ fn stepped(
     store: &mut [f64],
     corners: &mut [f64],
 ) -> Record
-    requires { impossible sparse job (memory_of kinds.old numbers.old places.old store.old corners.old) ≡ false }
-    ensures next { result ≡ (stepped_engine sparse budget job (memory_of kinds.old numbers.old places.old store.old corners.old)).job_record }
+    requires { impossible sparse job
+        (memory_of kinds.old numbers.old places.old store.old corners.old) ≡ false }
+    ensures next { result ≡ (stepped_engine sparse budget job
+        (memory_of kinds.old numbers.old places.old store.old corners.old)).job_record }
     ensures memory { memory_of kinds.new numbers.new places.new store.new corners.new
-        ≡ (stepped_engine sparse budget job (memory_of kinds.old numbers.old places.old store.old corners.old)).memory }
+        ≡ (stepped_engine sparse budget job
+        (memory_of kinds.old numbers.old places.old store.old corners.old)).memory }
 {
     let counts = job.counts;
     let cursor = job.cursor;
@@ -128,9 +141,13 @@ pub fn step(
     store: &mut [f64],
     corners: &mut [f64],
 ) -> Outcome
-    ensures answer { result.answer ≡ (called (steps budget) found (memory_of kinds.old numbers.old places.old store.old corners.old)).answer }
-    ensures next { result.next ≡ (called (steps budget) found (memory_of kinds.old numbers.old places.old store.old corners.old)).next.job_record }
-    ensures memory { memory_of kinds.new numbers.new places.new store.new corners.new ≡ (called (steps budget) found (memory_of kinds.old numbers.old places.old store.old corners.old)).next.memory }
+    ensures answer { result.answer ≡ (called (steps budget) found
+        (memory_of kinds.old numbers.old places.old store.old corners.old)).answer }
+    ensures next { result.next ≡ (called (steps budget) found
+        (memory_of kinds.old numbers.old places.old store.old corners.old)).next.job_record }
+    ensures memory { memory_of kinds.new numbers.new places.new store.new corners.new ≡
+        (called (steps budget) found
+        (memory_of kinds.old numbers.old places.old store.old corners.old)).next.memory }
 {
     if !found.opened {
         return Outcome {
@@ -161,9 +178,13 @@ pub fn drop(
     store: &mut [f64],
     corners: &mut [f64],
 ) -> Outcome
-    ensures answer { result.answer ≡ (called drops found (memory_of kinds.old numbers.old places.old store.old corners.old)).answer }
-    ensures next { result.next ≡ (called drops found (memory_of kinds.old numbers.old places.old store.old corners.old)).next.job_record }
-    ensures memory { memory_of kinds.new numbers.new places.new store.new corners.new ≡ (called drops found (memory_of kinds.old numbers.old places.old store.old corners.old)).next.memory }
+    ensures answer { result.answer ≡ (called drops found
+        (memory_of kinds.old numbers.old places.old store.old corners.old)).answer }
+    ensures next { result.next ≡ (called drops found
+        (memory_of kinds.old numbers.old places.old store.old corners.old)).next.job_record }
+    ensures memory { memory_of kinds.new numbers.new places.new store.new corners.new ≡
+        (called drops found
+        (memory_of kinds.old numbers.old places.old store.old corners.old)).next.memory }
 {
     memory::zero_all(kinds, numbers, places, store, corners);
     Outcome {

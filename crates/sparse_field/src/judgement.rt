@@ -47,7 +47,8 @@ pub fn is_impossible(
     store: &[f64],
     corners: &[f64],
 ) -> bool
-    ensures { result ≡ impossible sparse job (memory_of kinds.now numbers.now places.now store.now corners.now) }
+    ensures { result ≡ impossible sparse job
+        (memory_of kinds.now numbers.now places.now store.now corners.now) }
 {
     let input = job.input;
     let lengths = lengths_of(kinds, numbers, places, store, corners);

@@ -13,7 +13,8 @@ pub fn lengths_of(
     store: &[f64],
     corners: &[f64],
 ) -> Lengths
-    ensures { result ≡ lengths_of (memory_of kinds.now numbers.now places.now store.now corners.now) }
+    ensures { result ≡ lengths_of
+        (memory_of kinds.now numbers.now places.now store.now corners.now) }
 {
     Lengths {
         kinds: kinds.len(),
@@ -32,7 +33,8 @@ pub fn zero_all(
     store: &mut [f64],
     corners: &mut [f64],
 )
-    ensures { memory_of kinds.new numbers.new places.new store.new corners.new ≡ zero_memory (lengths_of (memory_of kinds.old numbers.old places.old store.old corners.old)) }
+    ensures { memory_of kinds.new numbers.new places.new store.new corners.new ≡ zero_memory
+        (lengths_of (memory_of kinds.old numbers.old places.old store.old corners.old)) }
 {
     slices::zero_bytes(kinds);
     slices::zero_floats(numbers);
