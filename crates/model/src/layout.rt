@@ -48,7 +48,8 @@ fn operation(code: u32, first: u32, second: u32) -> Entry
 }
 
 pub fn entries(part: Part) -> Entry
-    ensures { (result.code ≡ code_of part) × (result.first ≡ first_input part) × (result.second ≡ second_input part) × (result.vector ≡ vector_of part)
+    ensures { (result.code ≡ code_of part) × (result.first ≡ first_input part)
+        × (result.second ≡ second_input part) × (result.vector ≡ vector_of part)
         × (result.number ≡ number_of part) }
 {
     match part {

@@ -133,8 +133,7 @@ bounds-values-q-4 c =
 
 returns : tie.Need-returns
 returns c =
-    let s = c in
-    octet_read s.args.n s.args.c s.args.values.now s.requires.0 (inside_of s.before.before.before.before.before.before.before.before.before.before.before.before)
+    octet_read c.args.n c.args.c c.args.values.now c.requires.0 (inside_of c.before.before.before.before.before.before.before.before.before.before.before.before)
 
 pub octet_spec : {M : Type 1} → statement M
 octet_spec =

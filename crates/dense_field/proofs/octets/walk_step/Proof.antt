@@ -60,36 +60,32 @@ none q = q.no_cells.ensures ∙ ap no_cells (cells q.before)
 returns-then-no_cells : tie.Need-returns-then-no_cells
 unfolding octet_step
 returns-then-no_cells c =
-    let q = c in
-    simp (fine q.before.before, sym (none q.before) ∙ c.if-no_cells.true)
+    simp (fine c.before.before, sym (none c.before) ∙ c.if-no_cells.true)
 
 returns-then-c-cells : tie.Need-returns-then-c-cells
 unfolding octet_step
 returns-then-c-cells c =
-    let p = c in
-    let a = (start p.before.before.before.before.before).args in
-    let t : a.n.k - 1 ≤ a.c.k = omega (arith, ap (λ v. v.k) (cells p.before.before.before.before.before)) in
-    simp (fine p.before.before.before.before.before, le-ltb _ _ t, or-true)
+    let a = (start c.before.before.before.before.before).args in
+    let t : a.n.k - 1 ≤ a.c.k = omega (arith, ap (λ v. v.k) (cells c.before.before.before.before.before)) in
+    simp (fine c.before.before.before.before.before, le-ltb _ _ t, or-true)
 
 returns-then-c-cells-2 : tie.Need-returns-then-c-cells-2
 unfolding octet_step
 returns-then-c-cells-2 c =
-    let q = c in
-    let e = cells q.before.before.before.before.before.before.before.before in
-    let a = (start q.before.before.before.before.before.before.before.before).args in
+    let e = cells c.before.before.before.before.before.before.before.before in
+    let a = (start c.before.before.before.before.before.before.before.before).args in
     let k : a.c.k < a.n.k - 1 = omega (arith, ap (λ v. v.k) e) in
     let t : a.n.i - 1 ≤ a.c.i = omega (arith, ap (λ v. v.i) e) in
-    simp (fine q.before.before.before.before.before.before.before.before, sym (none q.before.before.before.before.before.before.before) ∙ c.if-no_cells.false, lt-ltb _ _ k, le-ltb _ _ t)
+    simp (fine c.before.before.before.before.before.before.before.before, sym (none c.before.before.before.before.before.before.before) ∙ c.if-no_cells.false, lt-ltb _ _ k, le-ltb _ _ t)
 
 returns-then-c-cells-3 : tie.Need-returns-then-c-cells-3
 unfolding octet_step
 returns-then-c-cells-3 c =
-    let q = c in
-    let e = cells q.before.before.before.before.before.before.before.before.before.before.before in
-    let a = (start q.before.before.before.before.before.before.before.before.before.before.before).args in
+    let e = cells c.before.before.before.before.before.before.before.before.before.before.before in
+    let a = (start c.before.before.before.before.before.before.before.before.before.before.before).args in
     let k : a.c.k < a.n.k - 1 = omega (arith, ap (λ v. v.k) e) in
     let t : a.n.j - 1 ≤ a.c.j = omega (arith, ap (λ v. v.j) e) in
-    simp (fine q.before.before.before.before.before.before.before.before.before.before.before, sym (none q.before.before.before.before.before.before.before.before.before.before) ∙ c.if-no_cells.false, lt-ltb _ _ k, le-ltb _ _ t, or-true)
+    simp (fine c.before.before.before.before.before.before.before.before.before.before.before, sym (none c.before.before.before.before.before.before.before.before.before.before) ∙ c.if-no_cells.false, lt-ltb _ _ k, le-ltb _ _ t, or-true)
 
 next_indices-requires : tie.Need-next_indices-requires
 next_indices-requires c κs = search rules
@@ -97,13 +93,12 @@ next_indices-requires c κs = search rules
 returns : tie.Need-returns
 unfolding octet_step
 returns c =
-    let q = c in
-    let e = cells q.before.before.before.before.before.before.before.before.before.before.before.before in
-    let a = (start q.before.before.before.before.before.before.before.before.before.before.before.before).args in
+    let e = cells c.before.before.before.before.before.before.before.before.before.before.before.before in
+    let a = (start c.before.before.before.before.before.before.before.before.before.before.before.before).args in
     let k : a.c.k < a.n.k - 1 = omega (arith, ap (λ v. v.k) e) in
     let ci : a.c.i < a.n.i - 1 = omega (arith, ap (λ v. v.i) e) in
     let cj : a.c.j < a.n.j - 1 = omega (arith, ap (λ v. v.j) e) in
-    simp (fine q.before.before.before.before.before.before.before.before.before.before.before.before, sym (none q.before.before.before.before.before.before.before.before.before.before.before) ∙ c.if-no_cells.false, lt-ltb _ _ k, lt-ltb _ _ ci, lt-ltb _ _ cj)
+    simp (fine c.before.before.before.before.before.before.before.before.before.before.before.before, sym (none c.before.before.before.before.before.before.before.before.before.before.before) ∙ c.if-no_cells.false, lt-ltb _ _ k, lt-ltb _ _ ci, lt-ltb _ _ cj)
     (ap Cell (c.next_indices.ensures ∙ ap (λ v. next_indices a.c v.i v.j) e))
 
 pub walk_step_spec : {M : Type 1} → statement M

@@ -66,8 +66,7 @@ offset_bounds-values-at-2 c = omega (arith, within_of c.before.before.before.bef
 
 bounds-values-at-2 : tie.Need-bounds-values-at-2
 bounds-values-at-2 c =
-    let s = c in
-    let w = within_of s.before.before.before.before.before in
+    let w = within_of c.before.before.before.before.before in
     simp length-set (omega arith)
 
 shape_of-values : tie.Need-shape_of-values
@@ -75,8 +74,7 @@ shape_of-values c = simp length-set
 
 returns : tie.Need-returns
 returns c =
-    let s = c in
-    let w = within_of s.before.before.before.before.before in
+    let w = within_of c.before.before.before.before.before in
     let a = c.args in
     inner_row a.n a.value a.values.now a.j a.k (omega arith) (omega arith) (omega arith) (omega arith) (omega arith) (omega arith)
 

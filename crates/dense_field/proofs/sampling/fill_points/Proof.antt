@@ -16,8 +16,7 @@ decreases-loop-t origin cell n at len px₀ py₀ pz₀ first₀ t₀ px py pz f
 -- the indices of the next point
 next_in : (c : tie.At-loop-t invariant-loop-t decreases-loop-t) → let a = c.args in Indices a.n c.loop-t.first (a.at + c.loop-t.t)
 next_in c =
-    let s = c in
-    indices s.args.n s.requires.x_above s.requires.y_above _ c.loop-t.invariant.1
+    indices c.args.n c.requires.x_above c.requires.y_above _ c.loop-t.invariant.1
 
 indices-first-requires : tie.Need-indices-first-requires invariant-loop-t decreases-loop-t
 indices-first-requires c κs = search rules
@@ -38,28 +37,25 @@ lesser-count-requires c κs = (omega (arith, (next_in c.before.before.before).i_
 
 fill_stretch-requires : tie.Need-fill_stretch-requires invariant-loop-t decreases-loop-t
 fill_stretch-requires c κs =
-    let s = c in
-    let p = s.requires in
-    (omega (arith, p.short), omega (arith, (next_in s.before.before.before.before.before.before.before).i_in, p.rows, p.area))
+    let p = c.requires in
+    (omega (arith, p.short), omega (arith, (next_in c.before.before.before.before.before.before.before).i_in, p.rows, p.area))
 
 overflow_sub-count : tie.Need-overflow_sub-count invariant-loop-t decreases-loop-t
 overflow_sub-count c = search rules
 
 overflow_add-first : tie.Need-overflow_add-first invariant-loop-t decreases-loop-t
 overflow_add-first c =
-    let s = c in
-    let p = s.requires in
-    omega (arith, (next_in s.before.before.before.before.before.before.before.before.before).i_in, p.rows, p.area)
+    let p = c.requires in
+    omega (arith, (next_in c.before.before.before.before.before.before.before.before.before).i_in, p.rows, p.area)
 
 new-last-requires : tie.Need-new-last-requires invariant-loop-t decreases-loop-t
 new-last-requires c κs = search rules
 
 next_indices-first-requires : tie.Need-next_indices-first-requires invariant-loop-t decreases-loop-t
 next_indices-first-requires c κs =
-    let s = c in
     let e = c.new-last.ensures in
-    let v = next_in s.before.before.before.before.before.before.before.before.before.before in
-    let p = s.requires in
+    let v = next_in c.before.before.before.before.before.before.before.before.before.before in
+    let p = c.requires in
     (omega (arith, ap (λ w. w.i) e), omega (arith, ap (λ w. w.j) e), omega (arith, ap (λ w. w.k) e, p.within))
 
 overflow_add-t : tie.Need-overflow_add-t invariant-loop-t decreases-loop-t
@@ -70,17 +66,15 @@ loop-t-smaller c = search rules
 
 loop-t-preserved : tie.Need-loop-t-preserved invariant-loop-t decreases-loop-t
 loop-t-preserved c =
-    let s = c in
-    let start = s in
-    let a = start.args in
-    let p = start.requires in
-    let inv = s.loop-t.invariant in
-    let t = s.loop-t.t in
+    let a = c.args in
+    let p = c.requires in
+    let inv = c.loop-t.invariant in
+    let t = c.loop-t.t in
     let some = c.lesser-count in
     let e = c.fill_stretch.ensures in
     let long = e.1.1.1 in
-    let v = next_in s.before.before.before.before.before.before.before.before.before.before.before in
-    let fits : s.loop-t.first.i + some.result ≤ a.n.i = omega arith in (
+    let v = next_in c.before.before.before.before.before.before.before.before.before.before.before in
+    let fits : c.loop-t.first.i + some.result ≤ a.n.i = omega arith in (
       omega arith,
       after_stretch a.n p.x_above p.y_above (a.at + t) some.result inv.1 some.ensures.0 fits c.new-last.ensures
           c.next_indices-first.ensures

@@ -14,23 +14,19 @@ returns-then-cause-ne0 c =
 
 pub sample_places-requires : goal.sample_places-requires
 sample_places-requires c =
-    let s = c in
-    let none = sym s.sample_cause-cause.ensures ∙ s.if-cause-ne0.false in
+    let none = sym c.sample_cause-cause.ensures ∙ c.if-cause-ne0.false in
     lent _ _ (passed _ _ _ _ _ none).right_length
 
 pub returns : goal.returns
 unfolding sample_outcome
 returns c =
-    let places = c in
-    let laid = places in
-    let s = laid in
-    let a = s.args in
-    let none = sym s.sample_cause-cause.ensures ∙ s.if-cause-ne0.false in
+    let a = c.args in
+    let none = sym c.sample_cause-cause.ensures ∙ c.if-cause-ne0.false in
     let zero = ap (λ m. eqb m 0) none in
     let in_order = (passed _ _ _ _ _ none).in_order in record {
       answer = rw zero refl;
       values = rw zero
-          (places.sample_places.ensures
-          ∙ flat_sampled a.model _ a.origin a.cell a.n in_order laid.lay_out.ensures.long
-          laid.lay_out.ensures.laid);
+          (c.sample_places.ensures
+          ∙ flat_sampled a.model _ a.origin a.cell a.n in_order c.lay_out.ensures.long
+          c.lay_out.ensures.laid);
     }

@@ -61,23 +61,20 @@ lesser-len-requires c κs = search rules
 
 fill_points-requires : tie.Need-fill_points-requires invariant-loop-at decreases-loop-at
 fill_points-requires c κs =
-    let r = c in
-    let l = turn r.before.before.before in
-    run_in (as_long (start l).requires l.loop-at.invariant.2) (run r.before.before.before).1 (run r.before.before.before).2
+    let l = turn c.before.before.before in
+    run_in (as_long (start l).requires l.loop-at.invariant.2) (run c.before.before.before).1 (run c.before.before.before).2
 
 evaluate_row_into-requires : tie.Need-evaluate_row_into-requires invariant-loop-at decreases-loop-at
 evaluate_row_into-requires c κs = search rules
 
 slice_bounds-copy_floats-end : tie.Need-slice_bounds-copy_floats-end invariant-loop-at decreases-loop-at
 slice_bounds-copy_floats-end c =
-    let e = c in
-    sym (results_long _ _ _ _ _ _ _ e.evaluate_row_into.ensures.1 (turn (unplaced (placed e.before))).loop-at.invariant.1)
+    sym (results_long _ _ _ _ _ _ _ c.evaluate_row_into.ensures.1 (turn (unplaced (placed c.before))).loop-at.invariant.1)
 
 copy_floats-requires : tie.Need-copy_floats-requires invariant-loop-at decreases-loop-at
 copy_floats-requires c κs =
-    let e = c in
-    let r = unplaced (placed e.before.before) in
-    let long = results_long _ _ _ _ _ _ _ e.evaluate_row_into.ensures.1 (turn r).loop-at.invariant.1 in
+    let r = unplaced (placed c.before.before) in
+    let long = results_long _ _ _ _ _ _ _ c.evaluate_row_into.ensures.1 (turn r).loop-at.invariant.1 in
     (omega (arith, (run r).2), (run r).1)
 
 overflow_add-at : tie.Need-overflow_add-at invariant-loop-at decreases-loop-at
@@ -93,8 +90,7 @@ loop-at-smaller c =
 
 loop-at-preserved : tie.Need-loop-at-preserved invariant-loop-at decreases-loop-at
 loop-at-preserved c =
-    let copied = c in
-    let e = evaluated copied.before.before in
+    let e = evaluated c.before.before in
     let points = placed e in
     let r = unplaced points in
     let len = r.lesser-len.result in
@@ -105,7 +101,7 @@ loop-at-preserved c =
     let row = e.evaluate_row_into.ensures.1 in
     let here =
     run_filled _ _ a.origin a.cell a.n s.at len s.results s.values (run r).2 s.invariant.1 points.fill_points.ensures row
-    copied.copy_floats.ensures in
+    c.copy_floats.ensures in
     let next =
     filled_more 0 s.at len g a.values.now s.invariant.3 (here ∙ ap (λ m. filled m len g s.values) (sym (zero-add s.at))) refl in
     (omega (arith, (run r).1, s.invariant.2), results_long _ _ _ _ _ _ _ row s.invariant.1, ap length next ∙ filled_length _ _ _ _, next)

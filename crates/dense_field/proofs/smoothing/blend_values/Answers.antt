@@ -10,12 +10,11 @@ loop-i-init c = (search rules, search rules, ap (λ (x : Float). sub binary64 x 
 
 pub loop-i-preserved : goal.loop-i-preserved
 loop-i-preserved c =
-    let b = c in
-    let a = b.args in
+    let a = c.args in
     let value =
     c.computed.ensures
-    ∙ blended_read a.n a.factor a.old.now (a.at + b.loop-i.i) (omega arith) b.loop-i.invariant.2 c.neighbour_sum-sum.ensures in
-    (search rules, search rules, search rules, filled_store_lem _ _ _ _ b.loop-i.invariant.3 value)
+    ∙ blended_read a.n a.factor a.old.now (a.at + c.loop-i.i) (omega arith) c.loop-i.invariant.2 c.neighbour_sum-sum.ensures in
+    (search rules, search rules, search rules, filled_store_lem _ _ _ _ c.loop-i.invariant.3 value)
 
 pub returns : goal.returns
 returns c = filled_done _ _ _ c.loop-i.invariant.3 (omega arith)

@@ -8,10 +8,9 @@ use Rattle.dense_field.proofs.smoothing.copy_values.Goals as goal
 
 pub returns : goal.returns
 returns c =
-    let s = c in
-    let a = s.args in
+    let a = c.args in
     c.copy_floats.ensures
     ∙ copied_part a.at a.count a.at (length a.old.now - a.at) _ a.old.now a.new.now nan (search rules)
     (λ q behind below.
     let same : a.at + (q - a.at) ≡ q = omega arith in
-    ap (λ k. get_or a.old.now k nan) same ∙ get_d_any a.old.now q nan plus_zero (omega (arith, s.requires)))
+    ap (λ k. get_or a.old.now k nan) same ∙ get_d_any a.old.now q nan plus_zero (omega (arith, c.requires)))

@@ -4,5 +4,4 @@ use Rattle.dense_field.proofs.smoothing.neighbour_sum.Goals as goal
 
 pub returns : goal.returns
 returns c =
-    let s = c in
-    neighbours_read _ _ _ s.requires
+    neighbours_read _ _ _ c.requires

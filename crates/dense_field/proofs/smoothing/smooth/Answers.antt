@@ -11,26 +11,22 @@ returns-then-smooth_refused c =
 
 pub slice_bounds-smooth_rounds-end : goal.slice_bounds-smooth_rounds-end
 slice_bounds-smooth_rounds-end c =
-    let w = c in
-    scratch_long _ _ _ (sym w.smooth_refused.ensures ∙ w.if-smooth_refused.false)
+    scratch_long _ _ _ (sym c.smooth_refused.ensures ∙ c.if-smooth_refused.false)
 
 pub slice_bounds-smooth_rounds-end-2 : goal.slice_bounds-smooth_rounds-end-2
 slice_bounds-smooth_rounds-end-2 c =
-    let w = c in
-    sym (length-take-le _ _ (scratch_long _ _ _ (sym w.smooth_refused.ensures ∙ w.if-smooth_refused.false)))
+    sym (length-take-le _ _ (scratch_long _ _ _ (sym c.smooth_refused.ensures ∙ c.if-smooth_refused.false)))
 
 pub smooth_rounds-requires : goal.smooth_rounds-requires
 smooth_rounds-requires c =
-    let w = c in
-    let passed = sym w.smooth_refused.ensures ∙ w.if-smooth_refused.false in
+    let passed = sym c.smooth_refused.ensures ∙ c.if-smooth_refused.false in
     (values_lent _ _ _ passed, length-take-le _ _ (scratch_long _ _ _ passed))
 
 pub returns : goal.returns
 returns c =
     let a = c.args in
-    let w = c in
     let called = c.smooth_rounds in
-    let e = sym w.smooth_refused.ensures ∙ w.if-smooth_refused.false in
+    let e = sym c.smooth_refused.ensures ∙ c.if-smooth_refused.false in
     let part = called.new.scratch in
     let kept : length part ≡ length (take (length a.values.now) a.scratch.now) = search rules in
     let long = length_front a.scratch.now part (length a.values.now) kept in record { answer = simp e; values = simp e called.ensures; scratch = simp e (c.zero_floats.ensures ∙ ap (λ (m : ℕ). replicate m plus_zero) long) }

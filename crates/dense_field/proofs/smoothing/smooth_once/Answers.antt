@@ -18,19 +18,17 @@ smooth_slab-requires c =
 
 pub loop-k-preserved : goal.loop-k-preserved
 loop-k-preserved c =
-    let b = c in
     let a = c.args in
     let slab = a.n.i * a.n.j in
-    let more : b.loop-k.k * slab + slab ≡ (b.loop-k.k + 1) * slab = omega arith in
-    let place : b.loop-k.k * slab ≡ 0 + b.loop-k.k * slab = omega arith in
+    let more : c.loop-k.k * slab + slab ≡ (c.loop-k.k + 1) * slab = omega arith in
+    let place : c.loop-k.k * slab ≡ 0 + c.loop-k.k * slab = omega arith in
     let done = c.smooth_slab.ensures in (
       search rules,
-      ap length done ∙ filled_length _ _ _ _ ∙ b.loop-k.invariant.1,
-      filled_more _ _ _ _ _ b.loop-k.invariant.2 (done ∙ ap (λ (p : ℕ). filled p slab (smoothed_at a.n a.factor a.old.now) b.loop-k.new) place) more,
+      ap length done ∙ filled_length _ _ _ _ ∙ c.loop-k.invariant.1,
+      filled_more _ _ _ _ _ c.loop-k.invariant.2 (done ∙ ap (λ (p : ℕ). filled p slab (smoothed_at a.n a.factor a.old.now) c.loop-k.new) place) more,
     )
 
 pub returns : goal.returns
 returns c =
-    let b = c in
     let a = c.args in
-    all_slabs a.n a.factor a.old.now _ a.new.now (omega arith) (omega arith) b.loop-k.invariant.2
+    all_slabs a.n a.factor a.old.now _ a.new.now (omega arith) (omega arith) c.loop-k.invariant.2

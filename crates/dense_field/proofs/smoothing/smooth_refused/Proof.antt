@@ -26,14 +26,12 @@ overflow_mul-points-2 c = omega (arith, (grid c.before.before).few)
 returns-then-values-points : tie.Need-returns-then-values-points
 unfolding smooth_refused values_refused
 returns-then-values-points c =
-    let e = c in
-    simp (sym e.dimensions_refused.ensures ∙ e.if-dimensions_refused.false, ne_eqb _ _ c.if-values-points.true)
+    simp (sym c.dimensions_refused.ensures ∙ c.if-dimensions_refused.false, ne_eqb _ _ c.if-values-points.true)
 
 returns : tie.Need-returns
 unfolding smooth_refused values_refused scratch_needed
 returns c =
-    let e = c in
-    simp (sym e.dimensions_refused.ensures ∙ e.if-dimensions_refused.false, eq-eqb _ _ c.if-values-points.false)
+    simp (sym c.dimensions_refused.ensures ∙ c.if-dimensions_refused.false, eq-eqb _ _ c.if-values-points.false)
 
 pub smooth_refused_spec : {M : Type 1} → statement M
 smooth_refused_spec =

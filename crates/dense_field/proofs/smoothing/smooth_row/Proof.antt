@@ -79,35 +79,31 @@ overflow_sub-row c = search rules
 
 blend_values-requires : tie.Need-blend_values-requires
 blend_values-requires c κs =
-    let s = c in
-    let w = within_of s.before.before.before.before.before.before.before.before.before.before.before.before in
-    let e = s.requires.0.1 in
+    let w = within_of c.before.before.before.before.before.before.before.before.before.before.before.before in
+    let e = c.requires.0.1 in
     record {
       x_above = omega arith;
       rows = w.rows;
-      before = omega (arith, mul-le-mul_right (s.args.n.i * s.args.n.j) s.requires.1.1);
-      behind = omega (arith, mul-le-mul_right (s.args.n.i * s.args.n.j) s.requires.1.2);
+      before = omega (arith, mul-le-mul_right (c.args.n.i * c.args.n.j) c.requires.1.1);
+      behind = omega (arith, mul-le-mul_right (c.args.n.i * c.args.n.j) c.requires.1.2);
       same = ap length c.copy_values-2.ensures ∙ filled_length _ _ _ _ ∙ e;
     }
 
 overflow_add-at-3 : tie.Need-overflow_add-at-3
 overflow_add-at-3 c =
-    let s = c in
-    omega (arith, within_of s.before.before.before.before.before.before.before.before.before.before.before.before.before.before.before.before)
+    omega (arith, within_of c.before.before.before.before.before.before.before.before.before.before.before.before.before.before.before.before)
 
 overflow_sub-row-2 : tie.Need-overflow_sub-row-2
 overflow_sub-row-2 c = search rules
 
 overflow_add-at-4 : tie.Need-overflow_add-at-4
 overflow_add-at-4 c =
-    let s = c in
-    omega (arith, within_of s.before.before.before.before.before.before.before.before.before.before.before.before.before.before.before.before)
+    omega (arith, within_of c.before.before.before.before.before.before.before.before.before.before.before.before.before.before.before.before)
 
 copy_values-requires-3 : tie.Need-copy_values-requires-3
 copy_values-requires-3 c κs =
-    let s = c in
-    let w = within_of s.before.before.before.before.before.before.before.before.before.before.before.before.before.before.before.before in
-    let e = s.requires.0.1 in
+    let w = within_of c.before.before.before.before.before.before.before.before.before.before.before.before.before.before.before.before in
+    let e = c.requires.0.1 in
     let long =
     ap length c.blend_values.ensures
     ∙ filled_length _ _ _ _
@@ -121,10 +117,9 @@ shape_of-new c = search rules
 
 returns : tie.Need-returns
 returns c =
-    let copied = c in
-    let a = copied.args in
+    let a = c.args in
     inner_row a.n a.factor a.old.now a.j a.k a.new.now (omega arith) (omega arith) (omega arith) (omega arith) (omega arith)
-    copied.copy_values-2.ensures
+    c.copy_values-2.ensures
     c.blend_values.ensures
     c.copy_values-3.ensures
 

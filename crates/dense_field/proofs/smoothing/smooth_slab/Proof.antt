@@ -60,14 +60,12 @@ returns-then-k-n c =
 
 loop-j-init : tie.Need-loop-j-init invariant-loop-j decreases-loop-j
 loop-j-init c =
-    let s = c in
-    let none : 0 ≡ 0 * s.args.n.i = omega arith in
+    let none : 0 ≡ 0 * c.args.n.i = omega arith in
     (search rules, search rules, filled_done _ _ _ (sym (filled_none _ _ _)) none)
 
 smooth_row-requires : tie.Need-smooth_row-requires invariant-loop-j decreases-loop-j
 smooth_row-requires c κs =
-    let s = c in
-    let p = s.requires.0 in
+    let p = c.requires.0 in
     ((p.0, c.loop-j.invariant.1 ∙ p.1), (omega arith, omega arith, omega arith))
 
 overflow_add-j : tie.Need-overflow_add-j invariant-loop-j decreases-loop-j
@@ -78,13 +76,12 @@ loop-j-smaller c = search rules
 
 loop-j-preserved : tie.Need-loop-j-preserved invariant-loop-j decreases-loop-j
 loop-j-preserved c =
-    let b = c in
     let a = c.args in
-    let more : b.loop-j.j * a.n.i + a.n.i ≡ (b.loop-j.j + 1) * a.n.i = omega arith in
+    let more : c.loop-j.j * a.n.i + a.n.i ≡ (c.loop-j.j + 1) * a.n.i = omega arith in
     let row = c.smooth_row.ensures in (
       search rules,
-      ap length row ∙ filled_length _ _ _ _ ∙ b.loop-j.invariant.1,
-      filled_more _ _ _ _ _ b.loop-j.invariant.2 row more,
+      ap length row ∙ filled_length _ _ _ _ ∙ c.loop-j.invariant.1,
+      filled_more _ _ _ _ _ c.loop-j.invariant.2 row more,
     )
 
 shape_of-new : tie.Need-shape_of-new invariant-loop-j decreases-loop-j
@@ -92,10 +89,9 @@ shape_of-new c = search rules
 
 returns : tie.Need-returns invariant-loop-j decreases-loop-j
 returns c =
-    let b = c in
     let n = c.args.n in
-    let last : b.loop-j.j ≡ n.j = omega arith in
-    filled_done _ _ _ b.loop-j.invariant.2 (ap (λ (m : ℕ). m * n.i) last ∙ mul_comm n.j n.i)
+    let last : c.loop-j.j ≡ n.j = omega arith in
+    filled_done _ _ _ c.loop-j.invariant.2 (ap (λ (m : ℕ). m * n.i) last ∙ mul_comm n.j n.i)
 
 pub smooth_slab_spec : {M : Type 1} → statement M
 smooth_slab_spec =

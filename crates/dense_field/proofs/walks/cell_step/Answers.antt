@@ -9,10 +9,9 @@ use Rattle.dense_field.proofs.walks.cell_step.Goals as goal
 
 pub next_indices-requires : goal.next_indices-requires
 next_indices-requires c =
-    let told = c in
-    let passed = stand_passed _ _ _ _ told.stand_at-stand.ensures told.in-There.is in
+    let passed = stand_passed _ _ _ _ c.stand_at-stand.ensures c.in-There.is in
     let walk = walk_passed _ _ _ passed.0 in
-    (omega arith, omega arith, omega (arith, told.well_formed))
+    (omega arith, omega arith, omega (arith, c.well_formed))
 
 pub returns-in-Refused : goal.returns-in-Refused
 returns-in-Refused c = sym (cell_by _ _ _ c.stand_at-stand.ensures c.in-Refused.is)
@@ -25,6 +24,5 @@ unfolding walk_cell
 returns-in-There c =
     let low = c.cell_min-min.ensures in
     let high = c.cell_max-max.ensures in
-    let told = c in
     ap₂ Cell (c.new.ensures ∙ (λ i. box (low i) (high i))) c.next_indices.ensures
-    ∙ sym (cell_by _ _ _ told.stand_at-stand.ensures told.in-There.is)
+    ∙ sym (cell_by _ _ _ c.stand_at-stand.ensures c.in-There.is)

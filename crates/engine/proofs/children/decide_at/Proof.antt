@@ -96,13 +96,12 @@ bounds-kinds-j c = omega (arith, inside c.before.before)
 
 returns-then-empty : tie.Need-returns-then-empty
 returns-then-empty c =
-    let p = c in
-    let s = start p.before.before.before in
+    let s = start c.before.before.before in
     let a = s.args in
     let w = a.visit in
     λ value store ready.
     let done = skipped a.task.grid (decide s) value w.node w.place w.left w.leaves (memory s store) w.bounds
-    s.requires.0.1 s.requires.0.2 ready p.cube_of.result p.cube_of.ensures c.if-empty.true in
+    s.requires.0.1 s.requires.0.2 ready c.cube_of.result c.cube_of.ensures c.if-empty.true in
     record { fits = tt; then = λ after r points. without_points _ _ _ _ _ done points }
 
 child_box-child-requires : tie.Need-child_box-child-requires
@@ -157,16 +156,15 @@ kind_above d is =
 
 returns-in-Constant : tie.Need-returns-in-Constant
 returns-in-Constant c =
-    let d = c in
-    let p = counted d.before in
+    let p = counted c.before in
     let s = start p in
     let a = s.args in
     let w = a.visit in
     λ value store ready.
     let done = constant_turn a.task.grid (decide s) value w.node w.place w.left w.leaves (memory s store) w.bounds
     s.requires.0.1 s.requires.0.2 ready p.cube_of.result p.cube_of.ensures
-    d.octet_values-octet.ensures d.child_box-child.ensures d.decide_child-verdict.ensures
-    d.if-empty.false c.in-Constant.is (kind_above d.before c.in-Constant.is) in
+    c.octet_values-octet.ensures c.child_box-child.ensures c.decide_child-verdict.ensures
+    c.if-empty.false c.in-Constant.is (kind_above c.before c.in-Constant.is) in
     record { fits = tt; then = λ after r points. without_points _ _ _ _ _ done points }
 
 shape_of-kinds-in-Leaf : tie.Need-shape_of-kinds-in-Leaf
@@ -177,8 +175,7 @@ shape_of-places c = search rules
 
 returns-in-Leaf : tie.Need-returns-in-Leaf
 returns-in-Leaf c =
-    let d = c in
-    let p = counted d.before.before in
+    let p = counted c.before.before in
     let s = start p in
     let a = s.args in
     let w = a.visit in
@@ -186,12 +183,12 @@ returns-in-Leaf c =
     record {
       fits = leaf_inside a.task.grid (decide s) value w.node w.place w.left w.leaves (memory s store) w.bounds
           s.requires.0.1 s.requires.0.2 ready p.cube_of.result p.cube_of.ensures
-          d.octet_values-octet.ensures d.child_box-child.ensures d.decide_child-verdict.ensures
-          d.if-empty.false;
+          c.octet_values-octet.ensures c.child_box-child.ensures c.decide_child-verdict.ensures
+          c.if-empty.false;
       then = λ after r points. leaf_turn a.task.grid (decide s) value w.node w.place w.left w.leaves (memory s store) w.bounds
           s.requires.0.1 s.requires.0.2 ready p.cube_of.result p.cube_of.ensures
-          d.octet_values-octet.ensures d.child_box-child.ensures d.decide_child-verdict.ensures
-          d.if-empty.false c.in-Leaf.is points.0 points.1;
+          c.octet_values-octet.ensures c.child_box-child.ensures c.decide_child-verdict.ensures
+          c.if-empty.false c.in-Leaf.is points.0 points.1;
     }
 
 pub decide_at_spec : {M : Type 1} → statement M

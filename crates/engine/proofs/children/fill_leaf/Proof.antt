@@ -15,11 +15,9 @@ use Rattle.engine.proofs.children.fill_leaf.Statement.{statement}
 use Rattle.engine.proofs.children.fill_leaf.Tie as tie
 
 -- the stretch ends inside the store
-inside : (p : tie.After-cube_of-points) → let s = p in
-    s.args.ordinal * p.cube_of-points.result + p.cube_of-points.result ≤ length s.args.store.now
+inside : (p : tie.After-cube_of-points) → p.args.ordinal * p.cube_of-points.result + p.cube_of-points.result ≤ length p.args.store.now
 inside p =
-    let s = p in
-    omega (arith, p.cube_of-points.ensures, ap (λ k. s.args.ordinal * k) p.cube_of-points.ensures, s.requires.3)
+    omega (arith, p.cube_of-points.ensures, ap (λ k. p.args.ordinal * k) p.cube_of-points.ensures, p.requires.3)
 
 cube_of-points-requires : tie.Need-cube_of-points-requires
 cube_of-points-requires c κs = search rules
@@ -50,16 +48,14 @@ shape_of-store c = search rules
 
 returns : tie.Need-returns
 returns c =
-    let p = c in
-    let s = p in
-    let a = s.args in
-    let k = p.cube_of-points.result in
-    let e : k ≡ cube a.l = p.cube_of-points.ensures in
+    let a = c.args in
+    let k = c.cube_of-points.result in
+    let e : k ≡ cube a.l = c.cube_of-points.ensures in
     let from = a.ordinal * k in
     let f : ℕ → Float = λ q. at (flat_value a.words.now a.reals.now a.parts) (leaf_point a.b a.l q) in
     let made = min a.budget (cube a.l - a.p) in (
       c.fill_points.ensures.0,
-      stretch_filled from (from + k - from) a.p made f a.store.now (omega (arith, inside p.before.before.before.before.before)) (omega (arith, e, s.requires.2))
+      stretch_filled from (from + k - from) a.p made f a.store.now (omega (arith, inside c.before.before.before.before.before)) (omega (arith, e, c.requires.2))
           c.fill_points.ensures.1
           ∙ ap (λ k. filled (a.ordinal * k + a.p) made (λ q. f (q - a.ordinal * k)) a.store.now) e,
     )

@@ -25,17 +25,15 @@ overflow_add-leaves c = omega (arith, c.requires.0.2)
 
 leaf_from-requires : tie.Need-leaf_from-requires
 leaf_from-requires c κs =
-    let s = c in
-    let a = s.args in
-    let fits = subst (λ d. Fits a.task.grid a.visit d a.store.now) c.in-Leaf.is s.requires.1 in
-    (s.requires.0.0.leaf_least, s.requires.0.0.leaf_most, omega arith, omega arith, fits, s.requires.0.1)
+    let a = c.args in
+    let fits = subst (λ d. Fits a.task.grid a.visit d a.store.now) c.in-Leaf.is c.requires.1 in
+    (c.requires.0.0.leaf_least, c.requires.0.0.leaf_most, omega arith, omega arith, fits, c.requires.0.1)
 
 returns-in-Passed : tie.Need-returns-in-Passed
 returns-in-Passed c =
-    let s = c in
-    let a = s.args in
+    let a = c.args in
     let w = a.visit in
-    subst (λ d. PointsMade a.task.grid (value s.before.before) w d a.store.now a.store.now (progress w.leaves w.left Through))
+    subst (λ d. PointsMade a.task.grid (value c.before.before) w d a.store.now a.store.now (progress w.leaves w.left Through))
     (sym c.in-Passed.is) (refl, refl)
 
 shape_of-store : tie.Need-shape_of-store
@@ -43,11 +41,9 @@ shape_of-store c = search rules
 
 returns-in-Leaf : tie.Need-returns-in-Leaf
 returns-in-Leaf c =
-    let t = c in
-    let s = t in
-    let a = s.args in
-    subst (λ d. PointsMade a.task.grid (value s.before.before.before.before.before.before.before.before) a.visit d a.store.now t.leaf_from.new.store t.leaf_from.result)
-    (sym t.in-Leaf.is) (t.leaf_from.ensures.0, t.leaf_from.ensures.1)
+    let a = c.args in
+    subst (λ d. PointsMade a.task.grid (value c.before.before.before.before.before.before.before.before) a.visit d a.store.now c.leaf_from.new.store c.leaf_from.result)
+    (sym c.in-Leaf.is) (c.leaf_from.ensures.0, c.leaf_from.ensures.1)
 
 pub points_of_spec : {M : Type 1} → statement M
 points_of_spec =

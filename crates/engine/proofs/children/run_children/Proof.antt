@@ -54,32 +54,29 @@ cube_of-children-requires : tie.Need-cube_of-children-requires invariant-loop-pl
 cube_of-children-requires c κs = omega (arith, c.requires.0.0.inner_most)
 
 loop-place-init : tie.Need-loop-place-init invariant-loop-place decreases-loop-place
-loop-place-init c =
-    let s = c in (
-      c.cube_of-children.ensures,
-      omega (arith, c.cube_of-children.ensures, s.requires.0.2),
-      refl,
-      refl,
-      refl,
-      refl,
-      advanced_start _ _ _ _ _ _ s.requires.1.lent s.requires.1.at_most,
-    )
+loop-place-init c = (
+  c.cube_of-children.ensures,
+  omega (arith, c.cube_of-children.ensures, c.requires.0.2),
+  refl,
+  refl,
+  refl,
+  refl,
+  advanced_start _ _ _ _ _ _ c.requires.1.lent c.requires.1.at_most,
+)
 
 decide_at-decision-requires : tie.Need-decide_at-decision-requires invariant-loop-place decreases-loop-place
 decide_at-decision-requires c κs =
-    let l = c in
-    let s = start l.before.before.before.before in
-    ((s.requires.0.0, s.requires.0.1, omega (arith, l.loop-place.invariant)), record { value = value s; store = l.loop-place.store; ready = ready l.before.before.before.before })
+    let s = start c.before.before.before.before in
+    ((s.requires.0.0, s.requires.0.1, omega (arith, c.loop-place.invariant)), record { value = value s; store = c.loop-place.store; ready = ready c.before.before.before.before })
 
 points_of-turn-requires : tie.Need-points_of-turn-requires invariant-loop-place decreases-loop-place
 points_of-turn-requires c κs =
-    let d = c in
-    let l = looped d.before.before.before.before.before.before.before.before in
+    let l = looped c.before.before.before.before.before.before.before.before in
     let s = start l in
     let a = s.args in
     let few = leaves_few a.task.grid (decide_by a.task.band) (value s) a.visit.node l.loop-place.place l.loop-place.leaves _ s.requires.0.0
-    (omega (arith, l.loop-place.invariant, d.loop-place-test.true)) (ready l) in
-    ((s.requires.0.0, s.requires.0.3, few), (d.decide_at-decision.ensures (value s) l.loop-place.store (ready l)).fits)
+    (omega (arith, l.loop-place.invariant, c.loop-place-test.true)) (ready l) in
+    ((s.requires.0.0, s.requires.0.3, few), (c.decide_at-decision.ensures (value s) l.loop-place.store (ready l)).fits)
 
 enum_told-1 : tie.Need-enum_told-1 invariant-loop-place decreases-loop-place
 enum_told-1 c = search rules
@@ -98,11 +95,10 @@ shape_of-store-in-At c = search rules
 
 returns-in-At : tie.Need-returns-in-At invariant-loop-place decreases-loop-place
 returns-in-At c =
-    let t = c in
-    let d = decided t.before.before.before in
+    let d = decided c.before.before.before in
     let l = looped d in
     let made = d.decide_at-decision.ensures (value (start l)) l.loop-place.store (ready l) in
-    let turn = made.then t.points_of-turn.new.store t.points_of-turn.result t.points_of-turn.ensures in
+    let turn = made.then c.points_of-turn.new.store c.points_of-turn.result c.points_of-turn.ensures in
     advanced_stopped _ c.in-At.field-0 (advanced_then _ l.loop-place.invariant.6 refl turn) c.in-At.is
 
 enum_told-in_default : tie.Need-enum_told-in_default invariant-loop-place decreases-loop-place
@@ -116,11 +112,10 @@ loop-place-smaller c = omega (arith, (looped (decided c.before.before.before)).l
 
 loop-place-preserved : tie.Need-loop-place-preserved invariant-loop-place decreases-loop-place
 loop-place-preserved c =
-    let t = c in
-    let d = decided t.before.before.before in
+    let d = decided c.before.before.before in
     let l = looped d in
     let made = d.decide_at-decision.ensures (value (start l)) l.loop-place.store (ready l) in
-    let turn = made.then t.points_of-turn.new.store t.points_of-turn.result t.points_of-turn.ensures in
+    let turn = made.then c.points_of-turn.new.store c.points_of-turn.result c.points_of-turn.ensures in
     let done = advanced_through _ (advanced_then _ l.loop-place.invariant.6 refl turn) c.in_default.is in (
       l.loop-place.invariant.0,
       omega (arith, l.loop-place.invariant.1, d.loop-place-test.true),

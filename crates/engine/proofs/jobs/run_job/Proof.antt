@@ -31,10 +31,9 @@ overflow_cast-parts c = search rules
 
 run_from-requires : tie.Need-run_from-requires
 run_from-requires c κs =
-    let o = c in
-    let s = start o.before.before.before.before.before.before.before.before.before.before.before in
+    let s = start c.before.before.before.before.before.before.before.before.before.before.before in
     let a = s.args in
-    let same = same_plan a.input _ _ s.requires.0.1 o.lay_out.ensures.1 o.lay_out.ensures.0 in
+    let same = same_plan a.input _ _ s.requires.0.1 c.lay_out.ensures.1 c.lay_out.ensures.0 in
     let ok = subst (λ P. Lent P (memory s) × Startable P a.cursor a.leaves × (a.leaves ≤ active_all P)) same s.requires.1 in
     ((s.requires.0.0, count_le a.input.model s.requires.0.1), record { lent = ok.0; startable = ok.1; few = ok.2 })
 
@@ -55,12 +54,10 @@ shape_of-corners c = search rules
 
 returns : tie.Need-returns
 returns c =
-    let r = c in
-    let o = r in
-    let s = start o.before.before.before.before.before.before.before.before.before.before.before.before.before.before.before.before.before.before.before.before.before.before in
+    let s = start c.before.before.before.before.before.before.before.before.before.before.before.before.before.before.before.before.before.before.before.before.before.before in
     let a = s.args in
-    let same = same_plan a.input _ _ s.requires.0.1 o.lay_out.ensures.1 o.lay_out.ensures.0 in
-    with_plan _ _ _ _ a.cursor (memory s) same r.run_from.ensures
+    let same = same_plan a.input _ _ s.requires.0.1 c.lay_out.ensures.1 c.lay_out.ensures.0 in
+    with_plan _ _ _ _ a.cursor (memory s) same c.run_from.ensures
 
 pub run_job_spec : {M : Type 1} → statement M
 run_job_spec =

@@ -6,10 +6,8 @@ use Rattle.engine.proofs.Stretch.{put_cleared}
 use Rattle.engine.proofs.nodes.clear_corners.Goals as goal
 
 pub slice_bounds-zero_floats-end-2 : goal.slice_bounds-zero_floats-end-2
-slice_bounds-zero_floats-end-2 c = let s = c in sym (length-take-le s.args.used s.args.corners.now s.requires.0)
+slice_bounds-zero_floats-end-2 c = sym (length-take-le c.args.used c.args.corners.now c.requires.0)
 
 pub returns : goal.returns
 returns c =
-    let z = c in
-    let s = z in
-    put_cleared s.args.used plus_zero s.args.corners.now s.requires.0 s.requires.1 z.zero_floats.ensures
+    put_cleared c.args.used plus_zero c.args.corners.now c.requires.0 c.requires.1 c.zero_floats.ensures

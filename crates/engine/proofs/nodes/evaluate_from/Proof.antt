@@ -170,13 +170,12 @@ slice_bounds-run_corners-end c = omega (arith, part_inside c)
 run_corners-end-requires : tie.Need-run_corners-end-requires
 unfolding plan_with
 run_corners-end-requires c κs =
-    let p = c in
-    let s = start (known p.before.before.before) in
-    let here = known_start (plan s) s.args.at (known p.before.before.before).in-Corner.is s.requires.1.standable in
-    let n = p.cube_of-children.result in (
+    let s = start (known c.before.before.before) in
+    let here = known_start (plan s) s.args.at (known c.before.before.before).in-Corner.is s.requires.1.standable in
+    let n = c.cube_of-children.result in (
       s.requires.0.0.inner_least,
       s.requires.0.0.inner_most,
-      part_long s.args.kinds.now (node (known p.before.before.before) * n) n (part_inside p.before.before.before) ∙ p.cube_of-children.ensures,
+      part_long s.args.kinds.now (node (known c.before.before.before) * n) n (part_inside c.before.before.before) ∙ c.cube_of-children.ensures,
       s.requires.1.standable.lent.corners,
       here.1,
       s.requires.0.1,
@@ -193,8 +192,7 @@ shape_of-corners-then-end-cube_of c = search rules
 
 returns-then-end-cube_of : tie.Need-returns-then-end-cube_of
 returns-then-end-cube_of c =
-    let r = c in
-    let q = ran r.before.before in
+    let q = ran c.before.before in
     let p = counted q in
     let k = known p in
     let s = start k in
@@ -203,7 +201,7 @@ returns-then-end-cube_of c =
       came = at_cursor (plan s) s.args.at k.in-Corner.is
           (node_at_corner s.args.task.grid (decide s) (value s) (node k) _ s.args.at.left s.args.at.leaves
           (memory s numbers places) (ready k ok) p.cube_of-children.result p.cube_of-children.ensures p.node_box-bounds.ensures q.run_corners-end.ensures
-          (omega (arith, r.cube_of.ensures, c.if-end-cube_of.true)));
+          (omega (arith, c.cube_of.ensures, c.if-end-cube_of.true)));
       past = node_past s.args.task.grid (decide s) (value s) (node k) _ s.args.at.left s.args.at.leaves
           (memory s numbers places) (ready k ok) p.cube_of-children.result p.cube_of-children.ensures p.node_box-bounds.ensures q.run_corners-end.ensures;
     }
@@ -220,16 +218,15 @@ child_box-lies-requires c κs = search rules
 leaf_from-done-requires : tie.Need-leaf_from-done-requires
 unfolding plan_with
 leaf_from-done-requires c κs =
-    let k = c in
-    let s = start2 k.before.before.before.before in
+    let s = start2 c.before.before.before.before in
     let e = s.requires.1 in
-    let here = known_start (plan s) s.args.at k.in-Point.is e.standable in (
+    let here = known_start (plan s) s.args.at c.in-Point.is e.standable in (
       s.requires.0.0.leaf_least,
       s.requires.0.0.leaf_most,
       here.2,
       here.3,
-      leaves_inside s.args.task.grid (decide s) (value s) (node2 k.before.before.before.before) (child2 k.before.before.before.before) 0 0 s.args.at.leaves (memory s e.numbers e.places)
-          (ready2 k.before.before.before.before e.standable) here.1,
+      leaves_inside s.args.task.grid (decide s) (value s) (node2 c.before.before.before.before) (child2 c.before.before.before.before) 0 0 s.args.at.leaves (memory s e.numbers e.places)
+          (ready2 c.before.before.before.before e.standable) here.1,
       s.requires.0.1,
     )
 
@@ -241,13 +238,12 @@ shape_of-store-in-At c = search rules
 
 returns-in-At : tie.Need-returns-in-At
 returns-in-At c =
-    let t = c in
-    let k = known2 t.before.before.before in
+    let k = known2 c.before.before.before in
     let s = start2 k in
     λ numbers places ok.
     record {
       came = at_cursor (plan s) s.args.at k.in-Point.is
-          (advanced_stopped (plan s) c.in-At.field-0 (points t.before.before.before ok) c.in-At.is);
+          (advanced_stopped (plan s) c.in-At.field-0 (points c.before.before.before ok) c.in-At.is);
       past = λ i behind. refl;
     }
 
@@ -264,11 +260,10 @@ overflow_add-place c =
 
 returns-in-End : tie.Need-returns-in-End
 returns-in-End c =
-    let s = c in
     λ numbers places ok.
     record {
-      came = at_cursor (plan s.before.before.before.before.before) s.args.at c.in-End.is
-          (at_end_lem (plan s.before.before.before.before.before) s.args.at.left s.args.at.leaves (memory s.before.before.before.before.before numbers places) ok.lent ok.few);
+      came = at_cursor (plan c.before.before.before.before.before) c.args.at c.in-End.is
+          (at_end_lem (plan c.before.before.before.before.before) c.args.at.left c.args.at.leaves (memory c.before.before.before.before.before numbers places) ok.lent ok.few);
       past = λ i behind. refl;
     }
 
@@ -277,8 +272,7 @@ shape_of-corners c = search rules
 
 returns-else-end-cube_of : tie.Need-returns-else-end-cube_of
 returns-else-end-cube_of c =
-    let r = c in
-    let q = ran r.before.before in
+    let q = ran c.before.before in
     let p = counted q in
     let k = known p in
     let s = start k in
@@ -287,7 +281,7 @@ returns-else-end-cube_of c =
       came = begun_at (plan s) s.args.at k.in-Corner.is s.args.task.grid
           (node_past_corners s.args.task.grid (decide s) (value s) (node k) _ s.args.at.left s.args.at.leaves
           (memory s numbers places) (ready k ok) p.cube_of-children.result p.cube_of-children.ensures p.node_box-bounds.ensures q.run_corners-end.ensures (laws s)
-          (omega (arith, r.cube_of.ensures, c.if-end-cube_of.false)));
+          (omega (arith, c.cube_of.ensures, c.if-end-cube_of.false)));
       past = node_past s.args.task.grid (decide s) (value s) (node k) _ s.args.at.left s.args.at.leaves
           (memory s numbers places) (ready k ok) p.cube_of-children.result p.cube_of-children.ensures p.node_box-bounds.ensures q.run_corners-end.ensures;
     }
@@ -298,15 +292,14 @@ shape_of-store c = search rules
 returns-in_default : tie.Need-returns-in_default
 unfolding plan_with
 returns-in_default c =
-    let t = c in
-    let k = known2 t.before.before.before in
+    let k = known2 c.before.before.before in
     let s = start2 k in
     λ numbers places ok.
     let here = known_start (plan s) s.args.at k.in-Point.is ok in
     record {
       came = begun_at (plan s) s.args.at k.in-Point.is s.args.task.grid
           (node_past_points s.args.task.grid (decide s) (value s) (node2 k) (child2 k) _ s.args.at.left s.args.at.leaves
-          (memory s numbers places) (ready2 k ok) here.1 t.node_box-bounds-in-Point.ensures (points t.before.before.before ok) c.in_default.is);
+          (memory s numbers places) (ready2 k ok) here.1 c.node_box-bounds-in-Point.ensures (points c.before.before.before ok) c.in_default.is);
       past = λ i behind. refl;
     }
 

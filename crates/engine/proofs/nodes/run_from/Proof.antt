@@ -136,8 +136,7 @@ through z =
 
 node_total-nodes-requires : tie.Need-node_total-nodes-requires invariant-loop-done decreases-loop-done
 node_total-nodes-requires c κs =
-    let s = c in
-    omega (arith, nodes_few s.args.task.grid s.requires.0.0)
+    omega (arith, nodes_few c.args.task.grid c.requires.0.0)
 
 overflow_cast-task : tie.Need-overflow_cast-task invariant-loop-done decreases-loop-done
 overflow_cast-task c = search rules
@@ -147,14 +146,12 @@ overflow_add-task c = search rules
 
 cube_of-own-requires : tie.Need-cube_of-own-requires invariant-loop-done decreases-loop-done
 cube_of-own-requires c κs =
-    let s = c in
-    omega (arith, s.requires.0.0.inner_most)
+    omega (arith, c.requires.0.0.inner_most)
 
 loop-done-init : tie.Need-loop-done-init invariant-loop-done decreases-loop-done
 unfolding plan_with
 loop-done-init c =
-    let s = c in
-    let ok = s.requires.1 in (
+    let ok = c.requires.1 in (
       c.node_total-nodes.ensures,
       refl,
       refl,
@@ -166,14 +163,13 @@ loop-done-init c =
       c.cube_of-own.ensures,
       ok.lent.corners,
       omega arith,
-      λ i behind. get_or-eq_default s.args.corners.now plus_zero behind,
+      λ i behind. get_or-eq_default c.args.corners.now plus_zero behind,
     )
 
 evaluate_from-turn-requires : tie.Need-evaluate_from-turn-requires invariant-loop-done decreases-loop-done
 evaluate_from-turn-requires c κs =
-    let l = c in
-    let s = start l.before.before.before in
-    ((s.requires.0.0, s.requires.0.1), record { numbers = l.loop-done.numbers; places = l.loop-done.places; standable = ready l.before.before.before })
+    let s = start c.before.before.before in
+    ((s.requires.0.0, s.requires.0.1), record { numbers = c.loop-done.numbers; places = c.loop-done.places; standable = ready c.before.before.before })
 
 enum_known-turn : tie.Need-enum_known-turn invariant-loop-done decreases-loop-done
 enum_known-turn c = search rules
@@ -204,9 +200,8 @@ enum_known-turn-in-Children-1 c = search rules
 run_children-done-requires : tie.Need-run_children-done-requires invariant-loop-done decreases-loop-done
 unfolding plan_with
 run_children-done-requires c κs =
-    let k = c in
-    let s = start (looped (turned k.before.before.before.before.before)) in
-    let now = begun k.before.before.before.before.before in (
+    let s = start (looped (turned c.before.before.before.before.before)) in
+    let now = begun c.before.before.before.before.before in (
       (s.requires.0.0, now.boxed, now.place, s.requires.0.1),
       record { lent = now.advanced.lent; node = now.inside; at_most = now.advanced.at_most },
     )
@@ -243,10 +238,9 @@ enum_told-in_default c = search rules
 
 clear_corners-requires : tie.Need-clear_corners-requires invariant-loop-done decreases-loop-done
 clear_corners-requires c κs =
-    let d = c in
-    let t = turned (came (ran d.before.before)) in
+    let t = turned (came (ran c.before.before)) in
     let l = (looped t).loop-done in
-    let long : length (decided d.before.before).corners ≡ length l.corners = (kept d.before.before).4 ∙ sym l.invariant.5 in
+    let long : length (decided c.before.before).corners ≡ length l.corners = (kept c.before.before).4 ∙ sym l.invariant.5 in
     (omega (arith, l.invariant.10), λ i behind. (made t).past i (omega (arith, l.invariant.9)) ∙ l.invariant.11 i behind)
 
 overflow_add-node : tie.Need-overflow_add-node invariant-loop-done decreases-loop-done
@@ -274,12 +268,11 @@ shape_of-corners-then-node-nodes c = c.corners-in-Children-1.given ∙ (kept (en
 returns-then-node-nodes : tie.Need-returns-then-node-nodes invariant-loop-done decreases-loop-done
 unfolding plan_with
 returns-then-node-nodes c =
-    let z = c in
-    let k = came (ran (ended z.before.before.before.before)) in
+    let k = came (ran (ended c.before.before.before.before)) in
     let l = looped (turned k) in
     let w = k.in-Children.visit in
     advanced_then (plan l) (advanced_then (plan l) l.loop-done.invariant.7 refl (begun k).advanced) refl
-    (nodes_end (plan l) (suc w.node) _ _ _ _ _ _ (omega (arith, c.if-node-nodes.true, l.loop-done.invariant.0)) (through z.before.before.before.before).advanced)
+    (nodes_end (plan l) (suc w.node) _ _ _ _ _ _ (omega (arith, c.if-node-nodes.true, l.loop-done.invariant.0)) (through c.before.before.before.before).advanced)
 
 loop-done-smaller : tie.Need-loop-done-smaller invariant-loop-done decreases-loop-done
 loop-done-smaller c = let k = came (ran (ended c.before.before.before.before)) in omega (arith, (begun k).same, (begun k).inside)
@@ -287,13 +280,12 @@ loop-done-smaller c = let k = came (ran (ended c.before.before.before.before)) i
 loop-done-preserved : tie.Need-loop-done-preserved invariant-loop-done decreases-loop-done
 unfolding plan_with
 loop-done-preserved c =
-    let z = c in
-    let k = came (ran (ended z.before.before.before.before)) in
+    let k = came (ran (ended c.before.before.before.before)) in
     let l = looped (turned k) in
     let w = k.in-Children.visit in
-    let same = kept (ended z.before.before.before.before) in
+    let same = kept (ended c.before.before.before.before) in
     let below : w.node + 1 < (plan l).nodes = omega (arith, (begun k).inside, c.if-node-nodes.false, l.loop-done.invariant.0) in
-    let next = node_next (plan l) w.node (w.node + 1) _ _ (through z.before.before.before.before) z.in_default.is (add-one w.node) below in
+    let next = node_next (plan l) w.node (w.node + 1) _ _ (through c.before.before.before.before) c.in_default.is (add-one w.node) below in
     let most = before_most (plan l) (plan l).active (w.node + 1) 0 below (omega arith) in
     let own = l.loop-done.invariant.8 in
     let cleared_long = c.corners-in-Children-1.given ∙ same.4 in (
@@ -308,7 +300,7 @@ loop-done-preserved c =
       own,
       omega (arith, own),
       omega (arith, own, l.loop-done.invariant.9, l.loop-done.invariant.10, l.loop-done.invariant.5, cleared_long),
-      λ i behind. came_through (ZeroCorners (cleared z.before.before.before.before)) (through z.before.before.before.before).cleared z.in_default.is i,
+      λ i behind. came_through (ZeroCorners (cleared c.before.before.before.before)) (through c.before.before.before.before).cleared c.in_default.is i,
     )
 
 pub run_from_spec : {M : Type 1} → statement M

@@ -13,17 +13,15 @@ loop-p-init c = (omega arith, sym (filled_none _ _ _))
 
 pub loop-p-preserved : goal.loop-p-preserved
 loop-p-preserved c =
-    let s = c in
-    let a = s.args in
+    let a = c.args in
     let l = flat_of a.parts.now a.reals.now in
-    (omega arith, front_store s.loop-p.p (component_given l) (replicate 64 none) s.loop-p.invariant.1 c.component_given.ensures)
+    (omega arith, front_store c.loop-p.p (component_given l) (replicate 64 none) c.loop-p.invariant.1 c.component_given.ensures)
 
 pub returns : goal.returns
 returns c =
-    let s = c in
-    let a = s.args in
+    let a = c.args in
     let l = flat_of a.parts.now a.reals.now in
-    let last : s.loop-p.p ≡ 64 = omega arith in
-    let whole = filled_done 0 (component_given l) (replicate 64 none) s.loop-p.invariant.1 last
+    let last : c.loop-p.p ≡ 64 = omega arith in
+    let whole = filled_done 0 (component_given l) (replicate 64 none) c.loop-p.invariant.1 last
     ∙ filled_all 64 (component_given l) (replicate 64 none) none (length-replicate 64 none) in
     λ i. record { parts = whole i; count = a.count }

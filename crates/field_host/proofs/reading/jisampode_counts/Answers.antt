@@ -6,8 +6,7 @@ use Rattle.field_host.proofs.reading.jisampode_counts.Goals as goal
 
 pub returns-then-number-eq0 : goal.returns-then-number-eq0
 returns-then-number-eq0 c =
-    let read = c in
-    let number = read.words_number-number.ensures in record { answer = number; counts = rw (sym number ∙ read.if-number-eq0.true) (ap counts_list read.counts_given-c.ensures) }
+    let number = c.words_number-number.ensures in record { answer = number; counts = rw (sym number ∙ c.if-number-eq0.true) (ap counts_list c.counts_given-c.ensures) }
 
 pub returns-else-number-eq0 : goal.returns-else-number-eq0
 returns-else-number-eq0 c =

@@ -52,12 +52,10 @@ overflow_add-corner-then-kinds-first-ne0 c = let f = fits c.before.before.before
 
 mark_octet-requires : tie.Need-mark_octet-requires invariant-loop-i decreases-loop-i
 mark_octet-requires c κs =
-    let b = c in
-    let l = b.loop-i in
-    let s = b in
-    let a = s.args in
+    let l = c.loop-i in
+    let a = c.args in
     let more : l.i < a.n = omega arith in
-    omega (arith, row_octet_below a.n a.row l.i a.kinds.now l.list s.requires.0 s.requires.1 more, l.invariant.2.long)
+    omega (arith, row_octet_below a.n a.row l.i a.kinds.now l.list c.requires.0 c.requires.1 more, l.invariant.2.long)
 
 overflow_add-i : tie.Need-overflow_add-i invariant-loop-i decreases-loop-i
 overflow_add-i c = search rules
@@ -67,11 +65,9 @@ loop-i-smaller c = search rules
 
 loop-i-preserved : tie.Need-loop-i-preserved invariant-loop-i decreases-loop-i
 loop-i-preserved c =
-    let b = c in
-    let l = b.loop-i in
-    let s = b in
-    let a = s.args in
-    let f = fits s.before.before.before.before.before.before in
+    let l = c.loop-i in
+    let a = c.args in
+    let f = fits c.before.before.before.before.before.before in
     let more : l.i < a.n = omega arith in (
       omega arith,
       elim c.if-kinds-first-ne0.branch [
@@ -79,8 +75,8 @@ loop-i-preserved c =
         | else-kinds-first-ne0 w ↦ ap length w.list-is ∙ l.invariant.1
       ],
       elim c.if-kinds-first-ne0.branch [
-        | then-kinds-first-ne0 w ↦ row_more a.n a.row l.i a.kinds.now l.list s.requires.0 s.requires.1 more l.invariant.2 w.if-kinds-first-ne0.true (w.list-is ∙ w.mark_octet.ensures)
-        | else-kinds-first-ne0 w ↦ row_skip a.n a.row l.i a.kinds.now l.list s.requires.0 s.requires.1 more l.invariant.2 w.if-kinds-first-ne0.false w.list-is
+        | then-kinds-first-ne0 w ↦ row_more a.n a.row l.i a.kinds.now l.list c.requires.0 c.requires.1 more l.invariant.2 w.if-kinds-first-ne0.true (w.list-is ∙ w.mark_octet.ensures)
+        | else-kinds-first-ne0 w ↦ row_skip a.n a.row l.i a.kinds.now l.list c.requires.0 c.requires.1 more l.invariant.2 w.if-kinds-first-ne0.false w.list-is
       ],
     )
 

@@ -68,20 +68,12 @@ value_at-requires-8 c κs = inside c.before.before.before.before.before.before.b
 returns : tie.Need-returns
 unfolding octet_values
 returns c =
-    let v7 = c in
-    let v6 = v7 in
-    let v5 = v6 in
-    let v4 = v5 in
-    let v3 = v4 in
-    let v2 = v3 in
-    let v1 = v2 in
-    let o = v1 in
-    let values = o.args.values.now in
-    let long : length o.octet-p.result ≡ 8 = ap length o.octet-p.ensures ∙ octet_length _ _ in
+    let values = c.args.values.now in
+    let long : length c.octet-p.result ≡ 8 = ap length c.octet-p.ensures ∙ octet_length _ _ in
     let read : ◌≡◌ {A = List Float} _ _ =
-    λ t. v1.value_at.ensures t ∷ v2.value_at-2.ensures t ∷ v3.value_at-3.ensures t ∷ v4.value_at-4.ensures t
-    ∷ v5.value_at-5.ensures t ∷ v6.value_at-6.ensures t ∷ v7.value_at-7.ensures t ∷ c.value_at-8.ensures t ∷ [] in
-    read ∙ ap (map (λ p. get_or values p plus_zero)) (eight 0 o.octet-p.result long ∙ o.octet-p.ensures)
+    λ t. c.value_at.ensures t ∷ c.value_at-2.ensures t ∷ c.value_at-3.ensures t ∷ c.value_at-4.ensures t
+    ∷ c.value_at-5.ensures t ∷ c.value_at-6.ensures t ∷ c.value_at-7.ensures t ∷ c.value_at-8.ensures t ∷ [] in
+    read ∙ ap (map (λ p. get_or values p plus_zero)) (eight 0 c.octet-p.result long ∙ c.octet-p.ensures)
 
 pub octet_values_spec : {M : Type 1} → statement M
 octet_values_spec =

@@ -24,18 +24,16 @@ same_grid-requires c κs = search rules
 
 returns-then-not-same_grid : tie.Need-returns-then-not-same_grid
 returns-then-not-same_grid c =
-    let p = c in
-    let a = (start p.before).args in
-    counts_other a.g a.counts (sym (compared p.before) ∙ not-true _ c.if-not-same_grid.true-raw)
+    let a = (start c.before).args in
+    counts_other a.g a.counts (sym (compared c.before) ∙ not-true _ c.if-not-same_grid.true-raw)
 
 sampled_right-requires : tie.Need-sampled_right-requires
 sampled_right-requires c κs = let l = leaf_block _ (start c.before).requires.0 in (omega (arith, l.least), l.most)
 
 returns : tie.Need-returns
 returns c =
-    let p = c in
-    let a = (start p.before.before).args in
-    counts_sampled a.g a.counts (sym (compared p.before.before) ∙ not-false _ c.if-not-same_grid.false-raw) c.sampled_right.ensures
+    let a = (start c.before.before).args in
+    counts_sampled a.g a.counts (sym (compared c.before.before) ∙ not-false _ c.if-not-same_grid.false-raw) c.sampled_right.ensures
 
 pub counts_right_spec : {M : Type 1} → statement M
 counts_right_spec =

@@ -77,26 +77,24 @@ slice_bounds-is_needed-end c = omega (arith, part c)
 
 is_needed-requires : tie.Need-is_needed-requires
 is_needed-requires c κs =
-    let p = c in
-    let n = inner_block _ (start p.before).requires.two in (
+    let n = inner_block _ (start c.before).requires.two in (
       omega (arith, n.least),
       n.most,
-      simp (length-take, length-drop) (omega (arith, part p.before, p.cube_of-children.ensures)),
+      simp (length-take, length-drop) (omega (arith, part c.before, c.cube_of-children.ensures)),
       omega
-          (arith, p.cube_of.ensures),
+          (arith, c.cube_of.ensures),
     )
 
 returns : tie.Need-returns
 returns c =
-    let p = c in
-    let s = start p.before.before in
+    let s = start c.before.before in
     let a = s.args in
-    let r = p.cube_of-children.result in
+    let r = c.cube_of-children.result in
     let size : a.v * r + r - a.v * r ≡ r = omega arith in
-    corner_needed a.g a.v a.i (inside p.before.before) (omega (arith, p.cube_of.ensures))
+    corner_needed a.g a.v a.i (inside c.before.before) (omega (arith, c.cube_of.ensures))
     (c.is_needed.ensures
-    ∙ part_needed a.g _ _ a.kinds.now s.requires.right s.requires.long a.v (inside p.before.before) (ap (λ n. a.v * n) p.cube_of-children.ensures)
-    (size ∙ p.cube_of-children.ensures) a.i)
+    ∙ part_needed a.g _ _ a.kinds.now s.requires.right s.requires.long a.v (inside c.before.before) (ap (λ n. a.v * n) c.cube_of-children.ensures)
+    (size ∙ c.cube_of-children.ensures) a.i)
 
 pub corner_right_spec : {M : Type 1} → statement M
 corner_right_spec =

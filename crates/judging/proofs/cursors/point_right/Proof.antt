@@ -49,9 +49,8 @@ is_active-requires c κs = omega (arith, (inner_block _ (start c).requires.0).le
 
 returns-then-not-is_active : tie.Need-returns-then-not-is_active
 returns-then-not-is_active c =
-    let p = c in
-    let a = (start p.before.before).args in
-    point_active a.g a.v a.c a.p (node p.before.before) (child p.before.before) (sym c.is_active.ensures ∙ not-true _ c.if-not-is_active.true-raw)
+    let a = (start c.before.before).args in
+    point_active a.g a.v a.c a.p (node c.before.before) (child c.before.before) (sym c.is_active.ensures ∙ not-true _ c.if-not-is_active.true-raw)
 
 overflow_cast-g-2 : tie.Need-overflow_cast-g-2
 overflow_cast-g-2 c = search rules
@@ -61,10 +60,8 @@ cube_of-requires-2 c κs = omega (arith, (leaf_block _ (start c.before.before.be
 
 returns : tie.Need-returns
 returns c =
-    let active = c in
-    let p = active in
-    let a = (start p.before.before.before.before).args in
-    point_place a.g a.v a.c a.p (node p.before.before.before.before) (child p.before.before.before.before) (sym active.is_active.ensures ∙ not-false _ active.if-not-is_active.false-raw)
+    let a = (start c.before.before.before.before).args in
+    point_place a.g a.v a.c a.p (node c.before.before.before.before) (child c.before.before.before.before) (sym c.is_active.ensures ∙ not-false _ c.if-not-is_active.false-raw)
     (ap (λ (x : ℕ). ltb a.p x) c.cube_of-2.ensures)
 
 pub point_right_spec : {M : Type 1} → statement M

@@ -93,15 +93,13 @@ returns-in-End c =
 
 returns-in-Corner : tie.Need-returns-in-Corner
 returns-in-Corner c =
-    let p = c in
-    let g = (start (counted p.before)).args.g in
-    c.count_nonzero.ensures ∙ (at_corner p.before).count ∙ ap (λ (y : Cursor). active_up_to (grid_plan g) y) (sym p.in-Corner.is)
+    let g = (start (counted c.before)).args.g in
+    c.count_nonzero.ensures ∙ (at_corner c.before).count ∙ ap (λ (y : Cursor). active_up_to (grid_plan g) y) (sym c.in-Corner.is)
 
 returns-in-Point : tie.Need-returns-in-Point
 returns-in-Point c =
-    let p = c in
-    let g = (start (counted2 p.before)).args.g in
-    c.count_nonzero-in-Point.ensures ∙ (at_point p.before).count ∙ ap (λ (y : Cursor). active_up_to (grid_plan g) y) (sym p.in-Point.is)
+    let g = (start (counted2 c.before)).args.g in
+    c.count_nonzero-in-Point.ensures ∙ (at_point c.before).count ∙ ap (λ (y : Cursor). active_up_to (grid_plan g) y) (sym c.in-Point.is)
 
 pub active_up_to_spec : {M : Type 1} → statement M
 active_up_to_spec =

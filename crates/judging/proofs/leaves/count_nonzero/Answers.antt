@@ -14,13 +14,12 @@ loop-i-init c = (omega arith, omega arith, refl)
 
 pub loop-i-preserved : goal.loop-i-preserved
 loop-i-preserved c =
-    let b = c in
-    let l = b.args.kinds.now in (
+    let l = c.args.kinds.now in (
       omega arith,
       elim c.if-kinds-i-ne0.branch [ then-kinds-i-ne0 w ↦ omega arith | else-kinds-i-ne0 w ↦ omega arith ],
       elim c.if-kinds-i-ne0.branch [
-        | then-kinds-i-ne0 w ↦ count_more l b.loop-i.i b.loop-i.invariant.2 w.if-kinds-i-ne0.true w.count-is
-        | else-kinds-i-ne0 w ↦ count_skip l b.loop-i.i b.loop-i.invariant.2 w.if-kinds-i-ne0.false w.count-is
+        | then-kinds-i-ne0 w ↦ count_more l c.loop-i.i c.loop-i.invariant.2 w.if-kinds-i-ne0.true w.count-is
+        | else-kinds-i-ne0 w ↦ count_skip l c.loop-i.i c.loop-i.invariant.2 w.if-kinds-i-ne0.false w.count-is
       ],
     )
 

@@ -14,29 +14,26 @@ active_up_to-requires c = c.requires
 
 pub returns-then-leaves-active_up_to : goal.returns-then-leaves-active_up_to
 returns-then-leaves-active_up_to c =
-    let s = c in
-    let g = s.args.g in
-    let a = s.args.cursor in
-    let n = s.args.leaves in
+    let g = c.args.g in
+    let a = c.args.cursor in
+    let n = c.args.leaves in
     leaves_many (ltb (active_up_to (grid_plan g) a) n) (inside_child a) (eqb n 0)
     (lt-ltb (active_up_to (grid_plan g) a) n (omega (arith, c.active_up_to.ensures)))
 
 pub returns-then-inside_child : goal.returns-then-inside_child
 returns-then-inside_child c =
-    let s = c in
-    let g = s.args.g in
-    let a = s.args.cursor in
-    let n = s.args.leaves in
+    let g = c.args.g in
+    let a = c.args.cursor in
+    let n = c.args.leaves in
     leaves_none (ltb (active_up_to (grid_plan g) a) n) (inside_child a) (eqb n 0)
     (le-ltb (active_up_to (grid_plan g) a) n (omega (arith, c.active_up_to.ensures)))
     (sym c.inside_child.ensures ∙ c.if-inside_child.true)
 
 pub returns : goal.returns
 returns c =
-    let s = c in
-    let g = s.args.g in
-    let a = s.args.cursor in
-    let n = s.args.leaves in
+    let g = c.args.g in
+    let a = c.args.cursor in
+    let n = c.args.leaves in
     leaves_right (ltb (active_up_to (grid_plan g) a) n) (inside_child a) (eqb n 0)
     (le-ltb (active_up_to (grid_plan g) a) n (omega (arith, c.active_up_to.ensures)))
     (sym c.inside_child.ensures ∙ c.if-inside_child.false)

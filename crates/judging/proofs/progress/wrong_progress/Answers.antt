@@ -16,10 +16,9 @@ counts_right-requires c = let p = c.requires in (p.two, p.five)
 
 pub returns-then-not-counts_right : goal.returns-then-not-counts_right
 returns-then-not-counts_right c =
-    let s = c in
-    let g = s.args.g in
-    let t = s.args.counts in
-    let a = s.args.cursor in
+    let g = c.args.g in
+    let t = c.args.counts in
+    let a = c.args.cursor in
     let P = grid_plan g in
     let n = t.leaves in
     joined_first (not (same_counts t (counts_with P n t.evaluations))) (ltb (evaluations_bound P) t.evaluations) (not (valid_cursor P a))
@@ -30,10 +29,9 @@ evaluations_bound-requires c = let p = c.requires in (p.two, p.five)
 
 pub returns-then-counts-evaluations_bound : goal.returns-then-counts-evaluations_bound
 returns-then-counts-evaluations_bound c =
-    let s = c in
-    let g = s.args.g in
-    let t = s.args.counts in
-    let a = s.args.cursor in
+    let g = c.args.g in
+    let t = c.args.counts in
+    let a = c.args.cursor in
     let P = grid_plan g in
     let n = t.leaves in
     joined_second (not (same_counts t (counts_with P n t.evaluations))) (ltb (evaluations_bound P) t.evaluations) (not (valid_cursor P a))
@@ -45,10 +43,9 @@ cursor_right-requires c = c.requires
 
 pub returns-then-not-cursor_right : goal.returns-then-not-cursor_right
 returns-then-not-cursor_right c =
-    let s = c in
-    let g = s.args.g in
-    let t = s.args.counts in
-    let a = s.args.cursor in
+    let g = c.args.g in
+    let t = c.args.counts in
+    let a = c.args.cursor in
     let P = grid_plan g in
     let n = t.leaves in
     joined_third (not (same_counts t (counts_with P n t.evaluations))) (ltb (evaluations_bound P) t.evaluations) (not (valid_cursor P a))
@@ -66,10 +63,9 @@ wrong_leaves-requires c = (
 
 pub returns : goal.returns
 returns c =
-    let s = c in
-    let g = s.args.g in
-    let t = s.args.counts in
-    let a = s.args.cursor in
+    let g = c.args.g in
+    let t = c.args.counts in
+    let a = c.args.cursor in
     let P = grid_plan g in
     let n = t.leaves in
     joined_rest (not (same_counts t (counts_with P n t.evaluations))) (ltb (evaluations_bound P) t.evaluations) (not (valid_cursor P a))

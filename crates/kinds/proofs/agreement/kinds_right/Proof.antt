@@ -32,14 +32,12 @@ slice_bounds-nodes_right-end c = sym (length-take-le (total c) _ (long c))
 
 nodes_right-requires : tie.Need-nodes_right-requires
 nodes_right-requires c κs =
-    let p = c in
-    ((start p).requires.0, (start p).requires.1, length-take-le (total p) _ (long p) ∙ p.child_total-total.ensures)
+    ((start c).requires.0, (start c).requires.1, length-take-le (total c) _ (long c) ∙ c.child_total-total.ensures)
 
 returns-then-not-nodes_right : tie.Need-returns-then-not-nodes_right
 returns-then-not-nodes_right c =
-    let p = c in
-    let a = (start p.before.before).args in
-    all_differ a.g (total p.before.before) p.child_total-total.ensures a.kinds.now (long p.before.before) (sym c.nodes_right.ensures ∙ not-true _ c.if-not-nodes_right.true-raw)
+    let a = (start c.before.before).args in
+    all_differ a.g (total c.before.before) c.child_total-total.ensures a.kinds.now (long c.before.before) (sym c.nodes_right.ensures ∙ not-true _ c.if-not-nodes_right.true-raw)
 
 slice_bounds-all_zero-count : tie.Need-slice_bounds-all_zero-count
 slice_bounds-all_zero-count c = let within = long c.before.before in search rules
@@ -55,12 +53,10 @@ all_zero-requires c κs = search rules
 
 returns : tie.Need-returns
 returns c =
-    let tested = c in
-    let p = tested in
-    let a = (start p.before.before.before.before).args in
+    let a = (start c.before.before.before.before).args in
     c.all_zero.ensures
-    ∙ all_agree a.g (total p.before.before.before.before) p.child_total-total.ensures a.kinds.now (long p.before.before.before.before)
-    (sym tested.nodes_right.ensures ∙ not-false _ tested.if-not-nodes_right.false-raw)
+    ∙ all_agree a.g (total c.before.before.before.before) c.child_total-total.ensures a.kinds.now (long c.before.before.before.before)
+    (sym c.nodes_right.ensures ∙ not-false _ c.if-not-nodes_right.false-raw)
 
 pub kinds_right_spec : {M : Type 1} → statement M
 kinds_right_spec =

@@ -31,11 +31,9 @@ whole : (p : tie.After-cube_of-children invariant-loop-v decreases-loop-v) → l
 whole p = of_nodes (start p).args.g (start p).args.kinds.now p.node_total-nodes.ensures p.cube_of-children.ensures (start p).requires.2
 
 -- the node's part ends inside the kinds
-inside : (t : tie.In-loop-v invariant-loop-v decreases-loop-v) → let p = t in
-    t.loop-v.v * p.cube_of-children.result + p.cube_of-children.result ≤ length (start p.before.before).args.kinds.now
+inside : (t : tie.In-loop-v invariant-loop-v decreases-loop-v) → t.loop-v.v * t.cube_of-children.result + t.cube_of-children.result ≤ length (start t.before.before).args.kinds.now
 inside t =
-    let p = t in
-    part_inside p.cube_of-children.result p.node_total-nodes.result t.loop-v.v (start p.before.before).args.kinds.now (whole p.before.before) (omega arith)
+    part_inside t.cube_of-children.result t.node_total-nodes.result t.loop-v.v (start t.before.before).args.kinds.now (whole t.before.before) (omega arith)
 
 -- the grid's test, by the number that the code has reckoned
 same_test : (p : tie.After-cube_of-children invariant-loop-v decreases-loop-v) {x : Bool}
@@ -76,21 +74,17 @@ slice_bounds-node_right-end c = omega (arith, inside c)
 
 node_right-requires : tie.Need-node_right-requires invariant-loop-v decreases-loop-v
 node_right-requires c κs =
-    let l = c in
-    let p = l in
-    let s = start p.before.before.before in (
+    let s = start c.before.before.before in (
       (inner_block _ s.requires.0).most,
-      part_long p.cube_of-children.result p.node_total-nodes.result l.loop-v.v s.args.kinds.now (whole p.before.before.before) (omega arith) ∙ p.cube_of-children.ensures,
+      part_long c.cube_of-children.result c.node_total-nodes.result c.loop-v.v s.args.kinds.now (whole c.before.before.before) (omega arith) ∙ c.cube_of-children.ensures,
     )
 
 returns-then-not-node_right : tie.Need-returns-then-not-node_right invariant-loop-v decreases-loop-v
 returns-then-not-node_right c =
-    let l = c in
-    let p = l in
-    let s = start p.before.before.before.before.before in
+    let s = start c.before.before.before.before.before in
     let here = sym c.node_right.ensures ∙ not-true _ c.if-not-node_right.true-raw in
-    same_test p.before.before.before.before.before
-    (part_wrong p.cube_of-children.result p.node_total-nodes.result l.loop-v.v s.args.kinds.now (whole p.before.before.before.before.before) (active s.args.g)
+    same_test c.before.before.before.before.before
+    (part_wrong c.cube_of-children.result c.node_total-nodes.result c.loop-v.v s.args.kinds.now (whole c.before.before.before.before.before) (active s.args.g)
     (omega arith) here)
 
 overflow_add-v : tie.Need-overflow_add-v invariant-loop-v decreases-loop-v
@@ -101,23 +95,19 @@ loop-v-smaller c = search rules
 
 loop-v-preserved : tie.Need-loop-v-preserved invariant-loop-v decreases-loop-v
 loop-v-preserved c =
-    let l = c in
-    let p = l in
-    let s = start p.before.before.before.before.before in
+    let s = start c.before.before.before.before.before in
     let here = sym c.node_right.ensures ∙ not-false _ c.if-not-node_right.false-raw in (
       omega arith,
-      part_right p.cube_of-children.result p.node_total-nodes.result l.loop-v.v s.args.kinds.now (whole p.before.before.before.before.before) (active s.args.g)
-          (omega arith) l.loop-v.invariant.1 here,
+      part_right c.cube_of-children.result c.node_total-nodes.result c.loop-v.v s.args.kinds.now (whole c.before.before.before.before.before) (active s.args.g)
+          (omega arith) c.loop-v.invariant.1 here,
     )
 
 returns : tie.Need-returns invariant-loop-v decreases-loop-v
 returns c =
-    let l = c in
-    let p = l in
-    let s = start p.before.before in
-    same_test p.before.before
-    (parts_right p.cube_of-children.result p.node_total-nodes.result l.loop-v.v s.args.kinds.now (whole p.before.before) (active s.args.g)
-    (omega arith) l.loop-v.invariant.1)
+    let s = start c.before.before in
+    same_test c.before.before
+    (parts_right c.cube_of-children.result c.node_total-nodes.result c.loop-v.v s.args.kinds.now (whole c.before.before) (active s.args.g)
+    (omega arith) c.loop-v.invariant.1)
 
 pub nodes_right_spec : {M : Type 1} → statement M
 nodes_right_spec =

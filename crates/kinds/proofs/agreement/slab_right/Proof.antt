@@ -75,16 +75,14 @@ slice_bounds-row_right-end c = omega (arith, inside c.before.before)
 
 row_right-requires : tie.Need-row_right-requires invariant-loop-j decreases-loop-j
 row_right-requires c κs =
-    let l = c in
-    let s = start l.before.before.before.before in
-    omega (arith, part_long s.args.n s.args.n l.loop-j.j s.args.slab.now s.requires.1 (omega arith))
+    let s = start c.before.before.before.before in
+    omega (arith, part_long s.args.n s.args.n c.loop-j.j s.args.slab.now s.requires.1 (omega arith))
 
 returns-then-not-row_right : tie.Need-returns-then-not-row_right invariant-loop-j decreases-loop-j
 returns-then-not-row_right c =
-    let l = c in
-    let s = start l.before.before.before.before.before.before in
+    let s = start c.before.before.before.before.before.before in
     let here = sym c.row_right.ensures ∙ not-true _ c.if-not-row_right.true-raw in
-    met l.before.before.before.before.before.before _ (part_wrong s.args.n s.args.n l.loop-j.j s.args.slab.now s.requires.1
+    met c.before.before.before.before.before.before _ (part_wrong s.args.n s.args.n c.loop-j.j s.args.slab.now s.requires.1
     (row_test s.args.xs.now s.args.ys.now) (omega arith) here)
 
 overflow_add-j : tie.Need-overflow_add-j invariant-loop-j decreases-loop-j
@@ -95,20 +93,18 @@ loop-j-smaller c = search rules
 
 loop-j-preserved : tie.Need-loop-j-preserved invariant-loop-j decreases-loop-j
 loop-j-preserved c =
-    let l = c in
-    let s = start l.before.before.before.before.before.before in
+    let s = start c.before.before.before.before.before.before in
     let here = sym c.row_right.ensures ∙ not-false _ c.if-not-row_right.false-raw in (
       omega arith,
-      part_right s.args.n s.args.n l.loop-j.j s.args.slab.now s.requires.1
-          (row_test s.args.xs.now s.args.ys.now) (omega arith) l.loop-j.invariant.1 here,
+      part_right s.args.n s.args.n c.loop-j.j s.args.slab.now s.requires.1
+          (row_test s.args.xs.now s.args.ys.now) (omega arith) c.loop-j.invariant.1 here,
     )
 
 returns : tie.Need-returns invariant-loop-j decreases-loop-j
 returns c =
-    let l = c in
-    let s = start l.before in
-    met l.before _ (parts_right s.args.n s.args.n l.loop-j.j s.args.slab.now s.requires.1
-    (row_test s.args.xs.now s.args.ys.now) (omega arith) l.loop-j.invariant.1)
+    let s = start c.before in
+    met c.before _ (parts_right s.args.n s.args.n c.loop-j.j s.args.slab.now s.requires.1
+    (row_test s.args.xs.now s.args.ys.now) (omega arith) c.loop-j.invariant.1)
 
 pub slab_right_spec : {M : Type 1} → statement M
 slab_right_spec =

@@ -71,16 +71,14 @@ slice_bounds-slab_right-end c = omega (arith, inside c.before.before)
 
 slab_right-requires : tie.Need-slab_right-requires invariant-loop-k decreases-loop-k
 slab_right-requires c κs =
-    let l = c in
-    let s = start l.before.before.before.before in
-    (omega arith, part_long (s.args.n * s.args.n) s.args.n l.loop-k.k s.args.part.now (whole s) (omega arith))
+    let s = start c.before.before.before.before in
+    (omega arith, part_long (s.args.n * s.args.n) s.args.n c.loop-k.k s.args.part.now (whole s) (omega arith))
 
 returns-then-not-slab_right : tie.Need-returns-then-not-slab_right invariant-loop-k decreases-loop-k
 returns-then-not-slab_right c =
-    let l = c in
-    let s = start l.before.before.before.before.before.before in
+    let s = start c.before.before.before.before.before.before in
     let here = sym c.slab_right.ensures ∙ not-true _ c.if-not-slab_right.true-raw in
-    part_wrong (s.args.n * s.args.n) s.args.n l.loop-k.k s.args.part.now (whole s) (test s) (omega arith) here
+    part_wrong (s.args.n * s.args.n) s.args.n c.loop-k.k s.args.part.now (whole s) (test s) (omega arith) here
 
 overflow_add-k : tie.Need-overflow_add-k invariant-loop-k decreases-loop-k
 overflow_add-k c = search rules
@@ -90,16 +88,14 @@ loop-k-smaller c = search rules
 
 loop-k-preserved : tie.Need-loop-k-preserved invariant-loop-k decreases-loop-k
 loop-k-preserved c =
-    let l = c in
-    let s = start l.before.before.before.before.before.before in
+    let s = start c.before.before.before.before.before.before in
     let here = sym c.slab_right.ensures ∙ not-false _ c.if-not-slab_right.false-raw in
-    (omega arith, part_right (s.args.n * s.args.n) s.args.n l.loop-k.k s.args.part.now (whole s) (test s) (omega arith) l.loop-k.invariant.1 here)
+    (omega arith, part_right (s.args.n * s.args.n) s.args.n c.loop-k.k s.args.part.now (whole s) (test s) (omega arith) c.loop-k.invariant.1 here)
 
 returns : tie.Need-returns invariant-loop-k decreases-loop-k
 returns c =
-    let l = c in
-    let s = start l.before in
-    parts_right (s.args.n * s.args.n) s.args.n l.loop-k.k s.args.part.now (whole s) (test s) (omega arith) l.loop-k.invariant.1
+    let s = start c.before in
+    parts_right (s.args.n * s.args.n) s.args.n c.loop-k.k s.args.part.now (whole s) (test s) (omega arith) c.loop-k.invariant.1
 
 pub slabs_right_spec : {M : Type 1} → statement M
 slabs_right_spec =

@@ -34,8 +34,7 @@ slice_bounds-set_nodes-end-2 c = sym (length-take-le (total c.before) _ (long c.
 
 set_nodes-requires : tie.Need-set_nodes-requires
 set_nodes-requires c κs =
-    let p = c in
-    ((start p.before).requires.0, (start p.before).requires.1, length-take-le (total p.before) _ (long p.before) ∙ p.child_total-total.ensures)
+    ((start c.before).requires.0, (start c.before).requires.1, length-take-le (total c.before) _ (long c.before) ∙ c.child_total-total.ensures)
 
 slice_bounds-zero_bytes-count : tie.Need-slice_bounds-zero_bytes-count
 slice_bounds-zero_bytes-count c = let within = long c.before.before.before.before in search rules
@@ -54,12 +53,9 @@ shape_of-kinds c = search rules
 
 returns : tie.Need-returns
 returns c =
-    let zeroed = c in
-    let set = zeroed in
-    let p = set in
-    let a = (start p.before.before.before.before.before.before.before.before).args in
-    all_set a.g (total p.before.before.before.before.before.before.before.before) p.child_total-total.ensures a.kinds.now set.set_nodes.new.kinds zeroed.zero_bytes.new.bytes (long p.before.before.before.before.before.before.before.before)
-    set.set_nodes.ensures refl zeroed.zero_bytes.ensures
+    let a = (start c.before.before.before.before.before.before.before.before).args in
+    all_set a.g (total c.before.before.before.before.before.before.before.before) c.child_total-total.ensures a.kinds.now c.set_nodes.new.kinds c.zero_bytes.new.bytes (long c.before.before.before.before.before.before.before.before)
+    c.set_nodes.ensures refl c.zero_bytes.ensures
 
 pub set_kinds_spec : {M : Type 1} → statement M
 set_kinds_spec =

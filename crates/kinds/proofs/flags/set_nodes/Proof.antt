@@ -33,16 +33,13 @@ whole p = of_nodes (start p).args.g (start p).args.kinds.now p.node_total-nodes.
 -- the kinds keep their length
 kept : (l : tie.At-loop-v invariant-loop-v decreases-loop-v) → length l.loop-v.kinds ≡ length (start l.before).args.kinds.now
 kept l =
-    let p = l in
-    kept_length p.cube_of-children.result p.node_total-nodes.result l.loop-v.v (start p.before).args.kinds.now (whole p.before) (active (start p.before).args.g)
+    kept_length l.cube_of-children.result l.node_total-nodes.result l.loop-v.v (start l.before).args.kinds.now (whole l.before) (active (start l.before).args.g)
     l.loop-v.invariant.1 l.loop-v.invariant.0
 
 -- the node's part ends inside them
-inside : (t : tie.In-loop-v invariant-loop-v decreases-loop-v) → let p = t in
-    t.loop-v.v * p.cube_of-children.result + p.cube_of-children.result ≤ length (start p.before.before).args.kinds.now
+inside : (t : tie.In-loop-v invariant-loop-v decreases-loop-v) → t.loop-v.v * t.cube_of-children.result + t.cube_of-children.result ≤ length (start t.before.before).args.kinds.now
 inside t =
-    let p = t in
-    part_inside p.cube_of-children.result p.node_total-nodes.result t.loop-v.v (start p.before.before).args.kinds.now (whole p.before.before) (omega arith)
+    part_inside t.cube_of-children.result t.node_total-nodes.result t.loop-v.v (start t.before.before).args.kinds.now (whole t.before.before) (omega arith)
 
 -- ---- what is left
 
@@ -77,13 +74,11 @@ slice_bounds-set_node-end c = omega (arith, inside c, kept c.before)
 
 set_node-requires : tie.Need-set_node-requires invariant-loop-v decreases-loop-v
 set_node-requires c κs =
-    let l = c in
-    let p = l in
-    let s = start p.before.before.before in (
+    let s = start c.before.before.before in (
       (inner_block _ s.requires.0).most,
-      next_long p.cube_of-children.result p.node_total-nodes.result l.loop-v.v s.args.kinds.now (whole p.before.before.before) (active s.args.g)
-          l.loop-v.invariant.1 (omega arith)
-          ∙ p.cube_of-children.ensures,
+      next_long c.cube_of-children.result c.node_total-nodes.result c.loop-v.v s.args.kinds.now (whole c.before.before.before) (active s.args.g)
+          c.loop-v.invariant.1 (omega arith)
+          ∙ c.cube_of-children.ensures,
     )
 
 overflow_add-v : tie.Need-overflow_add-v invariant-loop-v decreases-loop-v
@@ -94,12 +89,10 @@ loop-v-smaller c = search rules
 
 loop-v-preserved : tie.Need-loop-v-preserved invariant-loop-v decreases-loop-v
 loop-v-preserved c =
-    let l = c in
-    let p = l in
-    let s = start p.before.before.before.before.before.before in (
+    let s = start c.before.before.before.before.before.before in (
       omega arith,
-      part_set p.cube_of-children.result p.node_total-nodes.result l.loop-v.v s.args.kinds.now (whole p.before.before.before.before.before.before) (active s.args.g)
-          l.loop-v.invariant.1 (omega arith) (sym p.cube_of-children.ensures) c.set_node.ensures,
+      part_set c.cube_of-children.result c.node_total-nodes.result c.loop-v.v s.args.kinds.now (whole c.before.before.before.before.before.before) (active s.args.g)
+          c.loop-v.invariant.1 (omega arith) (sym c.cube_of-children.ensures) c.set_node.ensures,
     )
 
 shape_of-kinds : tie.Need-shape_of-kinds invariant-loop-v decreases-loop-v
@@ -107,13 +100,11 @@ shape_of-kinds c = kept c.before
 
 returns : tie.Need-returns invariant-loop-v decreases-loop-v
 returns c =
-    let l = c in
-    let p = l in
-    let s = start p.before.before in
-    parts_set p.cube_of-children.result p.node_total-nodes.result l.loop-v.v s.args.kinds.now (whole p.before.before) (active s.args.g)
-    l.loop-v.invariant.1 l.loop-v.invariant.0 (omega arith)
-    ∙ ap (λ n. flags_from (in_rows p.cube_of-children.result (active s.args.g)) n 0) (sym (whole p.before.before) ∙ s.requires.2)
-    ∙ ap (λ n. flags_from (in_rows n (active s.args.g)) (children_of s.args.g) 0) p.cube_of-children.ensures
+    let s = start c.before.before in
+    parts_set c.cube_of-children.result c.node_total-nodes.result c.loop-v.v s.args.kinds.now (whole c.before.before) (active s.args.g)
+    c.loop-v.invariant.1 c.loop-v.invariant.0 (omega arith)
+    ∙ ap (λ n. flags_from (in_rows c.cube_of-children.result (active s.args.g)) n 0) (sym (whole c.before.before) ∙ s.requires.2)
+    ∙ ap (λ n. flags_from (in_rows n (active s.args.g)) (children_of s.args.g) 0) c.cube_of-children.ensures
 
 pub set_nodes_spec : {M : Type 1} → statement M
 set_nodes_spec =

@@ -79,12 +79,11 @@ slice_bounds-set_row-end c = omega (arith, inside c.before.before, kept c.before
 
 set_row-requires : tie.Need-set_row-requires invariant-loop-j decreases-loop-j
 set_row-requires c κs =
-    let l = c in
-    let s = start l.before.before.before.before in
+    let s = start c.before.before.before.before in
     omega (
       arith,
-      next_long s.args.n s.args.n l.loop-j.j s.args.slab.now s.requires.1
-          (row_test s.args.xs.now s.args.ys.now) l.loop-j.invariant.1 (omega arith),
+      next_long s.args.n s.args.n c.loop-j.j s.args.slab.now s.requires.1
+          (row_test s.args.xs.now s.args.ys.now) c.loop-j.invariant.1 (omega arith),
     )
 
 overflow_add-j : tie.Need-overflow_add-j invariant-loop-j decreases-loop-j
@@ -95,13 +94,12 @@ loop-j-smaller c = search rules
 
 loop-j-preserved : tie.Need-loop-j-preserved invariant-loop-j decreases-loop-j
 loop-j-preserved c =
-    let l = c in
-    let s = start l.before.before.before.before.before.before.before in
-    let long = next_long s.args.n s.args.n l.loop-j.j s.args.slab.now s.requires.1
-    (row_test s.args.xs.now s.args.ys.now) l.loop-j.invariant.1 (omega arith) in (
+    let s = start c.before.before.before.before.before.before.before in
+    let long = next_long s.args.n s.args.n c.loop-j.j s.args.slab.now s.requires.1
+    (row_test s.args.xs.now s.args.ys.now) c.loop-j.invariant.1 (omega arith) in (
       omega arith,
-      part_set s.args.n s.args.n l.loop-j.j s.args.slab.now s.requires.1
-          (row_test s.args.xs.now s.args.ys.now) l.loop-j.invariant.1 (omega arith) long
+      part_set s.args.n s.args.n c.loop-j.j s.args.slab.now s.requires.1
+          (row_test s.args.xs.now s.args.ys.now) c.loop-j.invariant.1 (omega arith) long
           c.set_row.ensures,
     )
 
@@ -110,12 +108,11 @@ shape_of-slab c = kept c.before
 
 returns : tie.Need-returns invariant-loop-j decreases-loop-j
 returns c =
-    let l = c in
-    let s = start l.before in
+    let s = start c.before in
     let a = s.args in
-    parts_set a.n a.n l.loop-j.j a.slab.now s.requires.1
-    (row_test s.args.xs.now s.args.ys.now) l.loop-j.invariant.1 l.loop-j.invariant.0 (omega arith)
-    ∙ ap (λ (b : Bool). flags_from (λ i. b && slab_test a.n a.xs.now a.ys.now i) (a.n * a.n) 0) (sym (not-false a.met l.if-not-met.false-raw))
+    parts_set a.n a.n c.loop-j.j a.slab.now s.requires.1
+    (row_test s.args.xs.now s.args.ys.now) c.loop-j.invariant.1 c.loop-j.invariant.0 (omega arith)
+    ∙ ap (λ (b : Bool). flags_from (λ i. b && slab_test a.n a.xs.now a.ys.now i) (a.n * a.n) 0) (sym (not-false a.met c.if-not-met.false-raw))
 
 pub set_slab_spec : {M : Type 1} → statement M
 set_slab_spec =

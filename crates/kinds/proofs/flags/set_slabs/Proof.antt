@@ -76,9 +76,8 @@ slice_bounds-set_slab-end c = omega (arith, inside c.before.before, kept c.befor
 
 set_slab-requires : tie.Need-set_slab-requires invariant-loop-k decreases-loop-k
 set_slab-requires c κs =
-    let l = c in
-    let s = start l.before.before.before.before in
-    (omega arith, next_long (s.args.n * s.args.n) s.args.n l.loop-k.k s.args.part.now (whole s) (test s) l.loop-k.invariant.1 (omega arith))
+    let s = start c.before.before.before.before in
+    (omega arith, next_long (s.args.n * s.args.n) s.args.n c.loop-k.k s.args.part.now (whole s) (test s) c.loop-k.invariant.1 (omega arith))
 
 overflow_add-k : tie.Need-overflow_add-k invariant-loop-k decreases-loop-k
 overflow_add-k c = search rules
@@ -88,10 +87,9 @@ loop-k-smaller c = search rules
 
 loop-k-preserved : tie.Need-loop-k-preserved invariant-loop-k decreases-loop-k
 loop-k-preserved c =
-    let l = c in
-    let s = start l.before.before.before.before.before.before.before in (
+    let s = start c.before.before.before.before.before.before.before in (
       omega arith,
-      part_set (s.args.n * s.args.n) s.args.n l.loop-k.k s.args.part.now (whole s) (test s) l.loop-k.invariant.1 (omega arith) refl
+      part_set (s.args.n * s.args.n) s.args.n c.loop-k.k s.args.part.now (whole s) (test s) c.loop-k.invariant.1 (omega arith) refl
           c.set_slab.ensures,
     )
 
@@ -100,10 +98,9 @@ shape_of-part c = kept c.before
 
 returns : tie.Need-returns invariant-loop-k decreases-loop-k
 returns c =
-    let l = c in
-    let s = start l.before in
+    let s = start c.before in
     let n = s.args.n in
-    parts_set (s.args.n * s.args.n) n l.loop-k.k s.args.part.now (whole s) (test s) l.loop-k.invariant.1 l.loop-k.invariant.0 (omega arith)
+    parts_set (s.args.n * s.args.n) n c.loop-k.k s.args.part.now (whole s) (test s) c.loop-k.invariant.1 c.loop-k.invariant.0 (omega arith)
     ∙ ap (λ (r : ℕ). flags_from (node_test n s.args.xs.now s.args.ys.now s.args.zs.now) r 0) (sym (mul_assoc n n n))
 
 pub set_slabs_spec : {M : Type 1} → statement M

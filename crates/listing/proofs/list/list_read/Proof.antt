@@ -50,10 +50,9 @@ shape_of-out-in-Refused c = search rules
 
 returns-in-Refused : tie.Need-returns-in-Refused
 returns-in-Refused c =
-    let p = c in
-    let a = (start (judged p.before.before.before.before)).args in
+    let a = (start (judged c.before.before.before.before)).args in
     let refusal = c.write_refusal in
-    let is = refused_listed a.job _ _ refl (judged p.before.before.before.before).open-opened.ensures.0 _ p.in-Refused.is in
+    let is = refused_listed a.job _ _ refl (judged c.before.before.before.before).open-opened.ensures.0 _ c.in-Refused.is in
     (refusal.ensures.0 ∙ ap (λ bs. put_answer bs a.out.now) is, refusal.ensures.1 ∙ ap (λ bs. put_bytes bs a.out.now) is)
 
 enum_told-1 : tie.Need-enum_told-1

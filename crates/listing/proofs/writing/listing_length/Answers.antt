@@ -5,8 +5,7 @@ use Rattle.listing.proofs.writing.listing_length.Goals as goal
 
 pub overflow_add-result : goal.overflow_add-result
 overflow_add-result c =
-    let s = c in
-    let a = s.args in
+    let a = c.args in
     let done = done_length a.sheet.counts c.done_numbers-numbers.ensures in
     omega (
       arith,
@@ -14,7 +13,7 @@ overflow_add-result c =
       done,
       done_most a.sheet.counts,
       c.lines_length.ensures,
-      lengths_most a.sheet.total a.sheet.children a.sheet.points a.kinds.now s.requires.0,
+      lengths_most a.sheet.total a.sheet.children a.sheet.points a.kinds.now c.requires.0,
     )
 
 pub returns : goal.returns

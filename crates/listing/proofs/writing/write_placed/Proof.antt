@@ -37,26 +37,23 @@ listing_length-length-requires c κs = search rules
 
 returns-then-length-out : tie.Need-returns-then-length-out
 returns-then-length-out c =
-    let s = c in
-    let a = s.args in
-    let short : length a.out.now < length (bytes_of s.before.before.before.before.before.before.before) = omega (arith, c.if-length-out.true, c.listing_length-length.ensures, measured s.before.before.before.before.before.before.before) in
-    (refused_answer (bytes_of s.before.before.before.before.before.before.before) a.out.now short, refused_bytes (bytes_of s.before.before.before.before.before.before.before) a.out.now short)
+    let a = c.args in
+    let short : length a.out.now < length (bytes_of c.before.before.before.before.before.before.before) = omega (arith, c.if-length-out.true, c.listing_length-length.ensures, measured c.before.before.before.before.before.before.before) in
+    (refused_answer (bytes_of c.before.before.before.before.before.before.before) a.out.now short, refused_bytes (bytes_of c.before.before.before.before.before.before.before) a.out.now short)
 
 put_listing-requires : tie.Need-put_listing-requires
 put_listing-requires c κs =
-    let s = c in
-    (s.requires, omega (arith, c.if-length-out.false, c.listing_length-length.ensures, measured s.before.before.before.before.before.before.before.before))
+    (c.requires, omega (arith, c.if-length-out.false, c.listing_length-length.ensures, measured c.before.before.before.before.before.before.before.before))
 
 shape_of-out : tie.Need-shape_of-out
 shape_of-out c = search rules
 
 returns : tie.Need-returns
 returns c =
-    let s = c in
-    let a = s.args in
+    let a = c.args in
     let length_is = c.listing_length-length.ensures in
-    let fits : length (bytes_of s.before.before.before.before.before.before.before.before.before.before.before) ≤ length a.out.now = omega (arith, c.if-length-out.false, length_is, measured s.before.before.before.before.before.before.before.before.before.before.before) in
-    (accepted_answer (bytes_of s.before.before.before.before.before.before.before.before.before.before.before) a.out.now (length_is ∙ sym (measured s.before.before.before.before.before.before.before.before.before.before.before)) fits, c.put_listing.ensures)
+    let fits : length (bytes_of c.before.before.before.before.before.before.before.before.before.before.before) ≤ length a.out.now = omega (arith, c.if-length-out.false, length_is, measured c.before.before.before.before.before.before.before.before.before.before.before) in
+    (accepted_answer (bytes_of c.before.before.before.before.before.before.before.before.before.before.before) a.out.now (length_is ∙ sym (measured c.before.before.before.before.before.before.before.before.before.before.before)) fits, c.put_listing.ensures)
 
 pub write_placed_spec : {M : Type 1} → statement M
 write_placed_spec =

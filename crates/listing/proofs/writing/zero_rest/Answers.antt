@@ -5,5 +5,4 @@ use Rattle.listing.proofs.writing.zero_rest.Goals as goal
 
 pub returns : goal.returns
 returns c =
-    let s = c in
-    rest_lent s.args.at 0 s.args.out.now s.requires refl c.zero_bytes.ensures
+    rest_lent c.args.at 0 c.args.out.now c.requires refl c.zero_bytes.ensures

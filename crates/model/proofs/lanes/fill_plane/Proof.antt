@@ -67,15 +67,13 @@ loop-i-smaller c = search rules
 
 loop-i-preserved : tie.Need-loop-i-preserved invariant-loop-i decreases-loop-i
 loop-i-preserved c =
-    let l = c in
-    (omega arith, lane_more _ _ l.loop-i.i (plane l.before.before.before.before.before) l.loop-i.invariant.1 c.plane_value.ensures)
+    (omega arith, lane_more _ _ c.loop-i.i (plane c.before.before.before.before.before) c.loop-i.invariant.1 c.plane_value.ensures)
 
 returns : tie.Need-returns invariant-loop-i decreases-loop-i
 returns c =
-    let l = c in
-    let a = l.args in
-    let all : l.loop-i.i ≡ a.n = omega arith in
-    l.loop-i.invariant.1 ∙ ap (λ (i : ℕ). filled_row a.values.now a.p i (plane l.before)) all
+    let a = c.args in
+    let all : c.loop-i.i ≡ a.n = omega arith in
+    c.loop-i.invariant.1 ∙ ap (λ (i : ℕ). filled_row a.values.now a.p i (plane c.before)) all
 
 pub fill_plane_spec : {M : Type 1} → statement M
 fill_plane_spec =

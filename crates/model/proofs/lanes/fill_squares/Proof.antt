@@ -68,15 +68,13 @@ loop-i-smaller c = search rules
 
 loop-i-preserved : tie.Need-loop-i-preserved invariant-loop-i decreases-loop-i
 loop-i-preserved c =
-    let l = c in
-    (omega arith, lane_more _ _ l.loop-i.i (square l.before.before.before.before.before) l.loop-i.invariant.1 c.square_distance.ensures)
+    (omega arith, lane_more _ _ c.loop-i.i (square c.before.before.before.before.before) c.loop-i.invariant.1 c.square_distance.ensures)
 
 returns : tie.Need-returns invariant-loop-i decreases-loop-i
 returns c =
-    let l = c in
-    let a = l.args in
-    let all : l.loop-i.i ≡ a.n = omega arith in
-    l.loop-i.invariant.1 ∙ ap (λ (i : ℕ). filled_row a.values.now a.p i (square l.before)) all
+    let a = c.args in
+    let all : c.loop-i.i ≡ a.n = omega arith in
+    c.loop-i.invariant.1 ∙ ap (λ (i : ℕ). filled_row a.values.now a.p i (square c.before)) all
 
 pub fill_squares_spec : {M : Type 1} → statement M
 fill_squares_spec =

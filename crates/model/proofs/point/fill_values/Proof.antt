@@ -48,10 +48,9 @@ loop-p-smaller c = search rules
 
 loop-p-preserved : tie.Need-loop-p-preserved invariant-loop-p decreases-loop-p
 loop-p-preserved c =
-    let s = c in
-    let a = s.args in (
+    let a = c.args in (
       omega arith,
-      written_more (layout s.before.before) a.count a.x a.y a.z a.values.now s.loop-p.p (omega arith) (omega arith) s.loop-p.invariant.1 c.part_value-value.ensures,
+      written_more (layout c.before.before) a.count a.x a.y a.z a.values.now c.loop-p.p (omega arith) (omega arith) c.loop-p.invariant.1 c.part_value-value.ensures,
     )
 
 shape_of-values : tie.Need-shape_of-values invariant-loop-p decreases-loop-p
@@ -59,10 +58,9 @@ shape_of-values c = same_long c.before
 
 returns : tie.Need-returns invariant-loop-p decreases-loop-p
 returns c =
-    let s = c in
-    let a = s.args in
-    let last : s.loop-p.p ≡ a.count = omega arith in
-    (s.loop-p.invariant.1 ∙ ap (written (layout s.before) a.count a.x a.y a.z a.values.now) last, s.requires.1)
+    let a = c.args in
+    let last : c.loop-p.p ≡ a.count = omega arith in
+    (c.loop-p.invariant.1 ∙ ap (written (layout c.before) a.count a.x a.y a.z a.values.now) last, c.requires.1)
 
 pub fill_values_spec : {M : Type 1} → statement M
 fill_values_spec =

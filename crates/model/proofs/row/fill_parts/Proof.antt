@@ -40,23 +40,21 @@ loop-p-smaller c = search rules
 
 loop-p-preserved : tie.Need-loop-p-preserved invariant-loop-p decreases-loop-p
 loop-p-preserved c =
-    let l = c in
-    let a = l.args in
-    let part = ap (λ q. filled_row l.loop-p.values l.loop-p.p a.n
-    (λ k. part_value q (get_or a.px.now k past) (get_or a.py.now k past) (get_or a.pz.now k past) (lane l.loop-p.values k l.loop-p.p)))
+    let a = c.args in
+    let part = ap (λ q. filled_row c.loop-p.values c.loop-p.p a.n
+    (λ k. part_value q (get_or a.px.now k past) (get_or a.py.now k past) (get_or a.pz.now k past) (lane c.loop-p.values k c.loop-p.p)))
     c.entry_at-entry.ensures in (
       omega arith,
-      rows_more (layout l.before.before.before.before) a.n a.px.now a.py.now a.pz.now a.values.now l.loop-p.p l.loop-p.invariant.1 (c.fill_entry.ensures ∙ part),
+      rows_more (layout c.before.before.before.before) a.n a.px.now a.py.now a.pz.now a.values.now c.loop-p.p c.loop-p.invariant.1 (c.fill_entry.ensures ∙ part),
     )
 
 returns : tie.Need-returns invariant-loop-p decreases-loop-p
 returns c =
-    let s = c in
-    let a = s.args in
-    let all : s.loop-p.p ≡ a.count = omega arith in
-    s.loop-p.invariant.1
-    ∙ ap (rows_to (layout s.before) a.n a.px.now a.py.now a.pz.now a.values.now) all
-    ∙ all_rows (layout s.before) a.n a.px.now a.py.now a.pz.now a.values.now (omega arith) a.count
+    let a = c.args in
+    let all : c.loop-p.p ≡ a.count = omega arith in
+    c.loop-p.invariant.1
+    ∙ ap (rows_to (layout c.before) a.n a.px.now a.py.now a.pz.now a.values.now) all
+    ∙ all_rows (layout c.before) a.n a.px.now a.py.now a.pz.now a.values.now (omega arith) a.count
 
 pub fill_parts_spec : {M : Type 1} → statement M
 fill_parts_spec =

@@ -79,20 +79,18 @@ shape_of-list-then-count-most c = c.loop-corner.invariant.2
 
 returns-then-count-most : tie.Need-returns-then-count-most invariant-loop-corner decreases-loop-corner
 returns-then-count-most c =
-    let t = c in
-    let l = t.loop-corner in
+    let l = c.loop-corner in
     record {
       found = l.invariant.4;
-      within = omega (arith, below t.before.before.before);
+      within = omega (arith, below c.before.before.before);
       few = omega arith;
-      stops = inr (c.if-count-most.true, sym (tells t.before.before) ∙ c.if-has_child.true);
+      stops = inr (c.if-count-most.true, sym (tells c.before.before) ∙ c.if-has_child.true);
     }
 
 overflow_cast-list : tie.Need-overflow_cast-list invariant-loop-corner decreases-loop-corner
 overflow_cast-list c =
-    let t = c in
-    let side : (start t.before.before.before).args.n + 1 ≤ 65 = omega arith in
-    omega (arith, below t.before.before.before, mul-le-mul (mul-le-mul side side) side)
+    let side : (start c.before.before.before).args.n + 1 ≤ 65 = omega arith in
+    omega (arith, below c.before.before.before, mul-le-mul (mul-le-mul side side) side)
 
 offset_bounds-list-count : tie.Need-offset_bounds-list-count invariant-loop-corner decreases-loop-corner
 offset_bounds-list-count c = search rules
@@ -118,9 +116,8 @@ loop-corner-smaller c = search rules
 
 loop-corner-preserved : tie.Need-loop-corner-preserved invariant-loop-corner decreases-loop-corner
 loop-corner-preserved c =
-    let h = c in
-    let l = h.loop-corner in
-    let a = (start h.before.before.before).args in
+    let l = c.loop-corner in
+    let a = (start c.before.before.before).args in
     let side = a.n + 1 in
     let next =
     c.next_indices-at.ensures
@@ -128,18 +125,18 @@ loop-corner-preserved c =
     ∙ next_of side side (omega arith) (omega arith) l.corner in
     elim c.if-has_child.branch [
       | then-has_child+else-count-most w ↦ (
-        omega (arith, below h.before.before.before),
+        omega (arith, below c.before.before.before),
         omega (arith, w.count-is),
         ap length w.list-is ∙ length-set l.list l.count l.corner ∙ l.invariant.2,
         next,
-        gathering_more _ a.i l.corner l.count l.list l.invariant.4 (sym (tells h.before.before) ∙ w.if-has_child.true) (omega (arith, l.invariant.2)) w.list-is w.count-is,
+        gathering_more _ a.i l.corner l.count l.list l.invariant.4 (sym (tells c.before.before) ∙ w.if-has_child.true) (omega (arith, l.invariant.2)) w.list-is w.count-is,
       )
       | else-has_child w ↦ (
-        omega (arith, below h.before.before.before),
+        omega (arith, below c.before.before.before),
         omega (arith, w.count-is),
         ap length w.list-is ∙ l.invariant.2,
         next,
-        gathering_skip _ a.i l.corner l.count l.list l.invariant.4 (sym (tells h.before.before) ∙ w.if-has_child.false) w.list-is w.count-is,
+        gathering_skip _ a.i l.corner l.count l.list l.invariant.4 (sym (tells c.before.before) ∙ w.if-has_child.false) w.list-is w.count-is,
       )
     ]
 

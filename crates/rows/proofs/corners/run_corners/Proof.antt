@@ -132,13 +132,12 @@ slice_bounds-gather-end c = sym c.loop-next.invariant.1
 
 gather-found-requires : tie.Need-gather-found-requires invariant-loop-next decreases-loop-next
 gather-found-requires c κs =
-    let l = c in
-    let s = start l.before.before in (
+    let s = start c.before.before in (
       s.requires.0,
       s.requires.1,
       s.requires.2,
-      omega (arith, l.loop-next.invariant.0, l.cube_of-total.ensures),
-      omega (arith, l.loop-next.invariant.1, c.allowed.ensures),
+      omega (arith, c.loop-next.invariant.0, c.cube_of-total.ensures),
+      omega (arith, c.loop-next.invariant.1, c.allowed.ensures),
     )
 
 slice_bounds-list-end : tie.Need-slice_bounds-list-end invariant-loop-next decreases-loop-next
@@ -149,8 +148,7 @@ slice_bounds-corner_points-end c = sym (count_is c.before.before)
 
 corner_points-requires : tie.Need-corner_points-requires invariant-loop-next decreases-loop-next
 corner_points-requires c κs =
-    let g = c in
-    omega (arith, count_is g.before.before.before.before.before, (few g.before.before.before.before.before).0)
+    omega (arith, count_is c.before.before.before.before.before, (few c.before.before.before.before.before).0)
 
 evaluate_row_into-requires : tie.Need-evaluate_row_into-requires invariant-loop-next decreases-loop-next
 evaluate_row_into-requires c κs = search rules
@@ -176,10 +174,9 @@ shape_of-corners-then-next-total c = kept c.before.before.before
 
 returns-then-next-total : tie.Need-returns-then-next-total invariant-loop-next decreases-loop-next
 returns-then-next-total c =
-    let d = c in
-    let g = found d.before.before.before in
+    let g = found c.before.before.before in
     let l = turn g in
-    row_ended _ _ l.loop-next.invariant.4 g.gather-found.ensures g.allowed.ensures (stored d.before.before.before)
+    row_ended _ _ l.loop-next.invariant.4 g.gather-found.ensures g.allowed.ensures (stored c.before.before.before)
     (inl (c.if-next-total.true ∙ l.cube_of-total.ensures))
 
 shape_of-corners-then-left-eq0 : tie.Need-shape_of-corners-then-left-eq0 invariant-loop-next decreases-loop-next
@@ -187,9 +184,8 @@ shape_of-corners-then-left-eq0 c = kept c.before.before.before.before
 
 returns-then-left-eq0 : tie.Need-returns-then-left-eq0 invariant-loop-next decreases-loop-next
 returns-then-left-eq0 c =
-    let d = c in
-    let g = found d.before.before.before.before in
-    row_ended _ _ (turn g).loop-next.invariant.4 g.gather-found.ensures g.allowed.ensures (stored d.before.before.before.before)
+    let g = found c.before.before.before.before in
+    row_ended _ _ (turn g).loop-next.invariant.4 g.gather-found.ensures g.allowed.ensures (stored c.before.before.before.before)
     (⊎_elim inl (λ w. inr (c.if-left-eq0.true, w.1)) g.gather-found.ensures.stops)
 
 loop-next-smaller : tie.Need-loop-next-smaller invariant-loop-next decreases-loop-next
@@ -201,14 +197,13 @@ loop-next-smaller c =
 
 loop-next-preserved : tie.Need-loop-next-preserved invariant-loop-next decreases-loop-next
 loop-next-preserved c =
-    let d = c in
-    let g = found d.before.before.before.before in
+    let g = found c.before.before.before.before in
     let l = turn g in
-    let ran = row_ran _ _ l.loop-next.invariant.4 g.gather-found.ensures g.allowed.ensures (stored d.before.before.before.before) in (
+    let ran = row_ran _ _ l.loop-next.invariant.4 g.gather-found.ensures g.allowed.ensures (stored c.before.before.before.before) in (
       omega (arith, g.gather-found.ensures.within, l.cube_of-total.ensures),
       long g,
-      row_kept (made (evaluated d.before.before.before.before)) l.loop-next.invariant.2,
-      kept d.before.before.before.before,
+      row_kept (made (evaluated c.before.before.before.before)) l.loop-next.invariant.2,
+      kept c.before.before.before.before,
       ran,
     )
 

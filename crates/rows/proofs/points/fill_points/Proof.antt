@@ -106,9 +106,8 @@ allowed-n-requires c κs = search rules
 
 place_points-requires : tie.Need-place_points-requires invariant-loop-t decreases-loop-t
 place_points-requires c κs =
-    let r = c in
-    let m = counted (turn r.before.before.before.before) in
-    ((start m).requires.0, (start m).requires.1, (row r.before.before.before.before).2, omega (arith, (row r.before.before.before.before).1, ends m))
+    let m = counted (turn c.before.before.before.before) in
+    ((start m).requires.0, (start m).requires.1, (row c.before.before.before.before).2, omega (arith, (row c.before.before.before.before).1, ends m))
 
 evaluate_row_into-requires : tie.Need-evaluate_row_into-requires invariant-loop-t decreases-loop-t
 evaluate_row_into-requires c κs = search rules
@@ -132,8 +131,7 @@ loop-t-smaller c =
 
 loop-t-preserved : tie.Need-loop-t-preserved invariant-loop-t decreases-loop-t
 loop-t-preserved c =
-    let copied = c in
-    let e = evaluated copied.before.before in
+    let e = evaluated c.before.before in
     let r = unplaced (placed e) in
     let l = turn r in
     let s = start (counted l) in
@@ -150,7 +148,7 @@ loop-t-preserved c =
     } in
     let next =
     filled_more a.p l.loop-t.t r.allowed-n.result value a.stretch.now l.loop-t.invariant.3
-    (copied.copy_row.ensures
+    (c.copy_row.ensures
     ∙ filled_same from r.allowed-n.result _ value l.loop-t.stretch
     (λ q low below.
     let here : from + (q - from) ≡ q = omega arith in
@@ -167,19 +165,18 @@ shape_of-stretch c = c.loop-t.invariant.2
 
 returns : tie.Need-returns invariant-loop-t decreases-loop-t
 returns c =
-    let l = c in
-    let m = counted l.before in
+    let m = counted c.before in
     let s = start m in
     let a = s.args in
     let value = at (flat_value a.words.now a.reals.now a.parts) in
-    let done : l.loop-t.t ≡ m.allowed-made.result = omega arith in
+    let done : c.loop-t.t ≡ m.allowed-made.result = omega arith in
     let points =
     axes_leaf a.b a.l s.requires.0 s.requires.1
-    l.axis_points.ensures l.axis_points-2.ensures l.axis_points-3.ensures in (
+    c.axis_points.ensures c.axis_points-2.ensures c.axis_points-3.ensures in (
       ap (λ n. a.p + n) (made_is m),
       filled_done a.p (λ q. value (leaf_point a.b a.l q)) a.stretch.now
-          (l.loop-t.invariant.3
-          ∙ filled_same a.p l.loop-t.t _ _ a.stretch.now (λ q low below. ap value (points q (omega (arith, ends m)))))
+          (c.loop-t.invariant.3
+          ∙ filled_same a.p c.loop-t.t _ _ a.stretch.now (λ q low below. ap value (points q (omega (arith, ends m)))))
           (done ∙ made_is m),
     )
 

@@ -31,9 +31,8 @@ decreases-loop-q l p count axes xs₀ ys₀ zs₀ side at₀ q₀ xs ys zs at q 
 inside : (c : tie.In-loop-q invariant-loop-q decreases-loop-q) → Within c.args.l c.loop-q.at
 inside c =
     let l = c.loop-q in
-    let start = c in
-    let a = start.args in
-    subst (Within a.l) (sym l.invariant.1) (within a.l (a.p + l.q) start.requires.0 (omega (arith, c.loop-q-test.true, start.requires.3)))
+    let a = c.args in
+    subst (Within a.l) (sym l.invariant.1) (within a.l (a.p + l.q) c.requires.0 (omega (arith, c.loop-q-test.true, c.requires.3)))
 
 indices-at-requires : tie.Need-indices-at-requires invariant-loop-q decreases-loop-q
 indices-at-requires c κs = search rules
@@ -88,9 +87,8 @@ bounds-zs-q c = search rules
 
 next_indices-at-requires : tie.Need-next_indices-at-requires invariant-loop-q decreases-loop-q
 next_indices-at-requires c κs =
-    let t = c in
-    let w = inside t.before.before.before in
-    (w.i_below, w.j_below, omega (arith, w.k_below, t.requires.1))
+    let w = inside c.before.before.before in
+    (w.i_below, w.j_below, omega (arith, w.k_below, c.requires.1))
 
 overflow_add-q : tie.Need-overflow_add-q invariant-loop-q decreases-loop-q
 overflow_add-q c = search rules
@@ -101,17 +99,15 @@ loop-q-smaller c = search rules
 loop-q-preserved : tie.Need-loop-q-preserved invariant-loop-q decreases-loop-q
 unfolding axes_point
 loop-q-preserved c =
-    let t = c in
-    let l = t.loop-q in
-    let start = t in
-    let a = start.args in
+    let l = c.loop-q in
+    let a = c.args in
     let q = l.q in
     let inv = l.invariant in
     let point : ℕ → Vec3 = λ q. axes_point a.l a.axes.now (a.p + q) in (
-      omega (arith, t.loop-q-test.true),
+      omega (arith, c.loop-q-test.true),
       c.next_indices-at.ensures
           ∙ ap (λ v. next_indices v a.l a.l) inv.1
-          ∙ next_of a.l a.l start.requires.0 start.requires.0 (a.p + q)
+          ∙ next_of a.l a.l c.requires.0 c.requires.0 (a.p + q)
           ∙ ap (λ m. indices_of m a.l a.l) (add_assoc a.p q 1),
       front_store q (λ q. (point q).x) a.xs.now inv.2 (ap (λ v. get_or a.axes.now v.i past) inv.1),
       front_store q (λ q. (point q).y) a.ys.now inv.3 (ap (λ v. get_or a.axes.now (64 + v.j) past) inv.1),

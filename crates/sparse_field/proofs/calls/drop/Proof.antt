@@ -34,8 +34,7 @@ shape_of-corners c = search rules
 
 returns : tie.Need-returns
 returns c =
-    let s = c in
-    let done = drop_accepted s.args.found (memory s.before.before.before.before.before.before.before.before.before.before.before.before.before.before.before.before.before.before.before.before.before.before) in (
+    let done = drop_accepted c.args.found (memory c.before.before.before.before.before.before.before.before.before.before.before.before.before.before.before.before.before.before.before.before.before.before) in (
       sym (ap (λ h. h.answer) done),
       (
         c.no_record.ensures ∙ sym (ap (λ h. h.next.job_record) done),

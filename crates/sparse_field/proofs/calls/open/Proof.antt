@@ -52,9 +52,8 @@ shape_of-corners-in-By c = search rules
 
 returns-in-By : tie.Need-returns-in-By
 returns-in-By c =
-    let r = c in
-    let a = (start r.before.before).args in
-    let done = open_refused a.input a.found (memory r.before.before) _ (refused r.before ∙ c.in-By.is) in
+    let a = (start c.before.before).args in
+    let done = open_refused a.input a.found (memory c.before.before) _ (refused c.before ∙ c.in-By.is) in
     (sym (ap (λ h. h.answer) done), (sym (ap (λ h. h.next.job_record) done), sym (ap (λ h. h.next.memory) done)))
 
 enum_told-1 : tie.Need-enum_told-1
@@ -62,9 +61,7 @@ enum_told-1 c = search rules
 
 opened-next-requires : tie.Need-opened-next-requires
 opened-next-requires c κs =
-    let told = c in
-    let r = told in
-    (r.lengths_of-lengths.ensures, ap number_of (refused r.before.before.before.before.before.before ∙ told.in_default.is))
+    (c.lengths_of-lengths.ensures, ap number_of (refused c.before.before.before.before.before.before ∙ c.in_default.is))
 
 shape_of-kinds : tie.Need-shape_of-kinds
 shape_of-kinds c = search rules
@@ -83,11 +80,9 @@ shape_of-corners c = search rules
 
 returns : tie.Need-returns
 returns c =
-    let told = c in
-    let r = told in
-    let a = (start r.before.before.before.before.before.before.before.before.before.before.before.before.before.before.before.before.before.before).args in
+    let a = (start c.before.before.before.before.before.before.before.before.before.before.before.before.before.before.before.before.before.before).args in
     let opened = c.opened-next.ensures in
-    let done = open_accepted a.input a.found (memory r.before.before.before.before.before.before.before.before.before.before.before.before.before.before.before.before.before.before) (ap number_of (refused r.before.before.before.before.before.before.before.before.before.before.before.before.before.before.before.before.before ∙ told.in_default.is)) in (
+    let done = open_accepted a.input a.found (memory c.before.before.before.before.before.before.before.before.before.before.before.before.before.before.before.before.before.before) (ap number_of (refused c.before.before.before.before.before.before.before.before.before.before.before.before.before.before.before.before.before ∙ c.in_default.is)) in (
       sym (ap (λ h. h.answer) done),
       (opened.0 ∙ sym (ap (λ h. h.next.job_record) done), opened.1 ∙ sym (ap (λ h. h.next.memory) done)),
     )

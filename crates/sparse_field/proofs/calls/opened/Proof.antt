@@ -45,12 +45,11 @@ prepare-requires c κs = search rules
 
 run_job-turn-requires : tie.Need-run_job-turn-requires
 run_job-turn-requires c κs =
-    let p = c in
-    let none = (start p.before.before.before.before.before.before.before.before.before.before.before.before.before.before.before).requires.1 in (
-      (sized (input p.before.before.before.before.before.before.before.before.before.before.before.before.before.before.before) (clear p.before.before.before.before.before.before.before.before.before.before.before.before.before.before.before), (clear p.before.before.before.before.before.before.before.before.before.before.before.before.before.before.before).four),
+    let none = (start c.before.before.before.before.before.before.before.before.before.before.before.before.before.before.before).requires.1 in (
+      (sized (input c.before.before.before.before.before.before.before.before.before.before.before.before.before.before.before) (clear c.before.before.before.before.before.before.before.before.before.before.before.before.before.before.before), (clear c.before.before.before.before.before.before.before.before.before.before.before.before.before.before.before).four),
       (
-        subst (λ m. Lent (plan_of (input p.before.before.before.before.before.before.before.before.before.before.before.before.before.before.before)) m) (sym p.prepare.ensures) (start_lent (input p.before.before.before.before.before.before.before.before.before.before.before.before.before.before.before) (lent p.before.before.before.before.before.before.before.before.before.before.before.before.before.before.before) none),
-        start_startable (input p.before.before.before.before.before.before.before.before.before.before.before.before.before.before.before) (lent p.before.before.before.before.before.before.before.before.before.before.before.before.before.before.before) none,
+        subst (λ m. Lent (plan_of (input c.before.before.before.before.before.before.before.before.before.before.before.before.before.before.before)) m) (sym c.prepare.ensures) (start_lent (input c.before.before.before.before.before.before.before.before.before.before.before.before.before.before.before) (lent c.before.before.before.before.before.before.before.before.before.before.before.before.before.before.before) none),
+        start_startable (input c.before.before.before.before.before.before.before.before.before.before.before.before.before.before.before) (lent c.before.before.before.before.before.before.before.before.before.before.before.before.before.before.before) none,
         omega arith,
       ),
     )
@@ -61,40 +60,38 @@ grid_counts-counted-requires c κs = let p = prepared c.before.before.before.bef
 
 record_of-requires : tie.Need-record_of-requires
 record_of-requires c κs =
-    let r = c in
-    let p = prepared r.before.before.before.before.before.before.before.before.before.before.before.before in
+    let p = prepared c.before.before.before.before.before.before.before.before.before.before.before.before in
     let size = sized (input p) (clear p) in (
       omega (
         arith,
-        opened_leaves (input p) (lent p) (start p).requires.1 p.prepare.ensures r.run_job-turn.ensures,
+        opened_leaves (input p) (lent p) (start p).requires.1 p.prepare.ensures c.run_job-turn.ensures,
         active_within (input p) size,
       ),
       size.leaf_most,
     )
 
 shape_of-kinds : tie.Need-shape_of-kinds
-shape_of-kinds c = let r = c in c.kinds-2-1.given ∙ r.kinds-1.given
+shape_of-kinds c = c.kinds-2-1.given ∙ c.kinds-1.given
 
 shape_of-numbers : tie.Need-shape_of-numbers
-shape_of-numbers c = let r = c in c.numbers-2-1.given ∙ r.numbers-1.given
+shape_of-numbers c = c.numbers-2-1.given ∙ c.numbers-1.given
 
 shape_of-places : tie.Need-shape_of-places
-shape_of-places c = let r = c in c.places-2-1.given ∙ r.places-1.given
+shape_of-places c = c.places-2-1.given ∙ c.places-1.given
 
 shape_of-store : tie.Need-shape_of-store
-shape_of-store c = let r = c in c.store-2-1.given ∙ r.store-1.given
+shape_of-store c = c.store-2-1.given ∙ c.store-1.given
 
 shape_of-corners : tie.Need-shape_of-corners
-shape_of-corners c = let r = c in c.corners-2-1.given ∙ r.corners-1.given
+shape_of-corners c = c.corners-2-1.given ∙ c.corners-1.given
 
 returns : tie.Need-returns
 returns c =
-    let r = c in
-    let p = prepared r.before.before.before.before.before.before.before.before.before.before.before.before.before in
+    let p = prepared c.before.before.before.before.before.before.before.before.before.before.before.before.before in
     let i = input p in
-    let engine = opened_after i (lent p) (start p).requires.1 p.prepare.ensures r.run_job-turn.ensures in (
+    let engine = opened_after i (lent p) (start p).requires.1 p.prepare.ensures c.run_job-turn.ensures in (
       c.record_of.ensures
-          ∙ record_same i r.run_job-turn.result (start p).requires.0
+          ∙ record_same i c.run_job-turn.result (start p).requires.0
           (c.grid_counts-counted.ensures ∙ counts_same i.grid (decide_by i.band) (value_of i.model)) refl
           ∙ sym (ap (λ e. e.job_record) engine),
       sym (ap (λ e. e.memory) engine),

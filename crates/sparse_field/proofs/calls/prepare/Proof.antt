@@ -37,9 +37,8 @@ zero_all-requires c κs = search rules
 set_kinds-requires : tie.Need-set_kinds-requires
 unfolding children_of
 set_kinds-requires c κs =
-    let z = c in
-    let none = nothing (start z.before.before.before.before.before.before.before.before.before.before.before.before).args.input (lengths_of (memory z.before.before.before.before.before.before.before.before.before.before.before.before)) (start z.before.before.before.before.before.before.before.before.before.before.before.before).requires in
-    (none.two, none.five, omega (arith, none.lent.kinds, long z.before.before.before.before.before.before.before.before.before.before.before.before))
+    let none = nothing (start c.before.before.before.before.before.before.before.before.before.before.before.before).args.input (lengths_of (memory c.before.before.before.before.before.before.before.before.before.before.before.before)) (start c.before.before.before.before.before.before.before.before.before.before.before.before).requires in
+    (none.two, none.five, omega (arith, none.lent.kinds, long c.before.before.before.before.before.before.before.before.before.before.before.before))
 
 shape_of-kinds : tie.Need-shape_of-kinds
 shape_of-kinds c = search rules
@@ -59,9 +58,8 @@ shape_of-corners c = search rules
 returns : tie.Need-returns
 unfolding opened plan_with
 returns c =
-    let z = c in
-    let zero = z.zero_all.ensures in
-    let kinds = c.set_kinds.ensures ∙ ap (λ n. flags_from (active_child (start z.before.before.before.before.before.before.before.before.before.before.before.before.before.before.before).args.input.grid) n 0) (long z.before.before.before.before.before.before.before.before.before.before.before.before.before.before.before) in
+    let zero = c.zero_all.ensures in
+    let kinds = c.set_kinds.ensures ∙ ap (λ n. flags_from (active_child (start c.before.before.before.before.before.before.before.before.before.before.before.before.before.before.before).args.input.grid) n 0) (long c.before.before.before.before.before.before.before.before.before.before.before.before.before.before.before) in
     λ t. memory_of (kinds t) (zero t).numbers (zero t).places (zero t).store (zero t).corners
 
 pub prepare_spec : {M : Type 1} → statement M

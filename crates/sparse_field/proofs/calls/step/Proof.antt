@@ -26,9 +26,8 @@ flagged p = not-false _ p.if-not-found.false
 
 returns-then-not-found : tie.Need-returns-then-not-found
 returns-then-not-found c =
-    let s = c in
-    let a = s.args in
-    let done = step_none a.budget a.found (memory s.before.before.before.before.before.before.before) (not-true _ c.if-not-found.true) in
+    let a = c.args in
+    let done = step_none a.budget a.found (memory c.before.before.before.before.before.before.before) (not-true _ c.if-not-found.true) in
     (sym (ap (λ h. h.answer) done), (sym (ap (λ h. h.next.job_record) done), sym (ap (λ h. h.next.memory) done)))
 
 is_impossible-requires : tie.Need-is_impossible-requires
@@ -51,9 +50,8 @@ shape_of-corners-then-is_impossible c = search rules
 
 returns-then-is_impossible : tie.Need-returns-then-is_impossible
 returns-then-is_impossible c =
-    let p = c in
-    let a = (start p.before).args in
-    let done = step_impossible a.budget a.found (memory (start p.before)) (flagged p.before) (sym p.is_impossible.ensures ∙ c.if-is_impossible.true) in
+    let a = (start c.before).args in
+    let done = step_impossible a.budget a.found (memory (start c.before)) (flagged c.before) (sym c.is_impossible.ensures ∙ c.if-is_impossible.true) in
     (sym (ap (λ h. h.answer) done), (sym (ap (λ h. h.next.job_record) done), sym (ap (λ h. h.next.memory) done)))
 
 stepped-next-requires : tie.Need-stepped-next-requires
@@ -76,11 +74,9 @@ shape_of-corners c = search rules
 
 returns : tie.Need-returns
 returns c =
-    let passed = c in
-    let p = passed in
-    let a = (start p.before.before.before.before.before.before.before.before.before.before.before.before.before.before.before.before.before).args in
+    let a = (start c.before.before.before.before.before.before.before.before.before.before.before.before.before.before.before.before.before).args in
     let stepped = c.stepped-next.ensures in
-    let done = step_accepted a.budget a.found (memory (start p.before.before.before.before.before.before.before.before.before.before.before.before.before.before.before.before.before)) (flagged p.before.before.before.before.before.before.before.before.before.before.before.before.before.before.before.before.before) (sym p.is_impossible.ensures ∙ passed.if-is_impossible.false) in (
+    let done = step_accepted a.budget a.found (memory (start c.before.before.before.before.before.before.before.before.before.before.before.before.before.before.before.before.before)) (flagged c.before.before.before.before.before.before.before.before.before.before.before.before.before.before.before.before.before) (sym c.is_impossible.ensures ∙ c.if-is_impossible.false) in (
       sym (ap (λ h. h.answer) done),
       (stepped.0 ∙ sym (ap (λ h. h.next.job_record) done), stepped.1 ∙ sym (ap (λ h. h.next.memory) done)),
     )

@@ -57,12 +57,11 @@ start r = r.before.before.before.before.before.before.before.before.before.befor
 
 run_job-turn-requires : tie.Need-run_job-turn-requires
 run_job-turn-requires c κs =
-    let s = c in
-    let j = s.args.job in
-    let p = judged s.before.before.before.before.before.before.before.before.before.before.before.before in (
-      (size s.before.before.before.before.before.before.before.before.before.before.before.before, (cause s.before.before.before.before.before.before.before.before.before.before.before.before).four),
+    let j = c.args.job in
+    let p = judged c.before.before.before.before.before.before.before.before.before.before.before.before in (
+      (size c.before.before.before.before.before.before.before.before.before.before.before.before, (cause c.before.before.before.before.before.before.before.before.before.before.before.before).four),
       (
-        all s.before.before.before.before.before.before.before.before.before.before.before.before,
+        all c.before.before.before.before.before.before.before.before.before.before.before.before,
         valid_startable (plan_of j.input) j.cursor j.counts.leaves p.cursor p.at_most p.at_least,
         omega (arith, p.at_most, up_to_most (plan_of j.input) j.cursor p.cursor),
       ),
@@ -70,27 +69,24 @@ run_job-turn-requires c κs =
 
 overflow_sub-evaluations : tie.Need-overflow_sub-evaluations
 overflow_sub-evaluations c =
-    let r = c in
-    left_most (start r.before.before.before.before.before.before.before.before.before.before.before).args.job.input (lengths_of (memory (start r.before.before.before.before.before.before.before.before.before.before.before))) 0 _ _ _ _ _ _ _ r.run_job-turn.ensures
+    left_most (start c.before.before.before.before.before.before.before.before.before.before.before).args.job.input (lengths_of (memory (start c.before.before.before.before.before.before.before.before.before.before.before))) 0 _ _ _ _ _ _ _ c.run_job-turn.ensures
 
 overflow_add-evaluations : tie.Need-overflow_add-evaluations
 overflow_add-evaluations c =
-    let r = c in
-    let s = start r.before.before.before.before.before.before.before.before.before.before.before.before in
+    let s = start c.before.before.before.before.before.before.before.before.before.before.before.before in
     let j = s.args.job in
     let p = judged s in
-    omega (arith, p.evaluations, few s, made_most j.input (laws s) _ _ _ _ _ j.cursor _ r.run_job-turn.ensures p.cursor)
+    omega (arith, p.evaluations, few s, made_most j.input (laws s) _ _ _ _ _ j.cursor _ c.run_job-turn.ensures p.cursor)
 
 record_of-requires : tie.Need-record_of-requires
 record_of-requires c κs =
-    let r = c in
-    let s = start r.before.before.before.before.before.before.before.before.before.before.before.before.before.before.before in
+    let s = start c.before.before.before.before.before.before.before.before.before.before.before.before.before.before.before in
     let j = s.args.job in
     let p = judged s in (
       omega (
         arith,
         active_within j.input (size s),
-        leaves_after j.input (laws s) _ _ _ _ _ j.cursor _ r.run_job-turn.ensures p.cursor (all s).corners p.at_least p.at_most,
+        leaves_after j.input (laws s) _ _ _ _ _ j.cursor _ c.run_job-turn.ensures p.cursor (all s).corners p.at_least p.at_most,
       ),
       (size s).leaf_most,
     )
@@ -112,10 +108,9 @@ shape_of-corners c = search rules
 
 returns : tie.Need-returns
 returns c =
-    let r = c in
-    let s = start r.before.before.before.before.before.before.before.before.before.before.before.before.before.before.before.before in
+    let s = start c.before.before.before.before.before.before.before.before.before.before.before.before.before.before.before.before in
     let j = s.args.job in
-    let work = r.run_job-turn in
+    let work = c.run_job-turn in
     let engine =
     engine_after j.input j.lengths j.counts.evaluations s.args.budget j.counts.leaves _ (memory s) _ _
     work.result work.ensures in (

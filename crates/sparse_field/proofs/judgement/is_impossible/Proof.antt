@@ -31,11 +31,9 @@ caused m =
     m.meets_cause.ensures ∙ ap (λ l. not (eqb (number_of (refusal_of i l)) 0)) m.lengths_of-lengths.ensures
 
 -- whether the lengths are the record's
-measured : (s : tie.After-same_lengths) → let l = s in
-    s.same_lengths.result ≡ same_lengths (start l.before.before.before.before).args.job.lengths (lent l.before.before.before.before)
+measured : (s : tie.After-same_lengths) → s.same_lengths.result ≡ same_lengths (start s.before.before.before.before).args.job.lengths (lent s.before.before.before.before)
 measured s =
-    let l = s in
-    s.same_lengths.ensures ∙ ap (same_lengths (start l.before.before.before.before).args.job.lengths) l.lengths_of-lengths.ensures
+    s.same_lengths.ensures ∙ ap (same_lengths (start s.before.before.before.before).args.job.lengths) s.lengths_of-lengths.ensures
 
 -- ---- where a test is passed
 
@@ -67,10 +65,9 @@ same_lengths-requires c κs = search rules
 
 returns-then-not-same_lengths : tie.Need-returns-then-not-same_lengths
 returns-then-not-same_lengths c =
-    let m = c in
-    let a = (start m.before.before.before.before.before).args in
+    let a = (start c.before.before.before.before.before).args in
     impossible_lengths a.job a.kinds.now a.numbers.now a.places.now a.store.now a.corners.now
-    (sym (caused m.before.before.before.before) ∙ c.if-meets_cause.false) (ap not (sym (measured c.before)) ∙ c.if-not-same_lengths.true-raw)
+    (sym (caused c.before.before.before.before) ∙ c.if-meets_cause.false) (ap not (sym (measured c.before)) ∙ c.if-not-same_lengths.true-raw)
 
 kinds_right-requires : tie.Need-kinds_right-requires
 unfolding children_of
@@ -82,25 +79,22 @@ kinds_right-requires c κs =
 returns-then-not-kinds_right : tie.Need-returns-then-not-kinds_right
 unfolding plan_with
 returns-then-not-kinds_right c =
-    let p = c in
-    let a = (start (known p.before.before.before)).args in
-    impossible_kinds a.job a.kinds.now a.numbers.now a.places.now a.store.now a.corners.now (no_cause_lem p.before.before.before) (same p.before.before.before)
+    let a = (start (known c.before.before.before)).args in
+    impossible_kinds a.job a.kinds.now a.numbers.now a.places.now a.store.now a.corners.now (no_cause_lem c.before.before.before) (same c.before.before.before)
     (ap not (sym c.kinds_right.ensures) ∙ c.if-not-kinds_right.true-raw)
 
 wrong_progress-requires : tie.Need-wrong_progress-requires
 unfolding plan_with
 wrong_progress-requires c κs =
-    let p = c in
-    let a = (start (known p.before.before.before.before.before)).args in
-    possible_kinds a.job a.kinds.now a.numbers.now a.places.now a.store.now a.corners.now (no_cause_lem p.before.before.before.before.before) (same p.before.before.before.before.before)
+    let a = (start (known c.before.before.before.before.before)).args in
+    possible_kinds a.job a.kinds.now a.numbers.now a.places.now a.store.now a.corners.now (no_cause_lem c.before.before.before.before.before) (same c.before.before.before.before.before)
     (ap not (sym c.kinds_right.ensures) ∙ c.if-not-kinds_right.false-raw)
 
 returns : tie.Need-returns
 unfolding plan_with
 returns c =
-    let p = c in
-    let a = (start (known p.before.before.before.before.before.before)).args in
-    impossible_progress a.job a.kinds.now a.numbers.now a.places.now a.store.now a.corners.now (no_cause_lem p.before.before.before.before.before.before) (same p.before.before.before.before.before.before)
+    let a = (start (known c.before.before.before.before.before.before)).args in
+    impossible_progress a.job a.kinds.now a.numbers.now a.places.now a.store.now a.corners.now (no_cause_lem c.before.before.before.before.before.before) (same c.before.before.before.before.before.before)
     (ap not (sym c.kinds_right.ensures) ∙ c.if-not-kinds_right.false-raw)
     c.wrong_progress.ensures
 

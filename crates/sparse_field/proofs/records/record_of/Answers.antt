@@ -8,9 +8,8 @@ use Rattle.sparse_field.proofs.records.record_of.Goals as goal
 
 pub overflow_mul-sampled : goal.overflow_mul-sampled
 overflow_mul-sampled c =
-    let s = c in
-    let few : c.cube_of.result ≤ 262144 = omega (arith, c.cube_of.ensures, cube_le 64 s.args.input.grid.leaf s.requires.1) in
-    omega (arith, store_few s.args.turn.leaves c.cube_of.result s.requires.0 few)
+    let few : c.cube_of.result ≤ 262144 = omega (arith, c.cube_of.ensures, cube_le 64 c.args.input.grid.leaf c.requires.1) in
+    omega (arith, store_few c.args.turn.leaves c.cube_of.result c.requires.0 few)
 
 pub returns : goal.returns
 returns c =
