@@ -2,7 +2,6 @@
 ghost use Rattle.std.specs.Prelude.{◌<◌, ◌≤◌};
 
 use crate::numbers;
-use geometry::{Index1d, Index3d};
 
 // `place`: three indices and the dimensions; the place in a flat list.
 pub fn place(fields: &[u64; 160], answers: &mut [u64; 160]) -> usize
@@ -11,13 +10,13 @@ pub fn place(fields: &[u64; 160], answers: &mut [u64; 160]) -> usize
     let c = numbers::counts_at(fields, 0);
     let n = numbers::counts_at(fields, 3);
     match geometry::index1d_from_index3d(c.i, c.j, c.k, n.i, n.j, n.k) {
-        Index1d::At(at) => {
+        Ok(at) => {
             answers[0] = 0;
             numbers::put_count(answers, 1, at);
             2
         }
-        Index1d::Refused(cause) => {
-            answers[0] = numbers::cause(cause);
+        Err(cause) => {
+            answers[0] = numbers::cause(cause.number());
             1
         }
     }
@@ -30,13 +29,13 @@ pub fn indices(fields: &[u64; 160], answers: &mut [u64; 160]) -> usize
     let at = numbers::count_at(fields, 0);
     let n = numbers::counts_at(fields, 1);
     match geometry::index3d_from_index1d(at, n.i, n.j, n.k) {
-        Index3d::At(c) => {
+        Ok(c) => {
             answers[0] = 0;
             numbers::put_counts(answers, 1, c);
             4
         }
-        Index3d::Refused(cause) => {
-            answers[0] = numbers::cause(cause);
+        Err(cause) => {
+            answers[0] = numbers::cause(cause.number());
             1
         }
     }

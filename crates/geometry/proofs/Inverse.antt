@@ -6,10 +6,9 @@ use native.Mathlib.Nat.{mul-pos, mul_comm, mul_assoc, mul-le-mul_right, div-add-
 use native.Mathlib.Omega.{arith}
 use borrow.Author.Tests.{lt-ltb}
 use Rattle.geometry.specs.Values.{vec3i}
-use Rattle.geometry.specs.Causes.{first_of}
+use Rattle.std.specs.Prelude.{Ok}
+use Rattle.causes.specs.First.{first_of}
 use Rattle.geometry.specs.Index.{dimensions_refused, place_of, indices_of, index1d_of, index3d_of}
-use Rattle.geometry.specs.declared.Index1d.TheVariants as index1d
-use Rattle.geometry.specs.declared.Index3d.TheVariants as index3d
 use Rattle.geometry.proofs.Grid.{accepted, place_below}
 
 -- q * d + r, taken apart by d
@@ -53,22 +52,22 @@ module _ (n nx ny : ℕ) (hx : 0 < nx) (hy : 0 < ny) where
 
 -- an index in range has its place, and the place gives the index back
 module _ (nx ny nz : ℕ) (passed : dimensions_refused nx ny nz ≡ false) where
-  pub there : (i j k : ℕ) → i < nx → j < ny → k < nz → index1d_of i j k nx ny nz ≡ index1d.At (place_of i j k nx ny)
+  pub there : (i j k : ℕ) → i < nx → j < ny → k < nz → index1d_of i j k nx ny nz ≡ Ok (place_of i j k nx ny)
   unfolding first_of index1d_of
   there i j k hi hj hk = simp (passed, lt-ltb _ _ hi, lt-ltb _ _ hj, lt-ltb _ _ hk)
 
-  pub there_and_back : (i j k : ℕ) → i < nx → j < ny → k < nz → index3d_of (place_of i j k nx ny) nx ny nz ≡ index3d.At (vec3i i j k)
+  pub there_and_back : (i j k : ℕ) → i < nx → j < ny → k < nz → index3d_of (place_of i j k nx ny) nx ny nz ≡ Ok (vec3i i j k)
   unfolding first_of index3d_of place_of
   there_and_back i j k hi hj hk =
       simp (passed, lt-ltb _ _ (place_below (accepted nx ny nz passed) i j k hi hj hk))
-      (ap index3d.At (indices_of_place nx ny i j k hi hj))
+      (ap Ok (indices_of_place nx ny i j k hi hj))
 
-  pub back : (n : ℕ) → n < nx * ny * nz → index3d_of n nx ny nz ≡ index3d.At (indices_of n nx ny)
+  pub back : (n : ℕ) → n < nx * ny * nz → index3d_of n nx ny nz ≡ Ok (indices_of n nx ny)
   unfolding first_of index3d_of
   back n h = simp (passed, lt-ltb _ _ h)
 
   -- a place in range has indices in range, and they give the place back
-  pub back_and_there : (n : ℕ) → n < nx * ny * nz → let v = indices_of n nx ny in index1d_of v.i v.j v.k nx ny nz ≡ index1d.At n
+  pub back_and_there : (n : ℕ) → n < nx * ny * nz → let v = indices_of n nx ny in index1d_of v.i v.j v.k nx ny nz ≡ Ok n
   back_and_there n h =
       let g = accepted nx ny nz passed in
       let v = indices_of n nx ny in
@@ -76,4 +75,4 @@ module _ (nx ny nz : ℕ) (passed : dimensions_refused nx ny nz ≡ false) where
       (column_below n nx ny g.x_above g.y_above)
       (line_below n nx ny g.x_above g.y_above)
       (slab_below n nx ny g.x_above g.y_above nz h)
-      ∙ ap index1d.At (place_of_indices nx ny n)
+      ∙ ap Ok (place_of_indices nx ny n)

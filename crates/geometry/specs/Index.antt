@@ -1,12 +1,10 @@
 -- Places in a flat list, and the indices of a grid (rules B5 to B8).
-use Rattle.std.specs.Prelude.{ℕ, ◌+◌, ◌*◌, ◌/◌, ◌%◌, Bool, not, cond, ◌&&◌, ◌||◌, [], ◌∷◌, eqb, ltb}
+use Rattle.std.specs.Prelude.{ℕ, ◌+◌, ◌*◌, ◌/◌, ◌%◌, Bool, not, cond, ◌&&◌, ◌||◌, [], ◌∷◌, eqb, ltb, Result}
 use Rattle.geometry.specs.Values.{vec3i}
-use Rattle.geometry.specs.Causes.{cause, first_of}
+use Rattle.causes.specs.declared.Cause.{Cause}
+use Rattle.causes.specs.declared.Cause.TheVariants.{Dimensions, Outside}
+use Rattle.causes.specs.First.{refused_if, first_of}
 use Rattle.geometry.specs.declared.Vec3i.{Vec3i}
-use Rattle.geometry.specs.declared.Index1d as answer1d
-use Rattle.geometry.specs.declared.Index1d.TheVariants as index1d
-use Rattle.geometry.specs.declared.Index3d as answer3d
-use Rattle.geometry.specs.declared.Index3d.TheVariants as index3d
 
 -- cause 9 of the dimensions alone: one of them is 0, or their product is more than 16,777,216 (rule C9)
 unfoldable pub dimensions_refused : (nx ny nz : ℕ) → Bool
@@ -28,15 +26,13 @@ next_indices at nx ny =
     (cond (ltb (at.j + 1) ny) (vec3i 0 (at.j + 1) at.k) (vec3i 0 0 (at.k + 1)))
 
 -- 9, then cause 10 for an index that is not below its dimension; else the place (rules B7 and C10)
-unfoldable pub index1d_of : (i j k nx ny nz : ℕ) → answer1d.Index1d
+unfoldable pub index1d_of : (i j k nx ny nz : ℕ) → Result ℕ Cause
 index1d_of i j k nx ny nz =
-    first_of (cause (dimensions_refused nx ny nz) 9 ∷ cause (not (ltb i nx && ltb j ny && ltb k nz)) 10 ∷ [])
-    index1d.Refused
-    (index1d.At (place_of i j k nx ny))
+    first_of (refused_if (dimensions_refused nx ny nz) Dimensions ∷ refused_if (not (ltb i nx && ltb j ny && ltb k nz)) Outside ∷ [])
+    (place_of i j k nx ny)
 
 -- 9, then cause 10 for a place that is not below the product; else the indices (rules B7 and C10)
-unfoldable pub index3d_of : (index nx ny nz : ℕ) → answer3d.Index3d
+unfoldable pub index3d_of : (index nx ny nz : ℕ) → Result Vec3i Cause
 index3d_of index nx ny nz =
-    first_of (cause (dimensions_refused nx ny nz) 9 ∷ cause (not (ltb index (nx * ny * nz))) 10 ∷ [])
-    index3d.Refused
-    (index3d.At (indices_of index nx ny))
+    first_of (refused_if (dimensions_refused nx ny nz) Dimensions ∷ refused_if (not (ltb index (nx * ny * nz))) Outside ∷ [])
+    (indices_of index nx ny)

@@ -13,6 +13,7 @@ impl BoundingBox {
     }
 
     // The size of the box along each axis.
+    #[tactic(auto, unfolding(crate::specs::Box::dimensions_of))]
     pub fn dimensions(self) -> Vec3
         ensures { result ≡ dimensions_of self }
     {
@@ -24,6 +25,7 @@ impl BoundingBox {
     }
 
     // Whether two boxes have a point in common. Boxes that only touch have one.
+    #[tactic(auto, unfolding(crate::specs::Box::intersects_of))]
     pub fn intersects(self, other: BoundingBox) -> bool
         ensures { result ≡ intersects_of self other }
     {

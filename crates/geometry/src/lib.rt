@@ -15,7 +15,7 @@ pub use refusals::{box_refused, cell_refused, dimensions_refused, point_refused}
 pub const LARGEST_PRODUCT: usize = 16_777_216;
 
 // A point, or a vector between points.
-#[derive(Clone, Copy)]
+#[derive(Clone, Copy, Debug, PartialEq)]
 pub struct Vec3 {
     pub x: f64,
     pub y: f64,
@@ -23,7 +23,7 @@ pub struct Vec3 {
 }
 
 // The indices of a point or a cell of a grid.
-#[derive(Clone, Copy)]
+#[derive(Clone, Copy, Debug, PartialEq, Eq)]
 pub struct Vec3i {
     pub i: usize,
     pub j: usize,
@@ -31,22 +31,8 @@ pub struct Vec3i {
 }
 
 // A box with its faces along the axes. Any two points make one.
-#[derive(Clone, Copy)]
+#[derive(Clone, Copy, Debug, PartialEq)]
 pub struct BoundingBox {
     pub min: Vec3,
     pub max: Vec3,
-}
-
-// A place in a flat list, or the cause of a refusal.
-#[derive(Clone, Copy)]
-pub enum Index1d {
-    At(usize),
-    Refused(u32),
-}
-
-// A place in a grid, or the cause of a refusal.
-#[derive(Clone, Copy)]
-pub enum Index3d {
-    At(Vec3i),
-    Refused(u32),
 }

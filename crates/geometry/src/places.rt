@@ -3,8 +3,9 @@ ghost use Rattle.std.specs.Prelude.{◌≡◌, ◌+◌, ◌^◌, ◌<◌};
 ghost use Rattle.geometry.specs.Values.{vec3i};
 ghost use Rattle.geometry.specs.Index.{indices_of, index1d_of, index3d_of, next_indices};
 
+use crate::Vec3i;
 use crate::refusals::dimensions_refused;
-use crate::{Index1d, Index3d, Vec3i};
+use causes::Cause;
 
 impl Vec3i {
     pub fn new(i: usize, j: usize, k: usize) -> Self
@@ -15,6 +16,7 @@ impl Vec3i {
 }
 
 // The place of (i, j, k) in a flat list, i fastest.
+#[tactic(auto, unfolding(crate::specs::Index::index1d_of, crate::specs::Index::place_of, causes::specs::First::first_of))]
 pub fn index1d_from_index3d(
     i: usize,
     j: usize,
@@ -22,35 +24,30 @@ pub fn index1d_from_index3d(
     nx: usize,
     ny: usize,
     nz: usize,
-) -> Index1d
+) -> Result<usize, Cause>
     ensures { result ≡ index1d_of i j k nx ny nz }
 {
     if dimensions_refused(nx, ny, nz) {
-        return Index1d::Refused(9);
+        return Err(Cause::Dimensions);
     }
-    if i >= nx {
-        return Index1d::Refused(10);
+    if i >= nx || j >= ny || k >= nz {
+        return Err(Cause::Outside);
     }
-    if j >= ny {
-        return Index1d::Refused(10);
-    }
-    if k >= nz {
-        return Index1d::Refused(10);
-    }
-    Index1d::At(k * nx * ny + j * nx + i)
+    Ok(k * nx * ny + j * nx + i)
 }
 
 // The indices of a place in a flat list, i fastest.
-pub fn index3d_from_index1d(index: usize, nx: usize, ny: usize, nz: usize) -> Index3d
+#[tactic(auto, unfolding(crate::specs::Index::index3d_of, causes::specs::First::first_of))]
+pub fn index3d_from_index1d(index: usize, nx: usize, ny: usize, nz: usize) -> Result<Vec3i, Cause>
     ensures { result ≡ index3d_of index nx ny nz }
 {
     if dimensions_refused(nx, ny, nz) {
-        return Index3d::Refused(9);
+        return Err(Cause::Dimensions);
     }
     if index >= nx * ny * nz {
-        return Index3d::Refused(10);
+        return Err(Cause::Outside);
     }
-    Index3d::At(indices(index, nx, ny))
+    Ok(indices(index, nx, ny))
 }
 
 // The indices of number `index` in a grid of nx by ny, i fastest. Two divisions, and no product.
@@ -63,6 +60,7 @@ pub fn indices(index: usize, nx: usize, ny: usize) -> Vec3i
 }
 
 // The indices after (i, j, k) in a grid of nx by ny, i fastest.
+#[tactic(auto, unfolding(crate::specs::Index::next_indices))]
 pub fn next_indices(at: Vec3i, nx: usize, ny: usize) -> Vec3i
     requires { (at.i < nx) × (at.j < ny) × (at.k + 1 < 2 ^ 64) }
     ensures { result ≡ next_indices at nx ny }

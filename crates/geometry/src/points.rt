@@ -20,6 +20,7 @@ impl Vec3 {
     }
 
     // The euclidean distance to a location.
+    #[tactic(auto, unfolding(crate::specs::Distance::distance_of))]
     pub fn distance_to_coord(self, x: f64, y: f64, z: f64) -> f64
         ensures { result ≡ distance_of self x y z }
     {
@@ -27,6 +28,7 @@ impl Vec3 {
     }
 
     // The square of the distance to a location, each square one multiplication.
+    #[tactic(auto, unfolding(crate::specs::Distance::square, crate::specs::Distance::distance_squared_of))]
     pub fn distance_to_coord_squared(self, x: f64, y: f64, z: f64) -> f64
         ensures { result ≡ distance_squared_of self x y z }
     {
