@@ -2,6 +2,7 @@ pub mod Tests
 pub mod Lists
 pub mod Tables
 pub mod Filling
+pub mod LentPart
 pub mod Sums
 pub mod Flags
 pub mod Ranges
