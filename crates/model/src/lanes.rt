@@ -9,8 +9,8 @@ ghost use Rattle.geometry.specs.PointRow.{point_in};
 ghost use Rattle.model.specs.Part.{past, sphere_value, plane_value};
 ghost use Rattle.model.specs.Inner.Lanes.{lane_at, filled_row};
 
-use super::operations::Operation;
 use super::point;
+use float::Operation;
 use geometry::{PointRow, Vec3};
 
 #[tactic(auto, unfolding(crate::specs::Inner::Lanes::filled_row))]

@@ -7,7 +7,6 @@ use geometry::Vec3;
 mod evaluations; // evaluations.rt: the calls that evaluate, at a point and at a row of points
 mod layout; // layout.rt: a model's parts in two flat arrays, as hosts carry them
 mod lanes; // lanes.rt: a part's values at a row of points
-mod operations; // operations.rt: the operations on two values
 mod point; // point.rt: the parts' values at a point
 mod refusals; // refusals.rt: the test of cause 4
 mod row; // row.rt: all parts' values at a row of points

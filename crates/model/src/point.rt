@@ -3,9 +3,9 @@ ghost use Rattle.std.specs.Prelude.{◌≡◌, ◌++◌, ◌≤◌, ◌<◌, len
 ghost use Rattle.model.specs.Part.{sphere_value, plane_value, part_value, placed};
 ghost use Rattle.model.specs.Model.{values_to, parts_in, parts_of};
 
-use super::operations::{Add, Max, Min, Operation, Sub};
 use super::refusals::inputs_below;
 use super::{ImplicitModel, Part};
+use float::{Add, Max, Min, Operation, Sub};
 use geometry::Vec3;
 
 // The distance to a sphere's centre, less its radius.

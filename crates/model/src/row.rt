@@ -7,9 +7,9 @@ ghost use Rattle.model.specs.Model.{parts_in};
 ghost use Rattle.model.specs.Row.{evaluated_rows};
 ghost use Rattle.model.specs.Inner.Lanes.{lane_at, filled_row, lane};
 
-use super::operations::{Add, Max, Min, Sub};
 use super::refusals::inputs_below;
 use super::{ImplicitModel, Part, lanes};
+use float::{Add, Max, Min, Sub};
 use geometry::PointRow;
 
 // The row of the part at place p, from the rows of the parts before it. Its inputs are tested once.

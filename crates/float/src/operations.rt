@@ -1,8 +1,10 @@
-// The operations on the values of two parts.
+// The operations on two values, as types: code that is the same for each is written once over the trait.
 ghost use Rattle.std.specs.Prelude.{◌≡◌, Float};
 ghost use Rattle.std.specs.Float.{binary64};
 ghost use Rattle.std.specs.Float.Ieee.{add, sub};
 ghost use Rattle.float.specs.Select.{min_of, max_of};
+
+use crate::{computed, max, min};
 
 pub trait Operation {
     // What the operation makes of two values.
@@ -24,7 +26,7 @@ impl Operation for Min {
     ghost of = { min_of };
 
     fn apply(a: f64, b: f64) -> f64 {
-        float::min(a, b)
+        min(a, b)
     }
 }
 
@@ -32,7 +34,7 @@ impl Operation for Max {
     ghost of = { max_of };
 
     fn apply(a: f64, b: f64) -> f64 {
-        float::max(a, b)
+        max(a, b)
     }
 }
 
@@ -40,7 +42,7 @@ impl Operation for Add {
     ghost of = { add binary64 };
 
     fn apply(a: f64, b: f64) -> f64 {
-        float::computed(a + b)
+        computed(a + b)
     }
 }
 
@@ -48,6 +50,6 @@ impl Operation for Sub {
     ghost of = { sub binary64 };
 
     fn apply(a: f64, b: f64) -> f64 {
-        float::computed(a - b)
+        computed(a - b)
     }
 }
