@@ -15,7 +15,7 @@ fn all_zero(kinds: &[u8]) -> bool
 {
     let mut i: usize = 0;
     while i < kinds.len() {
-        if kinds[i] != grid::EMPTY {
+        if kinds[i] != 0 {
             return false;
         }
         i += 1;
@@ -33,7 +33,7 @@ fn row_right(xs: &[bool; 64], met: bool, row: &[u8]) -> bool
     }
     let mut i: usize = 0;
     while i < row.len() {
-        if (row[i] != grid::EMPTY) != xs[i] {
+        if (row[i] != 0) != xs[i] {
             return false;
         }
         i += 1;
