@@ -40,6 +40,15 @@ pub record Indices (n v : Vec3i) (p : ℕ) : Type 0 where
   pub j_in : v.j < n.j
   pub k_most : v.k ≤ p
 
+-- so many points of a row from place p on, of a run that has `last` places then, of `len`
+pub record Stretch (n v : Vec3i) (p count last len : ℕ) : Type 0 where
+  pub i_in : v.i < n.i
+  pub j_in : v.j < n.j
+  pub k_most : v.k ≤ p
+  pub some : 0 < count
+  pub fits : v.i + count ≤ n.i
+  pub ends : last ≤ len
+
 module _ (n : Vec3i) (x_above : 0 < n.i) (y_above : 0 < n.j) where
   of_place : (p : ℕ) → Indices n (point_at n p) p
   unfolding indices_of
@@ -52,6 +61,20 @@ module _ (n : Vec3i) (x_above : 0 < n.i) (y_above : 0 < n.j) where
 
   pub indices : (p : ℕ) {v : Vec3i} → v ≡ point_at n p → Indices n v p
   indices p e = subst (λ (v : Vec3i). Indices n v p) (sym e) (of_place p)
+
+  -- the stretch that comes next in a run
+  pub next_stretch : {at len : ℕ} → Run n at len → (t : ℕ) {v : Vec3i} {m : ℕ} → v ≡ point_at n (at + t) → t < len → m ≡ min (n.i - v.i) (len - t)
+      → Stretch n v (at + t) m (t + m) len
+  next_stretch {at} {len} r t {v} e more least =
+      let w = indices (at + t) e in
+      record {
+        i_in = w.i_in;
+        j_in = w.j_in;
+        k_most = w.k_most;
+        some = omega arith;
+        fits = omega arith;
+        ends = omega arith;
+      }
 
   -- s points on in a row
   row_point : (p s : ℕ) {v : Vec3i} → v ≡ point_at n p → v.i + s < n.i → vec3i (v.i + s) v.j v.k ≡ point_at n (p + s)

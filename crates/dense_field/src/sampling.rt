@@ -1,18 +1,19 @@
 // A model's values at a field's points, in runs of up to 64 consecutive places. A row is the points
 // of one j and k, and a run goes on over row ends. The model's parts stand in two flat arrays, as
 // `model::lay_out` leaves them.
-ghost use Rattle.std.specs.Prelude.{◌≡◌, ◌+◌, ◌-◌, ◌*◌, ◌<◌, ◌≤◌, min, cond, map, length, ◌==◌};
+ghost use Rattle.std.specs.Prelude.{◌≡◌, ◌+◌, ◌-◌, ◌*◌, ◌<◌, ◌≤◌, min, map, length, is_ok, if◌then◌else◌};
 ghost use Rattle.lists.specs.Tabulate.{tabulate};
 ghost use Rattle.lists.specs.Filled.{filled};
 ghost use Rattle.model.specs.Flat.{flat_in};
 ghost use Rattle.model.specs.Part.{part_in};
 ghost use Rattle.dense_field.specs.Field.{points_of};
 ghost use Rattle.dense_field.specs.Inner.Lent.{Lent, Run};
-ghost use Rattle.dense_field.specs.Sampling.{sample_cause, sample_outcome};
+ghost use Rattle.dense_field.specs.Sampling.{sample_outcome};
 ghost use Rattle.dense_field.specs.Inner.Runs.{axis_point, RunPoints, flat_at};
 ghost use Rattle.dense_field.specs.Sampling.{sampled};
 
-use crate::{Applied, counts};
+use crate::counts;
+use causes::Cause;
 use geometry::{Vec3, Vec3i};
 use model::ImplicitModel;
 
@@ -28,10 +29,8 @@ fn fill_along(origin: f64, cell: f64, from: usize, places: &mut [f64], at: usize
     requires { (at + count ≤ length places.old) × (from + count ≤ 16777216) }
     ensures { places.new ≡ filled at count (λ q. axis_point origin cell (from + (q - at))) places.old }
 {
-    let mut t = 0;
-    while t < count {
+    for t in 0..count {
         places[at + t] = axis_point(origin, cell, from + t);
-        t += 1;
     }
 }
 
@@ -55,17 +54,9 @@ fn fill_stretch(
 {
     fill_along(origin.x, cell, first.i, px, at, count);
     let y = axis_point(origin.y, cell, first.j);
-    slices::fill_floats(y, py, at, count);
+    py[at..at + count].fill(y);
     let z = axis_point(origin.z, cell, first.k);
-    slices::fill_floats(z, pz, at, count);
-}
-
-// The lesser of two numbers above 0.
-fn lesser(a: usize, b: usize) -> usize
-    requires { (0 < a) × (0 < b) }
-    ensures { (0 < result) × (result ≤ a) × (result ≤ b) }
-{
-    if a < b { a } else { b }
+    pz[at..at + count].fill(z);
 }
 
 // Where the points of `len` places stand, from place `at` on. Those of one row go together.
@@ -85,7 +76,7 @@ fn fill_points(
     let mut first = geometry::indices(at, n.i, n.j);
     let mut t: usize = 0;
     while t < len {
-        let count = lesser(n.i - first.i, len - t);
+        let count = (n.i - first.i).min(len - t);
         fill_stretch(origin, cell, first, px, py, pz, t, count);
         let last = Vec3i::new(first.i + (count - 1), first.j, first.k);
         first = geometry::next_indices(last, n.i, n.j);
@@ -114,7 +105,7 @@ fn sample_places(
     let mut results = [0.0; 64];
     let mut at = 0;
     while at < values.len() {
-        let len = lesser(values.len() - at, 64);
+        let len = (values.len() - at).min(64);
         fill_points(origin, cell, n, at, len, &mut px, &mut py, &mut pz);
         model::evaluate_row_into(
             words,
@@ -127,25 +118,29 @@ fn sample_places(
             &mut scratch,
             &mut results,
         );
-        slices::copy_floats(&results, values, at, len);
+        values[at..at + len].copy_from_slice(&results[..len]);
         at += len;
     }
 }
 
-// The cause of a refusal of sampling, and 0 where there is none.
-fn sample_cause(model: ImplicitModel, origin: Vec3, cell: f64, n: Vec3i, len: usize) -> u32
-    ensures { result ≡ sample_cause model origin cell n len }
+// Why sampling is refused, where it is.
+#[tactic(auto, unfolding(crate::specs::Sampling::sample_outcome, crate::specs::Outcomes::outcome_of, causes::specs::First::first_of))]
+fn tested(
+    model: ImplicitModel,
+    origin: Vec3,
+    cell: f64,
+    n: Vec3i,
+    len: usize,
+) -> Result<(), Cause>
+    ensures { result ≡ sample_outcome model origin cell n len }
 {
-    if geometry::point_refused(origin) {
-        return 1;
-    }
-    if geometry::cell_refused(cell) {
-        return 1;
+    if geometry::point_refused(origin) || geometry::cell_refused(cell) {
+        return Err(Cause::Bounds);
     }
     if model::cause_four(model) {
-        return 4;
+        return Err(Cause::Parts);
     }
-    if counts::values_refused(n, len) { 9 } else { 0 }
+    counts::tested(n, len)
 }
 
 // Sets every value to the model's at its point. A refusal changes nothing.
@@ -155,20 +150,17 @@ pub fn sample(
     cell: f64,
     n: Vec3i,
     values: &mut [f64],
-) -> Applied
-    ensures answer { result ≡ sample_outcome (sample_cause model origin cell n (length values.old)) }
+) -> Result<(), Cause>
+    ensures answer { result ≡ sample_outcome model origin cell n (length values.old) }
     ensures values { values.new
-        ≡ cond (sample_cause model origin cell n (length values.old) == 0)
-        (sampled (map part_in model.parts) model.count origin cell n) values.old }
+        ≡ (if is_ok (sample_outcome model origin cell n (length values.old)) then sampled (map part_in model.parts) model.count origin cell n
+        else values.old) }
 {
-    let cause = sample_cause(model, origin, cell, n, values.len());
-    if cause != 0 {
-        return Applied::Refused(cause);
-    }
+    tested(model, origin, cell, n, values.len())?;
     let mut words = [0u32; 192];
     let mut numbers = [0.0; 256];
     model::lay_out(model, &mut words, &mut numbers);
     let count = model.count as usize;
     sample_places(&words, &numbers, count, origin, cell, n, values);
-    Applied::Done
+    Ok(())
 }

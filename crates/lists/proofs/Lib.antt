@@ -6,3 +6,4 @@ pub mod Sums
 pub mod Flags
 pub mod Ranges
 pub mod Members
+pub mod Stretches

@@ -1,8 +1,19 @@
--- `sampling::fill_stretch` meets its contract.
-use Rattle.std.proofs.Common.{ap, ◌∙◌}
-use Rattle.lists.specs.Filled.{filled}
+-- A part that is set to one coordinate.
+use Rattle.std.proofs.Common.{◌+◌, ◌-◌, arith}
+use Rattle.lists.proofs.Stretches.{part_set}
+use Rattle.model.specs.Part.{past}
 use Rattle.dense_field.proofs.sampling.fill_stretch.Goals as goal
 
-pub returns : goal.returns
-returns c =
-    let a = c.args in record { px = c.fill_along.ensures; py = c.fill_floats.ensures ∙ ap (λ v. filled a.at a.count (λ q. v) a.py.now) c.axis_point-y.ensures; pz = c.fill_floats-2.ensures ∙ ap (λ v. filled a.at a.count (λ q. v) a.pz.now) c.axis_point-z.ensures; long = (c.fill_along-arg-1.given.0.1, c.fill_floats-arg-1.given.0.1, c.fill_floats-arg-2-1.given.0.1) }
+pub returns-clause-py : goal.returns-clause-py
+returns-clause-py c =
+    let a = c.args in
+    part_set a.at a.count (a.at + a.count - a.at) a.py.now _ past (omega arith) (omega arith) c.axis_point-y.result
+    (c.fill.ensures.after (λ y same. same))
+    (λ q from below. c.axis_point-y.ensures)
+
+pub returns-clause-pz : goal.returns-clause-pz
+returns-clause-pz c =
+    let a = c.args in
+    part_set a.at a.count (a.at + a.count - a.at) a.pz.now _ past (omega arith) (omega arith) c.axis_point-z.result
+    (c.fill-2.ensures.after (λ y same. same))
+    (λ q from below. c.axis_point-z.ensures)
