@@ -1,14 +1,12 @@
 -- A cell's corners in a field: the places of its octet, and what the walk's step tells of its cursor.
-use Rattle.std.proofs.Common.{◌≡◌, ℕ, ◌+◌, ◌-◌, ◌*◌, ◌<◌, ◌≤◌, Bool, true, false, cond, not, ◌&&◌, ◌||◌, ltb, List, [], ◌∷◌, length, get_or, refl, ap, ◌∙◌, mul-le-mul_right, mul_assoc, arith, ltb-true}
-use borrow.Author.Tests.{not-false}
+use Rattle.std.proofs.Common.{◌≡◌, ℕ, ◌+◌, ◌*◌, ◌<◌, ◌≤◌, true, false, ◌&&◌, ltb, List, [], ◌∷◌, length, get_or, ap, ◌∙◌, mul-le-mul_right, mul_assoc, arith, ltb-true}
 use lib.Ieee.{Float, nan}
-use Rattle.lists.proofs.Tests.{or_left, or_right, and_left, and_right}
+use Rattle.lists.proofs.Tests.{and_left, and_right}
 use Rattle.lists.proofs.Lists.{get_d_any}
 use Rattle.float.specs.Zero.{plus_zero}
 use Rattle.geometry.specs.declared.Vec3i.{Vec3i}
-use Rattle.geometry.specs.Index.{place_of, next_indices}
+use Rattle.geometry.specs.Index.{place_of}
 use Rattle.geometry.specs.Octet.{octet_order, octet_places}
-use Rattle.geometry.specs.Values.{vec3i}
 use Rattle.dense_field.specs.Field.{values_refused, points_of}
 use Rattle.dense_field.specs.Inner.Lent.{Found}
 use Rattle.dense_field.proofs.Lending.{lent}

@@ -125,13 +125,7 @@ fn sample_places(
 
 // Why sampling is refused, where it is.
 #[tactic(auto, unfolding(crate::specs::Sampling::sample_outcome, crate::specs::Outcomes::outcome_of, causes::specs::First::first_of))]
-fn tested(
-    model: ImplicitModel,
-    origin: Vec3,
-    cell: f64,
-    n: Vec3i,
-    len: usize,
-) -> Result<(), Cause>
+fn tested(model: ImplicitModel, origin: Vec3, cell: f64, n: Vec3i, len: usize) -> Result<(), Cause>
     ensures { result ≡ sample_outcome model origin cell n len }
 {
     if geometry::point_refused(origin) || geometry::cell_refused(cell) {

@@ -91,11 +91,7 @@ fn walk_cell(bounds: BoundingBox, n: Vec3i, cursor: Vec3i) -> BoundingBox
 
 // The point at the cursor and the next cursor, or none past the last point. There are n.i by n.j by
 // n.k points.
-pub fn point_step(
-    bounds: BoundingBox,
-    n: Vec3i,
-    cursor: Vec3i,
-) -> Result<Option<Step<Vec3>>, Cause>
+pub fn point_step(bounds: BoundingBox, n: Vec3i, cursor: Vec3i) -> Result<Option<Step<Vec3>>, Cause>
     ensures { result ≡ point_step bounds n cursor }
 {
     Ok(next_place(2, bounds, n, cursor)?.map(|next| Step {

@@ -1,6 +1,6 @@
 -- The code's 1 is the definition's.
-use Rattle.std.proofs.Common.{◌∙◌, ap, ap₂}
-use lib.Ieee.{Float, binary64, add}
+use Rattle.std.proofs.Common.{◌∙◌, ap₂}
+use lib.Ieee.{binary64, add}
 use Rattle.dense_field.specs.Octets.{corner_index}
 use Rattle.dense_field.proofs.SmoothingLaws.{one_as_float}
 use Rattle.dense_field.proofs.octets.after.Goals as goal

@@ -16,7 +16,7 @@ returns-then-j-eq0 c =
     let at = row_from a.n a.j a.k in
     let edge : on_edge a.j a.n.j ≡ true =
     elim c.then-j-eq0.branch [
-        then-j-eq0-via-then-j-eq0 w ↦ edge_first _ _ (omega arith)
+      | then-j-eq0-via-then-j-eq0 w ↦ edge_first _ _ (omega arith)
       | then-j-eq0-via-else-j-eq0+then-j-n w ↦ edge_last _ _ (omega arith)
     ] in
     part_set at a.n.i (at + a.n.i - at) a.values.now _ plus_zero (omega arith) (omega arith) a.value

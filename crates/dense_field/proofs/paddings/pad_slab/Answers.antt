@@ -18,7 +18,7 @@ returns-then-k-eq0 c =
     let at = a.k * slab in
     let edge : on_edge a.k a.n.k ≡ true =
     elim c.then-k-eq0.branch [
-        then-k-eq0-via-then-k-eq0 w ↦ edge_first _ _ (omega arith)
+      | then-k-eq0-via-then-k-eq0 w ↦ edge_first _ _ (omega arith)
       | then-k-eq0-via-else-k-eq0+then-k-n w ↦ edge_last _ _ (omega arith)
     ] in
     part_set at slab (at + slab - at) a.values.now _ plus_zero (omega arith) (omega arith) a.value

@@ -1,5 +1,5 @@
 -- At each turn the first t places are set.
-use Rattle.std.proofs.Common.{◌≡◌, ◌+◌, ◌-◌, ◌≤◌, length}
+use Rattle.std.proofs.Common.{◌≡◌, ◌+◌, ◌-◌, length}
 use Rattle.lists.specs.Filled.{filled}
 use Rattle.dense_field.specs.Inner.Runs.{axis_point}
 use Rattle.dense_field.proofs.sampling.fill_along.Given as goal

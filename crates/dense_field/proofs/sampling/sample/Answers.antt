@@ -1,5 +1,5 @@
 -- The model's layout gives its own values.
-use Rattle.std.proofs.Common.{refl, ◌∙◌}
+use Rattle.std.proofs.Common.{◌∙◌}
 use Rattle.dense_field.proofs.SampleLaws.{passed, flat_sampled}
 use Rattle.dense_field.proofs.sampling.sample.Goals as goal
 

@@ -1,5 +1,5 @@
 -- A run more is sampled.
-use Rattle.std.proofs.Common.{◌≡◌, ◌+◌, ◌-◌, ◌<◌, ◌≤◌, ℕ, min, length, get_or, sym, refl, ap, ◌∙◌, zero-add, arith, rules}
+use Rattle.std.proofs.Common.{◌≡◌, ◌+◌, ◌-◌, ℕ, min, length, get_or, sym, refl, ap, ◌∙◌, zero-add, arith}
 use Rattle.lists.proofs.Filling.{filled_none, filled_length, filled_more, filled_done, filled_all}
 use Rattle.lists.proofs.Stretches.{part_copied}
 use Rattle.float.specs.Zero.{plus_zero}
@@ -8,8 +8,7 @@ use Rattle.model.specs.Part.{past}
 use Rattle.model.specs.Flat.{flat_of}
 use Rattle.dense_field.specs.Field.{points_of}
 use Rattle.dense_field.specs.Inner.Runs.{flat_at}
-use Rattle.dense_field.proofs.Lending.{as_long}
-use Rattle.dense_field.proofs.RunLaws.{run_in, run_filled, results_long}
+use Rattle.dense_field.proofs.RunLaws.{run_filled, results_long}
 use Rattle.dense_field.proofs.sampling.sample_places.Goals as goal
 
 pub loop-at-init : goal.loop-at-init

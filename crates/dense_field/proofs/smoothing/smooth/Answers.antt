@@ -1,5 +1,5 @@
 -- The rounds go through the first part of the scratch, which is as long as the values.
-use Rattle.std.proofs.Common.{◌≡◌, length, take, replicate, sym, ap, ◌∙◌, length-take-le, rules}
+use Rattle.std.proofs.Common.{sym, ◌∙◌, length-take-le}
 use Rattle.dense_field.proofs.SmoothingLaws.{scratch_long, values_lent}
 use Rattle.dense_field.proofs.smoothing.smooth.Goals as goal
 

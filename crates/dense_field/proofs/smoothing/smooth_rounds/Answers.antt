@@ -2,7 +2,7 @@
 use Rattle.std.proofs.Common.{length, sym, refl, ap, ◌∙◌, arith, rules}
 use Rattle.lists.proofs.Filling.{filled_copy}
 use Rattle.float.specs.Zero.{plus_zero}
-use Rattle.dense_field.proofs.SmoothingLaws.{once_length, no_rounds, rounds_done, round_more}
+use Rattle.dense_field.proofs.SmoothingLaws.{once_length, no_rounds, round_more}
 use Rattle.dense_field.proofs.smoothing.smooth_rounds.Goals as goal
 
 pub loop-init : goal.loop-init

@@ -12,7 +12,7 @@ returns-then-k-eq0 c =
     let a = c.args in
     let edge : on_edge a.k a.n.k ≡ true =
     elim c.then-k-eq0.branch [
-        then-k-eq0-via-then-k-eq0 w ↦ edge_first _ _ (omega arith)
+      | then-k-eq0-via-then-k-eq0 w ↦ edge_first _ _ (omega arith)
       | then-k-eq0-via-else-k-eq0+then-k-n w ↦ edge_last _ _ (omega arith)
     ] in
     slab_stays a.n a.factor a.old.now a.k a.new.now edge c.copy_values.ensures

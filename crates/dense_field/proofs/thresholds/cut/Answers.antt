@@ -12,6 +12,6 @@ pub returns-else-v-limit : goal.returns-else-v-limit
 unfolding cut
 returns-else-v-limit c =
     elim c.else-v-limit.branch [
-        else-v-limit-via-then-v-limit+else-v-limit-2 w ↦ simp (minus_not_below _ _ w.if-v-limit-2.false)
+      | else-v-limit-via-then-v-limit+else-v-limit-2 w ↦ simp (minus_not_below _ _ w.if-v-limit-2.false)
       | else-v-limit-via-else-v-limit w ↦ simp (not_below _ _ w.if-v-limit.false)
     ]

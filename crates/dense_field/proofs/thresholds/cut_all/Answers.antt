@@ -1,5 +1,5 @@
 -- One value more is cut.
-use Rattle.std.proofs.Common.{List, set, ap, ◌∙◌, arith, get_or}
+use Rattle.std.proofs.Common.{set, ap, ◌∙◌, arith, get_or}
 use lib.Ieee.{nan}
 use Rattle.std.proofs.lemmas.List.Edits.{map_over_more}
 use Rattle.lists.proofs.Lists.{get_d_any}
