@@ -1,6 +1,7 @@
 pub mod Grid
 pub mod Inverse
 pub mod Next
+pub mod PointRows
 pub mod CauseLists
 pub mod Literals
 pub mod Division

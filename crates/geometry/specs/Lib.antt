@@ -6,3 +6,4 @@ pub mod Index
 pub mod Axis
 pub mod Octet
 pub mod Bounds
+pub mod PointRow

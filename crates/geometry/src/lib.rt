@@ -6,6 +6,7 @@ mod boxes; // boxes.rt: sizes of boxes, and which boxes meet
 mod places; // places.rt: indices of a grid, and places in a flat list
 mod points; // points.rt: points and distances
 mod refusals; // refusals.rt: the tests of causes 1 and 9
+mod rows; // rows.rt: a row of points
 
 pub use axes::{along, along_end, step_along};
 pub use places::{index1d_from_index3d, index3d_from_index1d, indices, next_indices};
@@ -28,6 +29,14 @@ pub struct Vec3i {
     pub i: usize,
     pub j: usize,
     pub k: usize,
+}
+
+// The coordinates of up to 64 points.
+#[derive(Clone, Copy)]
+pub struct PointRow {
+    pub xs: [f64; 64],
+    pub ys: [f64; 64],
+    pub zs: [f64; 64],
 }
 
 // A box with its faces along the axes. Any two points make one.

@@ -9,7 +9,7 @@ use Rattle.float.specs.Select.{min_of, max_of}
 use Rattle.float.specs.Zero.{plus_zero}
 use Rattle.geometry.specs.declared.BoundingBox.{BoundingBox}
 use Rattle.geometry.specs.Distance.{distance_of, distance_squared_of, square}
-use Rattle.grid.specs.Pruning.{half_diagonal, folded, lowest, highest, pruned}
+use Rattle.grid.specs.Pruning.{half_diagonal, folded, from_first, lowest, highest, pruned}
 use Rattle.float.proofs.FloatOrder.{number, number_left, number_right, le_trans, le_refl, le_of_eq, le_of_lt, lt_excludes, le_of_not_lt}
 use Rattle.float.proofs.FloatRounding.{has_sign, odd_has_sign, round_sign, difference_le_sum}
 
@@ -156,7 +156,7 @@ spans_from lo hi [] h = h
 spans_from lo hi (x ∷ l) h = spans_from (min_of lo x) (max_of hi x) l (spans_next lo hi x h)
 
 octet_spans : (octet : List Float) → Spans (lowest octet) (highest octet)
-unfolding lowest highest
+unfolding from_first
 octet_spans [] = spans_self plus_zero
 octet_spans (c ∷ l) = spans_from c c l (spans_self c)
 
@@ -225,7 +225,7 @@ nan_apart least (inf s) h = refl
 nan_apart least (fin s m e) h = refl
 
 pub nans_are_leaf : (n : ℕ) (least most h : Float) → pruned least most (lowest (replicate (suc n) nan)) (highest (replicate (suc n) nan)) h ≡ false
-unfolding pruned lowest highest
+unfolding pruned from_first
 nans_are_leaf n least most h = rw (nan_low n, nan_high n) (nan_apart least most h)
 
 -- NaN at every corner: a leaf

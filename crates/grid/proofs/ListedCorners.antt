@@ -1,13 +1,14 @@
 -- The list that is left when the marked corners have been gathered and the rest zeroed: each needed corner once.
 use Rattle.std.proofs.Common.{◌≡◌, ℕ, ◌+◌, ◌<◌, ◌≤◌, Bool, true, false, cond, not, ◌&&◌, eqb, ltb, List, length, get_or, take, replicate, sym, refl, ap, ◌∙◌, arith, get_or-take, ltb-false, le-ltb, lt-ltb, eq-eqb, ne_eqb}
 use lib.ListN.{length-replicate}
-use Rattle.slices.proofs.Rest.{get_or_same, set_from, rest_length, rest_front, rest_same}
-use Rattle.geometry.specs.Causes.{first_of}
+use Rattle.lists.proofs.Rest.{get_or_same, set_from, rest_length, rest_front, rest_same}
+use Rattle.std.specs.Prelude.{Ok, Err}
+use Rattle.causes.specs.declared.Cause.TheVariants.{BlockSize, TooShort}
+use Rattle.causes.specs.First.{first_of}
 use Rattle.lists.specs.Ranges.{any_below, count_below, list_below, among}
 use Rattle.grid.specs.Blocks.{is_block, cube}
 use Rattle.grid.specs.Corners.{needed}
 use Rattle.grid.specs.CornerList.{nonzero_at, corner_list_causes, corner_list_of, CornersOnce}
-use Rattle.grid.specs.declared.CornerList.TheVariants.{Count, Refused}
 use Rattle.grid.specs.Inner.CornerMarks.{needed_to, Marks, Gathered}
 use Rattle.lists.proofs.Ranges.{list_below_cong, count_below_cong, among_list_below, no_repeat}
 use Rattle.grid.proofs.MarkLaws.{needed_within}
@@ -15,20 +16,20 @@ use Rattle.grid.proofs.MarkLaws.{needed_within}
 -- ---- the answer
 
 module _ (n : ℕ) (kinds : List ℕ) (list : ℕ) where
-  pub answer_two : is_block n ≡ false → corner_list_of n kinds list ≡ Refused 2
+  pub answer_two : is_block n ≡ false → corner_list_of n kinds list ≡ Err BlockSize
   unfolding first_of corner_list_of corner_list_causes
   answer_two block = rw block refl
 
-  pub answer_kinds : is_block n ≡ true → (length kinds ≡ cube n → ⊥) → corner_list_of n kinds list ≡ Refused 6
+  pub answer_kinds : is_block n ≡ true → (length kinds ≡ cube n → ⊥) → corner_list_of n kinds list ≡ Err TooShort
   unfolding first_of corner_list_of corner_list_causes
   answer_kinds block other = rw (block, ne_eqb (length kinds) (cube n) other) refl
 
-  pub answer_list : is_block n ≡ true → length kinds ≡ cube n → list < cube (n + 1) → corner_list_of n kinds list ≡ Refused 6
+  pub answer_list : is_block n ≡ true → length kinds ≡ cube n → list < cube (n + 1) → corner_list_of n kinds list ≡ Err TooShort
   unfolding first_of corner_list_of corner_list_causes
   answer_list block same short = rw (block, eq-eqb (length kinds) (cube n) same, lt-ltb list (cube (n + 1)) short) refl
 
   pub answer_count : is_block n ≡ true → length kinds ≡ cube n → cube (n + 1) ≤ list
-      → corner_list_of n kinds list ≡ Count (count_below (cube (n + 1)) (needed n (nonzero_at kinds)))
+      → corner_list_of n kinds list ≡ Ok (count_below (cube (n + 1)) (needed n (nonzero_at kinds)))
   unfolding first_of corner_list_of corner_list_causes
   answer_count block same long = rw (block, eq-eqb (length kinds) (cube n) same, le-ltb list (cube (n + 1)) long) refl
 

@@ -1,5 +1,5 @@
 -- A child's eight corners: their places from the first one, all below the node's (n + 1)³.
-use Rattle.std.proofs.Common.{◌≡◌, ℕ, ◌+◌, ◌*◌, ◌^◌, ◌<◌, ◌≤◌, List, [], ◌∷◌, length, get_or, refl, subst, mul-le-mul_right, mul_assoc, div-lt_iff_lt-mul, mul-le-mul, mul-pos, arith}
+use Rattle.std.proofs.Common.{◌≡◌, ℕ, ◌+◌, ◌*◌, ◌^◌, ◌<◌, ◌≤◌, List, [], ◌∷◌, length, get_or, refl, sym, subst, mul-le-mul_right, mul_assoc, div-lt_iff_lt-mul, mul-le-mul, mul-pos, arith}
 use Rattle.geometry.specs.declared.Vec3i.{Vec3i}
 use Rattle.geometry.specs.Values.{vec3i}
 use Rattle.geometry.specs.Index.{place_of, indices_of}
@@ -78,3 +78,9 @@ octet_below n c hn hc = places_below n (child_indices n c) (within n c hn hc)
 pub octet_length : (n c : ℕ) → length (octet n c) ≡ 8
 unfolding octet octet_places octet_order
 octet_length n c = refl
+
+-- read one by one, they are inside the corners of a node
+pub octet_inside : (p : List ℕ) (q n c long : ℕ) → p ≡ octet n c → 0 < n → c < cube n → cube (n + 1) ≤ long → q < 8 → get_or p q 0 < long
+octet_inside p q n c long is some within room below =
+    let place = octet_below n c some within q below in
+    subst (λ (l : List ℕ). get_or l q 0 < long) (sym is) (omega (arith, place))

@@ -1,27 +1,25 @@
 -- What the corner list of a node answers and leaves in the list that it is lent (rules G16 and G17).
-use Rattle.std.specs.Prelude.{◌≡◌, ℕ, ◌+◌, ◌<◌, ◌≤◌, Bool, not, ◌||◌, List, [], ◌∷◌, length, take, ◌==◌, nat_lt, slice_index}
-use Rattle.geometry.specs.Causes.{Cause, cause, first_of}
+use Rattle.std.specs.Prelude.{◌≡◌, ℕ, ◌+◌, ◌<◌, ◌≤◌, Bool, not, ◌||◌, List, [], ◌∷◌, length, take, ◌==◌, nat_lt, slice_index, Result, Ok, Err}
+use Rattle.causes.specs.declared.Cause.{Cause}
+use Rattle.causes.specs.declared.Cause.TheVariants.{BlockSize, TooShort}
+use Rattle.causes.specs.First.{Test, refused_if, first_of}
 use Rattle.lists.specs.Ranges.{count_below, among}
 use Rattle.grid.specs.Blocks.{is_block, cube}
 use Rattle.grid.specs.Corners.{needed}
-use Rattle.grid.specs.declared.CornerList.{CornerList}
-use Rattle.grid.specs.declared.CornerList.TheVariants.{Count, Refused}
 
 -- the test for active children from one node's kinds: every kind but 0 is (rule G16)
 unfoldable pub nonzero_at : List ℕ → ℕ → Bool
 nonzero_at kinds c = not (slice_index kinds c == 0)
 
 -- 2 for the block size, then 6 for the lengths of the kinds and of the list (rule G17)
-unfoldable pub corner_list_causes : (n kinds list : ℕ) → List Cause
+unfoldable pub corner_list_causes : (n kinds list : ℕ) → List Test
 corner_list_causes n kinds list =
-    cause (not (is_block n)) 2 ∷ cause (not (kinds == cube n) || nat_lt list (cube (n + 1))) 6 ∷ []
+    refused_if (not (is_block n)) BlockSize ∷ refused_if (not (kinds == cube n) || nat_lt list (cube (n + 1))) TooShort ∷ []
 
 -- the answer, from n, the kinds and the list's length: how many corners are needed (rules G16 and G17)
-unfoldable pub corner_list_of : ℕ → List ℕ → ℕ → CornerList
+unfoldable pub corner_list_of : ℕ → List ℕ → ℕ → Result ℕ Cause
 corner_list_of n kinds list =
-    first_of (corner_list_causes n (length kinds) list)
-    Refused
-    (Count (count_below (cube (n + 1)) (needed n (nonzero_at kinds))))
+    first_of (corner_list_causes n (length kinds) list) (count_below (cube (n + 1)) (needed n (nonzero_at kinds)))
 
 -- a list whose first `count` elements are the corners that pass a test, no one twice, in whatever order, and which is zero from there on
 -- (rule G16)
@@ -32,6 +30,6 @@ pub record CornersOnce (test : ℕ → Bool) (count : ℕ) (list : List ℕ) : T
   pub rest : (p : ℕ) → count ≤ p → slice_index list p ≡ 0
 
 -- what the lent list holds after the answer: a refusal leaves it as it was (rules G16 and C54)
-abbrev pub HoldsCorners : CornerList → ℕ → (kinds before after : List ℕ) → Type 0
-HoldsCorners (Count count) n kinds before after = (length after ≡ length before) × CornersOnce (needed n (nonzero_at kinds)) count after
-HoldsCorners (Refused number) n kinds before after = after ≡ before
+abbrev pub HoldsCorners : Result ℕ Cause → ℕ → (kinds before after : List ℕ) → Type 0
+HoldsCorners (Ok count) n kinds before after = (length after ≡ length before) × CornersOnce (needed n (nonzero_at kinds)) count after
+HoldsCorners (Err cause) n kinds before after = after ≡ before

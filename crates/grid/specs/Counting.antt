@@ -1,5 +1,5 @@
 -- How many children of a node are active, and of the whole grid (rule G18).
-use Rattle.std.specs.Prelude.{ℕ, Bool, ◌&&◌, ◌==◌}
+use Rattle.std.specs.Prelude.{ℕ}
 use Rattle.lists.specs.Sums.{sum_below}
 use Rattle.lists.specs.Ranges.{count_below}
 use Rattle.grid.specs.declared.Grid.{Grid}
@@ -19,7 +19,3 @@ active_of g = sum_below (active_in g) (nodes_of g)
 -- the nodes and the active children of a grid (rules G3 and G18)
 abbrev pub counts_of : Grid → GridCounts
 counts_of g = record { nodes = nodes_of g; active = active_of g }
-
--- whether two grids' counts are the same
-unfoldable pub same_grid : GridCounts → GridCounts → Bool
-same_grid a b = a.nodes == b.nodes && a.active == b.active

@@ -4,6 +4,7 @@ pub mod Nodes
 pub mod Boxes
 pub mod Corners
 pub mod Leaves
+pub mod Kinds
 pub mod Pruning
 pub mod CornerList
 pub mod Counting

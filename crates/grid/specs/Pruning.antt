@@ -7,6 +7,7 @@ use Rattle.float.specs.Zero.{plus_zero}
 use Rattle.geometry.specs.declared.BoundingBox.{BoundingBox}
 use Rattle.geometry.specs.Distance.{distance_of}
 use Rattle.geometry.specs.Axis.{as_float}
+use Rattle.grid.specs.declared.Kind.TheVariants.{Active}
 use Rattle.grid.specs.declared.Verdict.{Verdict}
 use Rattle.grid.specs.declared.Verdict.TheVariants.{Constant, Leaf}
 
@@ -19,15 +20,17 @@ unfoldable pub folded : (Float → Float → Float) → Float → List Float →
 folded f a [] = a
 folded f a (x ∷ l) = folded f (f a x) l
 
--- lo, begun with the octet's first value (rule G12)
-unfoldable pub lowest : List Float → Float
-lowest [] = plus_zero
-lowest (c0 ∷ rest) = folded min_of c0 rest
+-- the same begun with the first element
+unfoldable pub from_first : (Float → Float → Float) → List Float → Float
+from_first f [] = plus_zero
+from_first f (c0 ∷ rest) = folded f c0 rest
 
--- hi (rule G12)
-unfoldable pub highest : List Float → Float
-highest [] = plus_zero
-highest (c0 ∷ rest) = folded max_of c0 rest
+-- lo and hi, begun with the octet's first value (rule G12)
+abbrev pub lowest : List Float → Float
+lowest = from_first min_of
+
+abbrev pub highest : List Float → Float
+highest = from_first max_of
 
 -- whether a child becomes a constant, by one band, lo, hi and h; otherwise it is a leaf (rule G13)
 unfoldable pub pruned : (least most lo hi h : Float) → Bool
@@ -41,4 +44,4 @@ average octet = div binary64 (folded (add binary64) plus_zero octet) (as_float 8
 -- G13, G14 and S7)
 unfoldable pub verdict_of : (least most : Float) → BoundingBox → List Float → Verdict
 verdict_of least most b octet =
-    cond (pruned least most (lowest octet) (highest octet) (half_diagonal b)) (Constant 1 (average octet)) Leaf
+    cond (pruned least most (lowest octet) (highest octet) (half_diagonal b)) (Constant Active (average octet)) Leaf

@@ -3,7 +3,7 @@
 ghost use Rattle.std.specs.Prelude.{◌≡◌, ◌≤◌, false, ◌&&◌};
 ghost use Rattle.std.specs.Float.Ieee.{le};
 ghost use Rattle.lists.specs.Sums.{bit};
-ghost use Rattle.grid.specs.Counting.{active_in, active_of, counts_of, same_grid};
+ghost use Rattle.grid.specs.Counting.{active_in, active_of, counts_of};
 ghost use Rattle.grid.specs.Inner.Activity.{axis_count, axis_total};
 ghost use Rattle.grid.specs.Limits.{refused_by_two, refused_by_five, children_of};
 
@@ -15,12 +15,7 @@ use crate::{Grid, GridCounts};
 fn met(least: f64, most: f64, begin: f64, end: f64) -> u64
     ensures { result ≡ bit (le least end && le begin most) }
 {
-    if least <= end {
-        if begin <= most {
-            return 1;
-        }
-    }
-    0
+    u64::from(least <= end && begin <= most)
 }
 
 // On one axis: how many of the n children of node i the bounds meet.
@@ -31,11 +26,9 @@ fn axis_count(least: f64, most: f64, s: f64, n: u32, i: u64) -> u64
     let steps = n as u64;
     let step = geometry::step_along(from, from + s, steps);
     let mut count: u64 = 0;
-    let mut c: u64 = 0;
-    while c < steps {
+    for c in 0..steps {
         let begin = from + float::from_count(c) * step;
         count += met(least, most, begin, begin + step);
-        c += 1;
     }
     count
 }
@@ -46,10 +39,8 @@ fn axis_total(least: f64, most: f64, s: f64, n: u32, nodes: u64) -> u64
     ensures { result ≡ axis_total least most s n nodes }
 {
     let mut total: u64 = 0;
-    let mut i: u64 = 0;
-    while i < nodes {
+    for i in 0..nodes {
         total += axis_count(least, most, s, n, i);
-        i += 1;
     }
     total
 }
@@ -104,14 +95,4 @@ pub fn grid_counts(g: Grid) -> GridCounts
         nodes: node_total(g) as u64,
         active: active_children(g),
     }
-}
-
-// Whether two grids' counts are the same.
-pub fn same_grid(a: GridCounts, b: GridCounts) -> bool
-    ensures { result ≡ same_grid a b }
-{
-    if a.nodes != b.nodes {
-        return false;
-    }
-    a.active == b.active
 }

@@ -3,25 +3,11 @@ ghost use Rattle.std.specs.Prelude.{◌≡◌, ◌≤◌};
 ghost use Rattle.grid.specs.Blocks.{is_block, cube};
 
 // Whether a block may have this size: cause 2.
+#[tactic(auto, unfolding(crate::specs::Blocks::is_block))]
 pub fn is_block(n: u32) -> bool
     ensures { result ≡ is_block n }
 {
-    if n == 2 {
-        return true;
-    }
-    if n == 4 {
-        return true;
-    }
-    if n == 8 {
-        return true;
-    }
-    if n == 16 {
-        return true;
-    }
-    if n == 32 {
-        return true;
-    }
-    n == 64
+    matches!(n, 2 | 4 | 8 | 16 | 32 | 64)
 }
 
 // The cube of a block's size, or of one more.

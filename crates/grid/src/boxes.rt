@@ -86,13 +86,13 @@ pub fn is_active(g: Grid, v: usize, c: usize) -> bool
 }
 
 // On one axis: whether bounds from `least` to `most` meet child ci of node i.
+#[tactic(auto, unfolding(crate::specs::Inner::Activity::axis_active))]
 pub fn axis_active(least: f64, most: f64, s: f64, n: u32, i: usize, ci: usize) -> bool
     ensures { result ≡ axis_active least most s n i ci }
 {
     let from = node_least(least, s, i);
     let to = node_most(least, s, i);
-    if least <= geometry::along_end(from, to, n as u64, ci as u64) {
-        return geometry::along(from, to, n as u64, ci as u64) <= most;
-    }
-    false
+    let steps = n as u64;
+    least <= geometry::along_end(from, to, steps, ci as u64)
+        && geometry::along(from, to, steps, ci as u64) <= most
 }

@@ -7,13 +7,14 @@ use geometry::BoundingBox;
 mod activity; // activity.rt: how many children are active
 mod blocks; // blocks.rt: the sizes of blocks, and their cubes
 mod boxes; // boxes.rt: where nodes and children lie, and which are active
+mod kinds; // kinds.rt: the number of a child's kind
 mod limits; // limits.rt: what a grid can be: causes 1, 2 and 5
 mod needed; // needed.rt: the list of the corners that a node needs
 mod nodes; // nodes.rt: the size and the number of nodes
 mod points; // points.rt: corner points, leaf points and octets
 mod pruning; // pruning.rt: which children become constants
 
-pub use activity::{active_children, active_in, child_total, grid_counts, same_grid};
+pub use activity::{active_children, active_in, child_total, grid_counts};
 pub use blocks::{cube_of, is_block};
 pub use boxes::{axis_active, child_box, is_active, node_box, node_least, node_most};
 pub use limits::{cause_five, cause_one, cause_two};
@@ -24,7 +25,7 @@ pub use pruning::{average, decide_child, half_diagonal, highest, is_pruned, lowe
 
 // What a grid is made from: the bounds, the cell's size, and how many children (inner) and leaf
 // points (leaf) a node and a leaf have along an axis.
-#[derive(Clone, Copy)]
+#[derive(Clone, Copy, Debug, PartialEq)]
 pub struct Grid {
     pub bounds: BoundingBox,
     pub cell: f64,
@@ -33,30 +34,24 @@ pub struct Grid {
 }
 
 // How many nodes a grid has, and how many active children.
-#[derive(Clone, Copy)]
+#[derive(Clone, Copy, Debug, PartialEq, Eq)]
 pub struct GridCounts {
     pub nodes: u64,
     pub active: u64,
 }
 
-// How many corners a list of them holds, or the cause of a refusal.
-#[derive(Clone, Copy)]
-pub enum CornerList {
-    Count(usize),
-    Refused(u32),
+// The kinds of a child (rule S2): it is not active; it is active and not decided, or a constant; it is a
+// leaf. A lent slice holds their numbers.
+#[derive(Clone, Copy, Debug, PartialEq, Eq)]
+pub enum Kind {
+    Empty = 0,
+    Active = 1,
+    Leaf = 2,
 }
 
-// The kinds of a child (rule S2): it is not active; it is active and not decided, or a constant; it is a
-// leaf.
-pub const EMPTY: u8 = 0;
-
-pub const ACTIVE: u8 = 1;
-
-pub const LEAF: u8 = 2;
-
 // What an active child becomes: a constant, with its kind and its number, or a leaf.
-#[derive(Clone, Copy)]
+#[derive(Clone, Copy, Debug, PartialEq)]
 pub enum Verdict {
-    Constant(u8, f64),
+    Constant(Kind, f64),
     Leaf,
 }

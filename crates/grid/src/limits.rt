@@ -13,30 +13,24 @@ const MOST_NODES: usize = 1024;
 const MOST_CHILDREN: usize = 16_777_216;
 
 // Bounds or a cell's size that no grid can have.
+#[tactic(auto, unfolding(crate::specs::Limits::refused_by_one))]
 pub fn cause_one(g: Grid) -> bool
     ensures { result ≡ refused_by_one g }
 {
-    let bounds = g.bounds;
-    if geometry::box_refused(bounds) {
-        return true;
-    }
-    geometry::cell_refused(g.cell)
+    geometry::box_refused(g.bounds) || geometry::cell_refused(g.cell)
 }
 
 // A block's size that is none.
+#[tactic(auto, unfolding(crate::specs::Limits::refused_by_two))]
 pub fn cause_two(g: Grid) -> bool
     ensures { result ≡ refused_by_two g }
 {
-    if is_block(g.inner) {
-        if is_block(g.leaf) {
-            return false;
-        }
-    }
-    true
+    !is_block(g.inner) || !is_block(g.leaf)
 }
 
 // A node without a finite size, or too many nodes or children. The product is taken last, when its
 // factors are known to be small.
+#[tactic(auto, unfolding(crate::specs::Limits::refused_by_five))]
 pub fn cause_five(g: Grid) -> bool
     requires { refused_by_two g ≡ false }
     ensures { result ≡ refused_by_five g }
@@ -45,13 +39,7 @@ pub fn cause_five(g: Grid) -> bool
         return true;
     }
     let n = node_counts(g);
-    if n.i > MOST_NODES {
-        return true;
-    }
-    if n.j > MOST_NODES {
-        return true;
-    }
-    if n.k > MOST_NODES {
+    if n.i > MOST_NODES || n.j > MOST_NODES || n.k > MOST_NODES {
         return true;
     }
     n.i * n.j * n.k * cube_of(g.inner as usize) > MOST_CHILDREN

@@ -6,8 +6,8 @@ ghost use Rattle.grid.specs.Corners.{needed};
 ghost use Rattle.grid.specs.CornerList.{nonzero_at, corner_list_of, CornersOnce, HoldsCorners};
 ghost use Rattle.grid.specs.Inner.CornerMarks.{marked, eight_from, Marks, Gathered};
 
-use crate::CornerList;
 use crate::blocks::{cube_of, is_block};
+use causes::Cause;
 
 // Marks the eight corners of a child whose first corner is p, where an axis has m corners.
 fn mark_octet(p: usize, m: usize, list: &mut [u32])
@@ -35,12 +35,10 @@ fn mark_row(n: usize, row: usize, kinds: &[u8], list: &mut [u32])
     let m = n + 1;
     let first = row * n;
     let corner = (row / n * m + row % n) * m;
-    let mut i = 0;
-    while i < n {
+    for i in 0..n {
         if kinds[first + i] != 0 {
             mark_octet(corner + i, m, list);
         }
-        i += 1;
     }
 }
 
@@ -49,11 +47,8 @@ fn mark(n: usize, kinds: &[u8], list: &mut [u32])
     requires { (n ≤ 64) × (length kinds.now ≡ n * n * n) × Marks n kinds.now 0 list.old }
     ensures { (length list.new ≡ length list.old) × Marks n kinds.now (n * n * n) list.new }
 {
-    let rows = n * n;
-    let mut row = 0;
-    while row < rows {
+    for row in 0..n * n {
         mark_row(n, row, kinds, list);
-        row += 1;
     }
 }
 
@@ -64,13 +59,11 @@ fn gather(corners: usize, list: &mut [u32]) -> usize
     ensures { Gathered corners list.old list.new result }
 {
     let mut count: usize = 0;
-    let mut corner: usize = 0;
-    while corner < corners {
+    for corner in 0..corners {
         if list[corner] != 0 {
             list[count] = corner as u32;
             count += 1;
         }
-        corner += 1;
     }
     count
 }
@@ -82,31 +75,32 @@ fn list_needed(n: usize, kinds: &[u8], list: &mut [u32]) -> usize
         × (result ≡ count_below (cube (n + 1)) (needed n (nonzero_at kinds.now)))
         × CornersOnce (needed n (nonzero_at kinds.now)) result list.new }
 {
-    slices::zero_words(list);
+    list.fill(0);
     mark(n, kinds, list);
     let corners = cube_of(n + 1);
     let count = gather(corners, list);
-    slices::zero_words(&mut list[count..]);
+    list[count..].fill(0);
     count
 }
 
 // Writes each corner that an active child of the node needs once, in no promised order, zeroes the
 // rest of the list, and answers how many they are. A kind that is not 0 is an active child.
-pub fn corner_list(inner: u32, kinds: &[u8], list: &mut [u32]) -> CornerList
+#[tactic(auto, unfolding(crate::specs::CornerList::corner_list_of, crate::specs::CornerList::corner_list_causes, causes::specs::First::first_of))]
+pub fn corner_list(inner: u32, kinds: &[u8], list: &mut [u32]) -> Result<usize, Cause>
     ensures { (result ≡ corner_list_of inner kinds.now (length list.old))
         × HoldsCorners result inner kinds.now list.old list.new }
 {
     if !is_block(inner) {
-        return CornerList::Refused(2);
+        return Err(Cause::BlockSize);
     }
     let n = inner as usize;
     let children = cube_of(n);
     if kinds.len() != children {
-        return CornerList::Refused(6);
+        return Err(Cause::TooShort);
     }
     let corners = cube_of(n + 1);
     if list.len() < corners {
-        return CornerList::Refused(6);
+        return Err(Cause::TooShort);
     }
-    CornerList::Count(list_needed(n, kinds, list))
+    Ok(list_needed(n, kinds, list))
 }

@@ -1,9 +1,8 @@
 // The points of a node's corners and of a leaf, one at a time and in rows, and a child's octet.
-ghost use Rattle.std.specs.Prelude.{◌≡◌, ◌+◌, ◌^◌, ◌<◌, ◌≤◌, length, slice_index, slice_index_or, slice_set};
-ghost use Rattle.lists.specs.Filled.{filled};
-ghost use Rattle.float.specs.Zero.{plus_zero};
+ghost use Rattle.std.specs.Prelude.{◌≡◌, ◌+◌, ◌^◌, ◌<◌, ◌≤◌, length, slice_index};
 ghost use Rattle.geometry.specs.Values.{vec3i};
 ghost use Rattle.geometry.specs.Axis.{step_along};
+ghost use Rattle.geometry.specs.PointRow.{with_points};
 ghost use Rattle.geometry.specs.Octet.{octet_places};
 ghost use Rattle.grid.specs.Blocks.{cube};
 ghost use Rattle.grid.specs.Corners as corners;
@@ -12,7 +11,7 @@ ghost use Rattle.grid.specs.Inner.Octets.{octet_values};
 ghost use Rattle.grid.specs.Inner.Steps.{leaf_steps, step_from, stepped_point, corner_along, corner_at};
 
 use crate::nodes::steps_between;
-use geometry::{BoundingBox, Vec3, Vec3i};
+use geometry::{BoundingBox, PointRow, Vec3, Vec3i};
 
 // Corner i along an axis, with the step c.
 fn corner_along(origin: f64, c: f64, i: usize) -> f64
@@ -117,101 +116,47 @@ pub fn octet(n: u32, c: usize) -> [usize; 8]
     octet_at(at.i, at.j, at.k, side)
 }
 
-// The value at a place.
-fn value_at(values: &[f64], p: usize) -> f64
-    requires { p < length values.now }
-    ensures { result ≡ slice_index_or values.now p plus_zero }
-{
-    values[p]
-}
-
 // The values at a child's eight corners.
 pub fn octet_values(values: &[f64], n: u32, c: usize) -> [f64; 8]
     requires { (0 < n) × (n ≤ 64) × (c < cube n) × (cube (n + 1) ≤ length values.now) }
     ensures { result ≡ octet_values values.now n c }
 {
-    let p = octet(n, c);
-    [
-        value_at(values, p[0]),
-        value_at(values, p[1]),
-        value_at(values, p[2]),
-        value_at(values, p[3]),
-        value_at(values, p[4]),
-        value_at(values, p[5]),
-        value_at(values, p[6]),
-        value_at(values, p[7]),
-    ]
-}
-
-// Writes a point's coordinates at a place of a row.
-fn store_point(p: Vec3, q: usize, xs: &mut [f64; 64], ys: &mut [f64; 64], zs: &mut [f64; 64])
-    requires { q < 64 }
-    ensures xs { xs.new ≡ slice_set xs.old q p.x }
-    ensures ys { ys.new ≡ slice_set ys.old q p.y }
-    ensures zs { zs.new ≡ slice_set zs.old q p.z }
-{
-    xs[q] = p.x;
-    ys[q] = p.y;
-    zs[q] = p.z;
+    let places = octet(n, c);
+    let mut eight = [0.0; 8];
+    for q in 0..8 {
+        eight[q] = values[places[q]];
+    }
+    eight
 }
 
 // Writes `count` points of a leaf, from point `first` on, to the front of a row.
-pub fn leaf_points(
-    b: BoundingBox,
-    l: u32,
-    first: usize,
-    count: usize,
-    xs: &mut [f64; 64],
-    ys: &mut [f64; 64],
-    zs: &mut [f64; 64],
-)
+pub fn leaf_points(b: BoundingBox, l: u32, first: usize, count: usize, row: &mut PointRow)
     requires { (0 < l) × (count ≤ 64) × (first + count < 2 ^ 64) }
-    ensures xs { xs.new ≡ filled 0 count (λ q. (leaf_point b l (first + q)).x) xs.old }
-    ensures ys { ys.new ≡ filled 0 count (λ q. (leaf_point b l (first + q)).y) ys.old }
-    ensures zs { zs.new ≡ filled 0 count (λ q. (leaf_point b l (first + q)).z) zs.old }
+    ensures { row.new ≡ with_points count (λ q. leaf_point b l (first + q)) row.old }
 {
     let min = b.min;
     let side = l as usize;
     let steps = leaf_steps(b, l);
     let mut at = geometry::indices(first, side, side);
-    let mut q: usize = 0;
-    while q < count {
-        store_point(stepped_point(min, steps, at), q, xs, ys, zs);
+    for q in 0..count {
+        row.set(q, stepped_point(min, steps, at));
         at = geometry::next_indices(at, side, side);
-        q += 1;
     }
 }
 
 // Writes the points of a list of at most 64 corners of a node to the front of a row.
-pub fn corner_points(
-    b: BoundingBox,
-    n: u32,
-    list: &[u32],
-    xs: &mut [f64; 64],
-    ys: &mut [f64; 64],
-    zs: &mut [f64; 64],
-)
+pub fn corner_points(b: BoundingBox, n: u32, list: &[u32], row: &mut PointRow)
     requires { length list.now ≤ 64 }
-    ensures xs { xs.new
-        ≡ filled 0 (length list.now) (λ q. (corners.corner_point b n (slice_index list.now q)).x) xs.old }
-    ensures ys { ys.new
-        ≡ filled 0 (length list.now) (λ q. (corners.corner_point b n (slice_index list.now q)).y) ys.old }
-    ensures zs { zs.new
-        ≡ filled 0 (length list.now) (λ q. (corners.corner_point b n (slice_index list.now q)).z) zs.old }
+    ensures { row.new
+        ≡ with_points (length list.now) (λ q. corners.corner_point b n (slice_index list.now q)) row.old }
 {
     let min = b.min;
     let c = corner_step(b, n);
     let side = (n as usize) + 1;
-    let mut q: usize = 0;
-    while q < list.len() {
-        let corner = list[q] as usize;
-        store_point(
-            corner_at(min, c, geometry::indices(corner, side, side)),
+    for (q, corner) in list.iter().enumerate() {
+        row.set(
             q,
-            xs,
-            ys,
-            zs,
+            corner_at(min, c, geometry::indices(*corner as usize, side, side)),
         );
-        q += 1;
     }
 }

@@ -20,25 +20,18 @@ pub struct Input {
 }
 
 // The values that matter: a child whose values all lie outside becomes a constant.
-#[derive(Clone, Copy)]
+#[derive(Clone, Copy, Debug, PartialEq)]
 pub struct Band {
     pub min: f64,
     pub max: f64,
 }
 
 // How long the five slices are that a job is lent.
-#[derive(Clone, Copy)]
+#[derive(Clone, Copy, Debug, PartialEq, Eq)]
 pub struct Lengths {
     pub kinds: usize,
     pub numbers: usize,
     pub places: usize,
     pub store: usize,
     pub corners: usize,
-}
-
-// The cause of a refusal, if there is one.
-#[derive(Clone, Copy)]
-pub enum Refusal {
-    None,
-    By(u32),
 }

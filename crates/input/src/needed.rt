@@ -24,20 +24,13 @@ pub fn needed_lengths(g: Grid) -> Lengths
 }
 
 // Whether one of five lengths is below the one that it is held against.
+#[tactic(auto, unfolding(crate::specs::Needed::shorter))]
 pub fn is_shorter(lengths: Lengths, needed: Lengths) -> bool
     ensures { result ≡ shorter lengths needed }
 {
-    if lengths.kinds < needed.kinds {
-        return true;
-    }
-    if lengths.numbers < needed.numbers {
-        return true;
-    }
-    if lengths.places < needed.places {
-        return true;
-    }
-    if lengths.store < needed.store {
-        return true;
-    }
-    lengths.corners < needed.corners
+    lengths.kinds < needed.kinds
+        || lengths.numbers < needed.numbers
+        || lengths.places < needed.places
+        || lengths.store < needed.store
+        || lengths.corners < needed.corners
 }

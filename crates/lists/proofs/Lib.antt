@@ -2,6 +2,8 @@ pub mod Tests
 pub mod Lists
 pub mod Tables
 pub mod Filling
+pub mod LentPart
+pub mod Rest
 pub mod Sums
 pub mod Flags
 pub mod Ranges

@@ -17,19 +17,30 @@ use Rattle.lists.proofs.Tables.{length_tabulate, get_d_tabulate, get_or_before, 
 use Rattle.lists.proofs.Filling.{filled_same}
 use Rattle.float.specs.Zero.{plus_zero}
 use Rattle.model.specs.Part.{past, part_value}
-use Rattle.model.specs.Model.{values_to, model_value}
-use Rattle.model.specs.Flat.{Flat, part_at, parts_of}
+use Rattle.model.specs.Model.{values_to, model_value, part_at, parts_of}
+use Rattle.geometry.specs.declared.PointRow.{PointRow}
+use Rattle.geometry.specs.PointRow.{point_in}
+use Rattle.model.specs.declared.Part.{Part}
 use Rattle.model.specs.Row.{values_at, evaluated_rows, model_row}
 use Rattle.model.specs.Inner.Lanes.{lane_at, filled_row, lane}
 use Rattle.model.proofs.Values.{length_values_to, reads_below}
-use Rattle.model.proofs.ReadBack.{part_at_below}
-use Rattle.model.proofs.FlatValues.{value_more, none_value}
+use Rattle.model.proofs.Placed.{part_at_below}
+use Rattle.model.proofs.PartValues.{value_more, none_value}
 use Rattle.model.proofs.Rows.{length_filled, filled_below, filled_past, filled_at}
 
-module _ (l : Flat) (n : ℕ) (px py pz values : List Float) where
+module _ (l : List Part) (n : ℕ) (points : PointRow) (values : List Float) where
+  abbrev x : ℕ → Float
+  x k = (point_in points k).x
+
+  abbrev y : ℕ → Float
+  y k = (point_in points k).y
+
+  abbrev z : ℕ → Float
+  z k = (point_in points k).z
+
   -- part p's value at lane k, from the rows before it
   abbrev pub lane_value : List Float → (p k : ℕ) → Float
-  lane_value now p k = part_value (part_at l p) (get_or px k past) (get_or py k past) (get_or pz k past) (lane now k p)
+  lane_value now p k = part_value (part_at l p) (x k) (y k) (z k) (lane now k p)
 
   -- the first p rows filled
   unfoldable pub rows_to : ℕ → List Float
@@ -68,10 +79,10 @@ module _ (l : Flat) (n : ℕ) (px py pz values : List Float) where
 
     module _ (count : ℕ) where
       abbrev below : (k p : ℕ) → List Float
-      below k p = values_to (parts_of l count) (get_or px k past) (get_or py k past) (get_or pz k past) p
+      below k p = values_to (parts_of l count) (x k) (y k) (z k) p
 
       below_long : (k p : ℕ) → length (below k p) ≡ p
-      below_long k p = length_values_to (parts_of l count) (get_or px k past) (get_or py k past) (get_or pz k past) p
+      below_long k p = length_values_to (parts_of l count) (x k) (y k) (z k) p
 
       -- each lane of the first p rows holds its point's value
       rows_at : (p : ℕ) → p ≤ count → (q k : ℕ) → q < p → k < n → lane_at q k < length values
@@ -80,12 +91,12 @@ module _ (l : Flat) (n : ℕ) (px py pz values : List Float) where
       rows_at zero most q k h hk long = absurd (not-suc-le-zero h)
       rows_at (suc p) most q k h hk long =
           one (ltb q p) refl (rows_at p (omega arith))
-          ∙ ap (λ (t : List Float). get_or t q past) (sym (value_more l count (get_or px k past) (get_or py k past) (get_or pz k past) p most))
+          ∙ ap (λ (t : List Float). get_or t q past) (sym (value_more l count (x k) (y k) (z k) p most))
         where
           one : (b : Bool) → ltb q p ≡ b
               → ((q k : ℕ) → q < p → k < n → lane_at q k < length values → get_or (rows_to p) (lane_at q k) past ≡ get_or (below k p) q past)
               → get_or (filled_row (rows_to p) p n (lane_value (rows_to p) p)) (lane_at q k) past
-              ≡ get_or (below k p ++ (part_value (part_at l p) (get_or px k past) (get_or py k past) (get_or pz k past) (below k p) ∷ [])) q past
+              ≡ get_or (below k p ++ (part_value (part_at l p) (x k) (y k) (z k) (below k p) ∷ [])) q past
           one true e earlier =
               let before : q < p = ltb-true q p e in
               filled_below (rows_to p) p n (lane_value (rows_to p) p) (lane_at q k) (omega (arith, mul-le-mul_right 64 before))
@@ -96,21 +107,21 @@ module _ (l : Flat) (n : ℕ) (px py pz values : List Float) where
               let within : lane_at p k < length values = omega arith in
               ap (λ (i : ℕ). get_or (filled_row (rows_to p) p n (lane_value (rows_to p) p)) (lane_at i k) past) last
               ∙ filled_at (rows_to p) p n (lane_value (rows_to p) p) k hk (omega (arith, length_rows p))
-              ∙ reads_below (part_at l p) (get_or px k past) (get_or py k past) (get_or pz k past) (lane (rows_to p) k p) (below k p) p (part_at_below l p)
+              ∙ reads_below (part_at l p) (x k) (y k) (z k) (lane (rows_to p) k p) (below k p) p (part_at_below l p)
               (λ i hi. get_d_tabulate p (λ r. get_or (rows_to p) (lane_at r k) past) i past hi ∙ earlier i k hi hk (omega (arith, mul-le-mul_right 64 hi)))
               ∙ sym (get_or_last (below k p) _ q past (below_long k p ∙ sym last))
 
-      pub all_rows : rows_to count ≡ evaluated_rows l count n px py pz values
+      pub all_rows : rows_to count ≡ evaluated_rows l count n points values
       unfolding evaluated_rows
       all_rows =
-          ext_get_or past (rows_to count) (evaluated_rows l count n px py pz values)
+          ext_get_or past (rows_to count) (evaluated_rows l count n points values)
           (length_rows count ∙ sym (length_tabulate (length values) _))
           (λ j h. one j (omega (arith, length_rows count)) (ltb (j / 64) count) refl (ltb (j % 64) n) refl
           ∙ sym (get_d_tabulate (length values) _ j past (omega (arith, length_rows count))))
         where
           one : (j : ℕ) → j < length values → (b : Bool) → ltb (j / 64) count ≡ b → (b' : Bool) → ltb (j % 64) n ≡ b'
               → get_or (rows_to count) j past
-              ≡ cond (ltb (j / 64) count && ltb (j % 64) n) (get_or (values_at l count px py pz (j % 64)) (j / 64) past) (get_or values j past)
+              ≡ cond (ltb (j / 64) count && ltb (j % 64) n) (get_or (values_at l count points (j % 64)) (j / 64) past) (get_or values j past)
           one j h true e true e' =
               let place : j ≡ lane_at (j / 64) (j % 64) = omega arith in
               rw (e, e')
@@ -123,8 +134,8 @@ module _ (l : Flat) (n : ℕ) (px py pz values : List Float) where
 
       -- the last row holds the model's value at each point
       pub last_row : (k : ℕ) → 0 < count → k < n → lane_at (count - 1) k < length values
-          → get_or (evaluated_rows l count n px py pz values) (lane_at (count - 1) k) past
-          ≡ model_value (parts_of l count) count (get_or px k past) (get_or py k past) (get_or pz k past)
+          → get_or (evaluated_rows l count n points values) (lane_at (count - 1) k) past
+          ≡ model_value (parts_of l count) count (x k) (y k) (z k)
       unfolding model_value
       last_row k some hk long =
           ap (λ (t : List Float). get_or t (lane_at (count - 1) k) past) (sym all_rows)
@@ -132,14 +143,14 @@ module _ (l : Flat) (n : ℕ) (px py pz values : List Float) where
           ∙ get_d_any (below k count) (count - 1) past plus_zero (omega (arith, below_long k count))
 
 -- the row of the model's values, from the last of the rows, or from +0 where there is no part
-module _ (l : Flat) (count n : ℕ) (px py pz values results : List Float) where
-  length_evaluated : length (evaluated_rows l count n px py pz values) ≡ length values
+module _ (l : List Part) (count n : ℕ) (points : PointRow) (values results : List Float) where
+  length_evaluated : length (evaluated_rows l count n points values) ≡ length values
   unfolding evaluated_rows
   length_evaluated = length_tabulate (length values) _
 
-  pub row_of_last : {now last : List Float} → n ≤ 64 → 0 < count → now ≡ evaluated_rows l count n px py pz values
+  pub row_of_last : {now last : List Float} → n ≤ 64 → 0 < count → now ≡ evaluated_rows l count n points values
       → lane_at (count - 1) n ≤ length now
-      → last ≡ filled 0 n (λ k. get_or now (lane_at (count - 1) k) past) results → last ≡ model_row l count n px py pz results
+      → last ≡ filled 0 n (λ k. get_or now (lane_at (count - 1) k) past) results → last ≡ model_row l count n points results
   unfolding model_row
   row_of_last {now} {last} lanes some e long row =
       let same : length now ≡ length values = ap length e ∙ length_evaluated in
@@ -148,11 +159,11 @@ module _ (l : Flat) (count n : ℕ) (px py pz values results : List Float) where
       (λ k from below.
       let h : k < n = omega arith in
       ap (λ (t : List Float). get_or t (lane_at (count - 1) k) past) e
-      ∙ last_row l n px py pz values lanes count k some h (omega arith))
+      ∙ last_row l n points values lanes count k some h (omega arith))
 
-  pub row_of_none : {last : List Float} → count ≡ 0 → last ≡ filled 0 n (λ k. plus_zero) results → last ≡ model_row l count n px py pz results
+  pub row_of_none : {last : List Float} → count ≡ 0 → last ≡ filled 0 n (λ k. plus_zero) results → last ≡ model_row l count n points results
   unfolding model_row
   row_of_none e row =
       row
       ∙ filled_same 0 n _ _ results
-      (λ k from below. sym (none_value l (get_or px k past) (get_or py k past) (get_or pz k past) e))
+      (λ k from below. sym (none_value l (point_in points k).x (point_in points k).y (point_in points k).z e))

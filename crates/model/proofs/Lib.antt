@@ -1,12 +1,10 @@
 pub mod InOrder
 pub mod Values
 pub mod EntryRows
-pub mod ReadBack
-pub mod ByCode
-pub mod FlatValues
+pub mod Placed
+pub mod PartValues
 pub mod Accepted
 pub mod Rows
-pub mod Middle
-pub mod RowByCode
+pub mod PartRow
 pub mod AllRows
 pub mod SameParts

@@ -6,6 +6,7 @@ use native.Mathlib.Nat.{mul-le-mul_right}
 use native.Mathlib.Omega.{arith}
 use lib.ListN.{length, get_or, set}
 use lib.Ieee.{Float}
+use Rattle.lists.specs.Filled.{filled as lists_filled}
 use Rattle.lists.proofs.Filling as lists
 use Rattle.model.specs.Part.{past}
 use Rattle.model.specs.Inner.Lanes.{lane_at, filled_row}
@@ -42,6 +43,14 @@ module _ (values : List Float) (p : ℕ) where
   unfolding filled_row
   filled_at n f k h long =
       lists.get_or_filled (p * 64) n (placed f) values (lane_at p k) past (omega arith) (omega arith) long ∙ at_lane f k
+
+  -- a stretch by its places is the row by its lanes
+  pub own_lanes : (n : ℕ) (g : Float → Float) → lists_filled (p * 64) n (λ q. g (get_or values q past)) values
+      ≡ filled_row values p n (λ k. g (get_or values (lane_at p k) past))
+  unfolding filled_row
+  own_lanes n g =
+      lists.filled_same (p * 64) n _ _ values
+      (λ q from below. let place : q ≡ lane_at p (q - p * 64) = omega arith in ap (λ (j : ℕ). g (get_or values j past)) place)
 
   pub filled_cong : (n : ℕ) (f g : ℕ → Float) → ((k : ℕ) → k < n → f k ≡ g k) → filled_row values p n f ≡ filled_row values p n g
   unfolding filled_row

@@ -1,8 +1,9 @@
 -- What a part's value is, and which inputs it has (rules M2 to M7).
-use Rattle.std.specs.Prelude.{ℕ, Bool, true, ◌&&◌, List, get_or, ltb, Float}
+use Rattle.std.specs.Prelude.{ℕ, Bool, true, cond, ◌&&◌, List, get_or, ltb, Float}
 use Rattle.std.specs.Float.{nan, binary64}
 use Rattle.std.specs.Float.Ieee.{add, sub, mul, neg}
 use Rattle.float.specs.Select.{min_of, max_of}
+use Rattle.float.specs.Zero.{plus_zero}
 use Rattle.geometry.specs.declared.Vec3.{Vec3}
 use Rattle.geometry.specs.Distance.{distance_of}
 use Rattle.model.specs.declared.Part.{Part}
@@ -50,3 +51,7 @@ inputs_below p (Max a b) = ltb a p && ltb b p
 inputs_below p (Add a b) = ltb a p && ltb b p
 inputs_below p (Sub a b) = ltb a p && ltb b p
 inputs_below p (Neg a) = ltb a p
+
+-- a part whose inputs do not all stand below its place counts as the constant +0 (rule M10)
+unfoldable pub placed : ℕ → Part → Part
+placed p part = cond (inputs_below p part) part (Constant plus_zero)

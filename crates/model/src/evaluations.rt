@@ -1,101 +1,75 @@
-// The calls that evaluate: a model at a point, and flat arrays of any contents at a point and at a row of points.
+// The calls that evaluate: a model at a point, and models of any contents at a point and at a row of points.
 ghost use Rattle.std.specs.Prelude.{◌≡◌, ◌++◌, min, drop};
-ghost use Rattle.model.specs.Flat.{flat_in, parts_of};
 ghost use Rattle.model.specs.Row.{evaluated_rows, model_row};
-ghost use Rattle.model.specs.Model.{values_to, model_value, evaluation_of};
+ghost use Rattle.model.specs.Model.{values_to, parts_in, parts_of, parts_value, evaluation_of};
 
-use super::layout::lay_out;
 use super::refusals::cause_four;
-use super::{Evaluation, ImplicitModel, point, row};
+use super::{ImplicitModel, point, row};
+use causes::Cause;
+use geometry::{PointRow, Vec3};
 
-// n, or 64 where n is more.
-fn at_most_64(n: usize) -> usize
-    ensures { result ≡ min n 64 }
+// The parts of a model that count: 64 at most.
+fn part_count(model: &ImplicitModel) -> usize
+    ensures { result ≡ min model.now.count 64 }
 {
-    if n < 64 { n } else { 64 }
+    (model.count as usize).min(64)
 }
 
-// The value at a point of the first `count` parts that flat arrays of any contents stand for, 64 at most. The parts' values
-// are left in `values`, in order.
-pub fn evaluate_flat(
-    words: &[u32; 192],
-    numbers: &[f64; 256],
-    count: usize,
-    x: f64,
-    y: f64,
-    z: f64,
-    values: &mut [f64; 64],
-) -> f64
-    ensures answer { result ≡ model_value (parts_of (flat_in words numbers) (min count 64)) (min count 64) x y z }
+// The value at a point of a model of any contents, of which 64 parts count at most. The parts' values are left in
+// `values`, in order.
+pub fn evaluate_parts(model: &ImplicitModel, at: Vec3, values: &mut [f64; 64]) -> f64
+    ensures answer { result ≡ parts_value (parts_in model.now) (min model.now.count 64) at.x at.y at.z }
     ensures values { values.new
-        ≡ values_to (parts_of (flat_in words numbers) (min count 64)) x y z (min count 64) ++ drop (min count 64) values.old }
+        ≡ values_to (parts_of (parts_in model.now) (min model.now.count 64)) at.x at.y at.z (min model.now.count 64)
+        ++ drop (min model.now.count 64) values.old }
 {
-    let m = at_most_64(count);
-    point::fill_values(words, numbers, m, x, y, z, values);
-    if m == 0 {
+    let count = part_count(model);
+    point::fill_values(model, count, at, values);
+    if count == 0 {
         return 0.0;
     }
-    values[m - 1]
+    values[count - 1]
 }
 
 // The model's value at a point: its last part's. A model that cause 4 refuses has none.
-pub fn evaluate_at_coord(model: ImplicitModel, x: f64, y: f64, z: f64) -> Evaluation
-    ensures { result ≡ evaluation_of model x y z }
+pub fn evaluate_at_coord(model: &ImplicitModel, x: f64, y: f64, z: f64) -> Result<f64, Cause>
+    ensures { result ≡ evaluation_of model.now x y z }
 {
     if cause_four(model) {
-        return Evaluation::Refused(4);
+        return Err(Cause::Parts);
     }
-    let mut words = [0u32; 192];
-    let mut numbers = [0.0; 256];
     let mut values = [0.0; 64];
-    lay_out(model, &mut words, &mut numbers);
-    let count = model.count as usize;
-    let value = evaluate_flat(&words, &numbers, count, x, y, z, &mut values);
-    Evaluation::Value(value)
+    Ok(evaluate_parts(model, Vec3::new(x, y, z), &mut values))
 }
 
-// The values of the first `count` parts at n points, 64 at most of each: part p's value at point i is left at p * 64 + i.
-pub fn evaluate_row(
-    words: &[u32; 192],
-    numbers: &[f64; 256],
-    count: usize,
-    px: &[f64; 64],
-    py: &[f64; 64],
-    pz: &[f64; 64],
-    n: usize,
-    values: &mut [f64; 4096],
-)
+// The values of the parts of a model of any contents at n points, 64 at most of each: part p's value at point i is
+// left at p * 64 + i.
+pub fn evaluate_row(model: &ImplicitModel, points: &PointRow, n: usize, values: &mut [f64; 4096])
     ensures { values.new
-        ≡ evaluated_rows (flat_in words numbers) (min count 64) (min n 64) px.now py.now pz.now values.old }
+        ≡ evaluated_rows (parts_in model.now) (min model.now.count 64) (min n 64) points.now values.old }
 {
-    let parts = at_most_64(count);
-    let points = at_most_64(n);
-    row::fill_parts(words, numbers, parts, px, py, pz, points, values);
+    row::fill_parts(model, part_count(model), points, n.min(64), values);
 }
 
 // The same, with the model's value at each point left at the front of `results`.
 pub fn evaluate_row_into(
-    words: &[u32; 192],
-    numbers: &[f64; 256],
-    count: usize,
-    px: &[f64; 64],
-    py: &[f64; 64],
-    pz: &[f64; 64],
+    model: &ImplicitModel,
+    points: &PointRow,
     n: usize,
     values: &mut [f64; 4096],
     results: &mut [f64; 64],
 )
     ensures values { values.new
-        ≡ evaluated_rows (flat_in words numbers) (min count 64) (min n 64) px.now py.now pz.now values.old }
+        ≡ evaluated_rows (parts_in model.now) (min model.now.count 64) (min n 64) points.now values.old }
     ensures results { results.new
-        ≡ model_row (flat_in words numbers) (min count 64) (min n 64) px.now py.now pz.now results.old }
+        ≡ model_row (parts_in model.now) (min model.now.count 64) (min n 64) points.now results.old }
 {
-    let parts = at_most_64(count);
-    let points = at_most_64(n);
-    row::fill_parts(words, numbers, parts, px, py, pz, points, values);
-    if parts == 0 {
-        slices::fill_floats(0.0, results, 0, points);
+    let count = part_count(model);
+    let lanes = n.min(64);
+    row::fill_parts(model, count, points, lanes, values);
+    if count == 0 {
+        results[..lanes].fill(0.0);
         return;
     }
-    row::copy_row(values, parts - 1, points, results);
+    row::copy_row(values, count - 1, lanes, results);
 }

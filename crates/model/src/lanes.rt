@@ -2,111 +2,58 @@
 // other. Part p's value at lane i stands at p * 64 + i, and an operation reads the rows of earlier parts.
 ghost use Rattle.std.specs.Prelude.{◌≡◌, ◌+◌, ◌*◌, ◌≤◌, ◌<◌, length, get_or};
 ghost use Rattle.std.specs.Float.{binary64};
-ghost use Rattle.std.specs.Float.Ieee.{add, sub, neg};
-ghost use Rattle.float.specs.Select.{min_of, max_of};
+ghost use Rattle.std.specs.Float.Ieee.{sub, neg};
 ghost use Rattle.root.specs.Root.{square_root};
-ghost use Rattle.geometry.specs.Values.{vec3};
 ghost use Rattle.geometry.specs.Distance.{distance_squared_of};
+ghost use Rattle.geometry.specs.PointRow.{point_in};
 ghost use Rattle.model.specs.Part.{past, sphere_value, plane_value};
 ghost use Rattle.model.specs.Inner.Lanes.{lane_at, filled_row};
 
 use super::point;
-use geometry::Vec3;
+use float::Operation;
+use geometry::{PointRow, Vec3};
 
+#[tactic(auto, unfolding(crate::specs::Inner::Lanes::filled_row))]
 pub fn fill_constant(values: &mut [f64; 4096], p: usize, n: usize, w: f64)
     requires { (p < 64) × (n ≤ 64) }
     ensures { values.new ≡ filled_row values.old p n (λ k. w) }
 {
-    slices::fill_floats(w, values, p * 64, n);
+    let row = p * 64;
+    values[row..row + n].fill(w);
 }
 
+// How far each point is above a plane.
 pub fn fill_plane(
     values: &mut [f64; 4096],
     p: usize,
     n: usize,
-    px: &[f64; 64],
-    py: &[f64; 64],
-    pz: &[f64; 64],
+    points: &PointRow,
     normal: Vec3,
-    d: f64,
+    offset: f64,
 )
     requires { (p < 64) × (n ≤ 64) }
     ensures { values.new
         ≡ filled_row values.old p n
-        (λ k. plane_value normal d (get_or px.now k past) (get_or py.now k past) (get_or pz.now k past)) }
+        (λ k. let at = point_in points.now k in plane_value normal offset at.x at.y at.z) }
 {
-    let nx = normal.x;
-    let ny = normal.y;
-    let nz = normal.z;
     let row = p * 64;
-    let mut i: usize = 0;
-    while i < n {
-        values[row + i] = point::plane_value(nx, ny, nz, d, px[i], py[i], pz[i]);
-        i += 1;
+    for i in 0..n {
+        values[row + i] = point::plane_value(normal, offset, points.get(i));
     }
 }
 
-pub fn fill_min(values: &mut [f64; 4096], p: usize, n: usize, a: usize, b: usize)
+// What an operation makes of two earlier rows.
+pub fn fill_two<O: Operation>(values: &mut [f64; 4096], p: usize, n: usize, a: usize, b: usize)
     requires { (p < 64) × (n ≤ 64) × (a < p) × (b < p) }
     ensures { values.new
         ≡ filled_row values.old p n
-        (λ k. min_of (get_or values.old (lane_at a k) past) (get_or values.old (lane_at b k) past)) }
+        (λ k. O.of (get_or values.old (lane_at a k) past) (get_or values.old (lane_at b k) past)) }
 {
     let row = p * 64;
     let first = a * 64;
     let second = b * 64;
-    let mut i: usize = 0;
-    while i < n {
-        values[row + i] = float::min(values[first + i], values[second + i]);
-        i += 1;
-    }
-}
-
-pub fn fill_max(values: &mut [f64; 4096], p: usize, n: usize, a: usize, b: usize)
-    requires { (p < 64) × (n ≤ 64) × (a < p) × (b < p) }
-    ensures { values.new
-        ≡ filled_row values.old p n
-        (λ k. max_of (get_or values.old (lane_at a k) past) (get_or values.old (lane_at b k) past)) }
-{
-    let row = p * 64;
-    let first = a * 64;
-    let second = b * 64;
-    let mut i: usize = 0;
-    while i < n {
-        values[row + i] = float::max(values[first + i], values[second + i]);
-        i += 1;
-    }
-}
-
-pub fn fill_add(values: &mut [f64; 4096], p: usize, n: usize, a: usize, b: usize)
-    requires { (p < 64) × (n ≤ 64) × (a < p) × (b < p) }
-    ensures { values.new
-        ≡ filled_row values.old p n
-        (λ k. add binary64 (get_or values.old (lane_at a k) past) (get_or values.old (lane_at b k) past)) }
-{
-    let row = p * 64;
-    let first = a * 64;
-    let second = b * 64;
-    let mut i: usize = 0;
-    while i < n {
-        values[row + i] = float::computed(values[first + i] + values[second + i]);
-        i += 1;
-    }
-}
-
-pub fn fill_sub(values: &mut [f64; 4096], p: usize, n: usize, a: usize, b: usize)
-    requires { (p < 64) × (n ≤ 64) × (a < p) × (b < p) }
-    ensures { values.new
-        ≡ filled_row values.old p n
-        (λ k. sub binary64 (get_or values.old (lane_at a k) past) (get_or values.old (lane_at b k) past)) }
-{
-    let row = p * 64;
-    let first = a * 64;
-    let second = b * 64;
-    let mut i: usize = 0;
-    while i < n {
-        values[row + i] = float::computed(values[first + i] - values[second + i]);
-        i += 1;
+    for i in 0..n {
+        values[row + i] = O::apply(values[first + i], values[second + i]);
     }
 }
 
@@ -116,87 +63,61 @@ pub fn fill_neg(values: &mut [f64; 4096], p: usize, n: usize, a: usize)
 {
     let row = p * 64;
     let first = a * 64;
-    let mut i: usize = 0;
-    while i < n {
+    for i in 0..n {
         values[row + i] = float::computed(-values[first + i]);
-        i += 1;
     }
 }
 
-// The square of the distance from (cx, cy, cz).
-pub fn square_distance(cx: f64, cy: f64, cz: f64, x: f64, y: f64, z: f64) -> f64
-    ensures { result ≡ distance_squared_of (vec3 cx cy cz) x y z }
+// The square of the distance between two points. It is not brought to the computed NaN: its root is.
+#[tactic(auto, unfolding(geometry::specs::Distance::square, geometry::specs::Distance::distance_squared_of))]
+fn square_distance(c: Vec3, at: Vec3) -> f64
+    ensures { result ≡ distance_squared_of c at.x at.y at.z }
 {
-    let dx = cx - x;
-    let dy = cy - y;
-    let dz = cz - z;
+    let dx = c.x - at.x;
+    let dy = c.y - at.y;
+    let dz = c.z - at.z;
     (dx * dx + dy * dy) + dz * dz
 }
 
-pub fn fill_squares(
-    values: &mut [f64; 4096],
-    p: usize,
-    n: usize,
-    px: &[f64; 64],
-    py: &[f64; 64],
-    pz: &[f64; 64],
-    c: Vec3,
-)
+fn fill_squares(values: &mut [f64; 4096], p: usize, n: usize, points: &PointRow, c: Vec3)
     requires { (p < 64) × (n ≤ 64) }
     ensures { values.new
         ≡ filled_row values.old p n
-        (λ k. distance_squared_of c (get_or px.now k past) (get_or py.now k past) (get_or pz.now k past)) }
+        (λ k. let at = point_in points.now k in distance_squared_of c at.x at.y at.z) }
 {
-    let cx = c.x;
-    let cy = c.y;
-    let cz = c.z;
     let row = p * 64;
-    let mut i: usize = 0;
-    while i < n {
-        values[row + i] = square_distance(cx, cy, cz, px[i], py[i], pz[i]);
-        i += 1;
+    for i in 0..n {
+        values[row + i] = square_distance(c, points.get(i));
     }
 }
 
 // Each lane of a row becomes its square root.
-pub fn take_roots(values: &mut [f64], p: usize, n: usize)
+fn take_roots(values: &mut [f64], p: usize, n: usize)
     requires { lane_at p n ≤ length values.old }
     ensures { values.new ≡ filled_row values.old p n (λ k. square_root (get_or values.old (lane_at p k) past)) }
 {
-    let start = p * 64;
-    let end = start + n;
-    root::sqrt_row(&mut values[start..end]);
+    let row = p * 64;
+    root::sqrt_row(&mut values[row..row + n]);
 }
 
-pub fn take_radius(values: &mut [f64; 4096], p: usize, n: usize, r: f64)
+fn take_radius(values: &mut [f64; 4096], p: usize, n: usize, r: f64)
     requires { (p < 64) × (n ≤ 64) }
     ensures { values.new ≡ filled_row values.old p n (λ k. sub binary64 (get_or values.old (lane_at p k) past) r) }
 {
     let row = p * 64;
-    let mut i: usize = 0;
-    while i < n {
+    for i in 0..n {
         values[row + i] = float::computed(values[row + i] - r);
-        i += 1;
     }
 }
 
 // The distance to a sphere's centre c, less its radius, at each lane.
-pub fn fill_sphere(
-    values: &mut [f64; 4096],
-    p: usize,
-    n: usize,
-    px: &[f64; 64],
-    py: &[f64; 64],
-    pz: &[f64; 64],
-    c: Vec3,
-    r: f64,
-)
+pub fn fill_sphere(values: &mut [f64; 4096], p: usize, n: usize, points: &PointRow, c: Vec3, r: f64)
     requires { (p < 64) × (n ≤ 64) }
     ensures { values.new
         ≡ filled_row values.old p n
-        (λ k. sphere_value c r (get_or px.now k past) (get_or py.now k past) (get_or pz.now k past)) }
+        (λ k. let at = point_in points.now k in sphere_value c r at.x at.y at.z) }
 {
-    fill_squares(values, p, n, px, py, pz, c);
+    fill_squares(values, p, n, points, c);
     take_roots(values, p, n);
     take_radius(values, p, n, r);
 }

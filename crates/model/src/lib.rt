@@ -4,15 +4,14 @@
 
 use geometry::Vec3;
 
-mod codes; // codes.rt: the code of each sort of part
 mod evaluations; // evaluations.rt: the calls that evaluate, at a point and at a row of points
-mod layout; // layout.rt: a part's places in the flat arrays
+mod layout; // layout.rt: a model's parts in two flat arrays, as hosts carry them
 mod lanes; // lanes.rt: a part's values at a row of points
 mod point; // point.rt: the parts' values at a point
 mod refusals; // refusals.rt: the test of cause 4
 mod row; // row.rt: all parts' values at a row of points
 
-pub use evaluations::{evaluate_at_coord, evaluate_flat, evaluate_row, evaluate_row_into};
+pub use evaluations::{evaluate_at_coord, evaluate_parts, evaluate_row, evaluate_row_into};
 pub use layout::lay_out;
 pub use refusals::{cause_four, inputs_below};
 
@@ -20,7 +19,7 @@ pub use refusals::{cause_four, inputs_below};
 pub const MOST_PARTS: usize = 64;
 
 // One part of a model. An operation names its inputs by their places in the list.
-#[derive(Clone, Copy)]
+#[derive(Clone, Copy, Debug, PartialEq)]
 pub enum Part {
     Constant(f64),
     Sphere(Vec3, f64),
@@ -33,21 +32,15 @@ pub enum Part {
 }
 
 // A part as a model holds it.
-#[derive(Clone, Copy)]
+#[derive(Clone, Copy, Debug, PartialEq)]
 pub struct ModelComponent {
     pub part: Part,
 }
 
 // A model is its first `count` parts.
+// Kept: an array with its count, since an engine has no heap and the parts past the count go along in a record.
 #[derive(Clone, Copy)]
 pub struct ImplicitModel {
     pub parts: [ModelComponent; 64],
     pub count: u32,
-}
-
-// A model's value at a point, or the cause of a refusal.
-#[derive(Clone, Copy)]
-pub enum Evaluation {
-    Value(f64),
-    Refused(u32),
 }

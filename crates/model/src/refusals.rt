@@ -1,66 +1,42 @@
 // The test of cause 4, and what it asks of each part.
-ghost use Rattle.std.specs.Prelude.{◌≡◌, ◌&&◌, map, ◌≤◌, ltb};
-ghost use Rattle.model.specs.Part.{part_in, inputs_below};
-ghost use Rattle.model.specs.Model.{ordered_to, refused_by_four};
+ghost use Rattle.std.specs.Prelude.{◌≡◌, ◌≤◌};
+ghost use Rattle.model.specs.Part.{inputs_below};
+ghost use Rattle.model.specs.Model.{ordered_to, parts_in, refused_by_four};
 
-use super::{ImplicitModel, MOST_PARTS, ModelComponent, Part};
-
-fn below(a: u32, p: usize) -> bool
-    ensures { result ≡ ltb a p }
-{
-    (a as usize) < p
-}
-
-fn both_below(a: u32, b: u32, p: usize) -> bool
-    ensures { result ≡ (ltb a p && ltb b p) }
-{
-    if below(a, p) { below(b, p) } else { false }
-}
+use super::{ImplicitModel, MOST_PARTS, Part};
 
 // Whether each input of a part stands below the place p.
+#[tactic(auto, unfolding(crate::specs::Part::inputs_below))]
 pub fn inputs_below(part: Part, p: usize) -> bool
     ensures { result ≡ inputs_below p part }
 {
     match part {
-        Part::Constant(_) => true,
-        Part::Sphere(_, _) => true,
-        Part::Plane(_, _) => true,
-        Part::Min(a, b) => both_below(a, b, p),
-        Part::Max(a, b) => both_below(a, b, p),
-        Part::Add(a, b) => both_below(a, b, p),
-        Part::Sub(a, b) => both_below(a, b, p),
-        Part::Neg(a) => below(a, p),
+        Part::Constant(_) | Part::Sphere(_, _) | Part::Plane(_, _) => true,
+        Part::Min(a, b) | Part::Max(a, b) | Part::Add(a, b) | Part::Sub(a, b) => {
+            (a as usize) < p && (b as usize) < p
+        }
+        Part::Neg(a) => (a as usize) < p,
     }
 }
 
 // Whether each of the first `count` parts has its inputs before it.
-fn ordered(parts: [ModelComponent; 64], count: usize) -> bool
+fn ordered(model: &ImplicitModel, count: usize) -> bool
     requires { count ≤ 64 }
-    ensures { result ≡ ordered_to (map part_in parts) count }
+    ensures { result ≡ ordered_to (parts_in model.now) count }
 {
-    let mut p: usize = 0;
-    while p < count {
-        let component = parts[p];
-        let part = component.part;
-        if !inputs_below(part, p) {
+    for p in 0..count {
+        if !inputs_below(model.parts[p].part, p) {
             return false;
         }
-        p += 1;
     }
     true
 }
 
 // Whether cause 4 refuses a model: no parts, too many, or a part with an input that does not stand before it.
-pub fn cause_four(model: ImplicitModel) -> bool
-    ensures { result ≡ refused_by_four model }
+#[tactic(auto, unfolding(crate::specs::Model::refused_by_four))]
+pub fn cause_four(model: &ImplicitModel) -> bool
+    ensures { result ≡ refused_by_four model.now }
 {
     let count = model.count as usize;
-    if count == 0 {
-        return true;
-    }
-    if count > MOST_PARTS {
-        return true;
-    }
-    let parts = model.parts;
-    !ordered(parts, count)
+    count == 0 || count > MOST_PARTS || !ordered(model, count)
 }

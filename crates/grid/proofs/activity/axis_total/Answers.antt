@@ -1,4 +1,4 @@
--- `axis_total` meets its contract: the nodes passed so far are counted.
+-- The nodes passed so far are counted.
 use Rattle.std.proofs.Common.{◌≡◌, refl, ap, ◌∙◌, arith}
 use Rattle.lists.specs.Sums.{sum_from}
 use Rattle.grid.specs.Inner.Activity.{axis_total}
@@ -7,25 +7,25 @@ use Rattle.grid.proofs.activity.axis_total.Goals as goal
 
 pub loop-i-init : goal.loop-i-init
 unfolding axis_total sum_from
-loop-i-init c = (omega arith, refl)
+loop-i-init c = refl
 
 pub overflow_add-total : goal.overflow_add-total
 overflow_add-total c =
     let l = c.loop-i in
     let a = c.args in
     let p = c.requires in
-    let few = total_few a.least a.most a.s a.n p.0 l.i (omega arith) l.invariant.1 in
+    let few = total_few a.least a.most a.s a.n p.0 l.i (omega arith) l.invariant in
     omega (arith, axis_count_le a.least a.most a.s a.n l.i, c.axis_count-total.ensures, p.0)
 
 pub loop-i-preserved : goal.loop-i-preserved
 loop-i-preserved c =
     let l = c.loop-i in
     let a = c.args in
-    (omega arith, axis_total_more a.least a.most a.s a.n l.i l.invariant.1 c.axis_count-total.ensures)
+    axis_total_more a.least a.most a.s a.n l.i l.invariant c.axis_count-total.ensures
 
 pub returns : goal.returns
 returns c =
     let l = c.loop-i in
     let a = c.args in
     let all : l.i ≡ a.nodes = omega arith in
-    l.invariant.1 ∙ ap (axis_total a.least a.most a.s a.n) all
+    l.invariant ∙ ap (axis_total a.least a.most a.s a.n) all

@@ -1,10 +1,7 @@
--- `axis_total` meets its contract: the nodes passed so far are counted.
-use Rattle.std.proofs.Common.{◌≡◌, ◌-◌, ◌≤◌}
+-- The nodes passed so far are counted.
+use Rattle.std.proofs.Common.{◌≡◌}
 use Rattle.grid.specs.Inner.Activity.{axis_total}
 use Rattle.grid.proofs.activity.axis_total.Given as goal
 
 abbrev pub invariant-loop-i : goal.invariant-loop-i
-invariant-loop-i l = (l.i ≤ l.nodes) × (l.total ≡ axis_total l.least l.most l.s l.n l.i)
-
-abbrev pub decreases-loop-i : goal.decreases-loop-i
-decreases-loop-i l = l.nodes - l.i
+invariant-loop-i l = l.total ≡ axis_total l.least l.most l.s l.n l.i

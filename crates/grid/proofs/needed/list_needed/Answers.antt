@@ -1,7 +1,7 @@
--- `list_needed` meets its contract: the marks of all children, gathered.
-use Rattle.std.proofs.Common.{◌≡◌, ◌+◌, length, refl, ap, ◌∙◌, arith}
+-- The marks of all children, gathered, and the rest zeroed.
+use Rattle.std.proofs.Common.{rules, ◌≡◌, ◌+◌, length, refl, ap, ◌∙◌, arith}
 use lib.ListN.{length-replicate}
-use Rattle.slices.proofs.Rest.{rest_lent}
+use Rattle.lists.proofs.Rest.{rest_lent}
 use Rattle.grid.specs.Blocks.{cube}
 use Rattle.grid.proofs.BlockLaws.{cube_le}
 use Rattle.grid.proofs.ListedCorners.{no_marks, gathered_to, room, kept, counted, corners_once}
@@ -9,25 +9,21 @@ use Rattle.grid.proofs.needed.list_needed.Goals as goal
 
 pub mark-requires : goal.mark-requires
 mark-requires c =
-    let s = c.before.before.before.before.before.before.before in
-    let p = s.requires in
-    (p.0, p.1, no_marks _ _ s.args.list.now _ p.2 c.zero_words.ensures)
+    let p = c.requires in
+    (p.0, p.1, no_marks _ _ c.args.list.now _ p.2 (search rules))
 
 pub gather-count-requires : goal.gather-count-requires
 gather-count-requires c =
-    let s = c.before.before.before.before.before.before.before.before.before.before.before.before in
-    let n = s.args.n in
+    let n = c.args.n in
     let e : c.cube_of-corners.result ≡ cube (n + 1) = c.cube_of-corners.ensures in
     (omega (arith, c.mark.ensures.1.long), omega (arith, cube_le 65 (n + 1) (omega arith)))
 
 pub returns : goal.returns
 returns c =
-    let g = c.before.before.before.before.before.before in
-    let m = g.before.before.before.before.before in
-    let marks = m.mark.ensures in
-    let gathered = gathered_to g.cube_of-corners.ensures g.gather-count.ensures in
-    let zeroed = rest_lent _ 0 _ (room _ _ _ marks.1 _ _ gathered) refl c.zero_words-2.ensures in
-    let cleared = m.zero_words.ensures in (
+    let marks = c.mark.ensures in
+    let gathered = gathered_to c.cube_of-corners.ensures c.gather-count.ensures in
+    let zeroed = rest_lent _ 0 _ (room _ _ _ marks.1 _ _ gathered) refl (search rules) in
+    let cleared = c.fill.ensures.after (λ y e. search rules) in (
       kept _ _ _ marks.1 _ _ _ gathered zeroed ∙ gathered.kept ∙ marks.0 ∙ ap length cleared ∙ length-replicate _ 0,
       counted _ _ _ marks.1 _ _ _ gathered zeroed,
       corners_once _ _ _ marks.1 _ _ _ gathered zeroed,

@@ -1,33 +1,27 @@
--- `mark` meets its contract: the rows passed so far are marked.
-use Rattle.std.proofs.Common.{◌≡◌, ℕ, ◌+◌, ◌*◌, refl, ◌∙◌, subst, mul-le-mul, zero-mul, arith}
+-- One row more.
+use Rattle.std.proofs.Common.{◌≡◌, ℕ, ◌+◌, ◌*◌, refl, ◌∙◌, subst, zero-mul, arith}
 use Rattle.grid.specs.Inner.CornerMarks.{Marks}
 use Rattle.grid.proofs.needed.mark.Goals as goal
 
-pub overflow_mul-rows : goal.overflow_mul-rows
-overflow_mul-rows c =
-    let small = c.requires.0 in
-    omega (arith, mul-le-mul small small)
-
 pub loop-row-init : goal.loop-row-init
-loop-row-init c = (omega arith, refl, rw zero-mul c.requires.2)
+loop-row-init c = (refl, rw zero-mul c.requires.2)
 
 pub mark_row-requires : goal.mark_row-requires
 mark_row-requires c =
     let p = c.requires in
-    (p.0, omega arith, p.1, c.loop-row.invariant.2)
+    (p.0, omega arith, p.1, c.loop-row.invariant.1)
 
 pub loop-row-preserved : goal.loop-row-preserved
 loop-row-preserved c =
-    let b = c.before.before.before.before.before in
-    let a = b.args in
-    let r = b.loop-row.row in
+    let a = c.args in
+    let r = c.loop-row.row in
     let next : r * a.n + a.n ≡ (r + 1) * a.n = omega arith in
     let done = c.mark_row.ensures in
-    (omega arith, done.0 ∙ b.loop-row.invariant.1, subst (λ (x : ℕ). Marks a.n a.kinds.now x c.mark_row.new.list) next done.1)
+    (done.0 ∙ c.loop-row.invariant.0, subst (λ (x : ℕ). Marks a.n a.kinds.now x c.mark_row.new.list) next done.1)
 
 pub returns : goal.returns
 returns c =
     let l = c.loop-row in
     let a = c.args in
     let all : l.row ≡ a.n * a.n = omega arith in
-    (l.invariant.1, subst (λ (r : ℕ). Marks a.n a.kinds.now (r * a.n) l.list) all l.invariant.2)
+    (l.invariant.0, subst (λ (r : ℕ). Marks a.n a.kinds.now (r * a.n) l.list) all l.invariant.1)

@@ -1,10 +1,7 @@
--- `mark` meets its contract: the rows passed so far are marked.
-use Rattle.std.proofs.Common.{◌≡◌, ◌-◌, ◌*◌, ◌≤◌, length}
+-- The rows passed so far are marked.
+use Rattle.std.proofs.Common.{◌≡◌, ◌*◌, length}
 use Rattle.grid.specs.Inner.CornerMarks.{Marks}
 use Rattle.grid.proofs.needed.mark.Given as goal
 
 abbrev pub invariant-loop-row : goal.invariant-loop-row
-invariant-loop-row l = (l.row ≤ l.n * l.n) × (length l.list ≡ length l.initial.list) × Marks l.n l.kinds (l.row * l.n) l.list
-
-abbrev pub decreases-loop-row : goal.decreases-loop-row
-decreases-loop-row l = l.n * l.n - l.row
+invariant-loop-row l = (length l.list ≡ length l.initial.list) × Marks l.n l.kinds (l.row * l.n) l.list

@@ -1,9 +1,9 @@
--- `evaluate_at_coord` meets its contract: the laid out parts of a model that cause 4 passes have the model's value.
-use mathlib.Core.Path.{sym, ap, ◌∙◌}
-use Rattle.geometry.specs.Causes.{first_of}
+-- The parts of a model that cause 4 passes have its value.
+use Rattle.std.proofs.Common.{◌∙◌, sym, ap}
+use Rattle.std.specs.Prelude.{Ok}
+use Rattle.causes.specs.First.{first_of}
 use Rattle.model.specs.Model.{evaluation_of}
-use Rattle.model.specs.declared.Evaluation.TheVariants.{Value}
-use Rattle.model.proofs.Accepted.{laid_value}
+use Rattle.model.proofs.Accepted.{accepted_value}
 use Rattle.model.proofs.evaluations.evaluate_at_coord.Goals as goal
 
 pub returns-then-cause_four : goal.returns-then-cause_four
@@ -15,8 +15,4 @@ unfolding evaluation_of first_of
 returns c =
     let a = c.args in
     let passed = sym c.cause_four.ensures ∙ c.if-cause_four.false in
-    let laid = c.lay_out.ensures in
-    simp passed
-    (ap Value
-    (c.evaluate_flat-value.ensures.answer
-    ∙ laid_value a.model passed _ a.x a.y a.z laid.long laid.laid))
+    simp passed (ap Ok (c.evaluate_parts.ensures.answer ∙ rw c.new.ensures (accepted_value a.model.now passed a.x a.y a.z)))

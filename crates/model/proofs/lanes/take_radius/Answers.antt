@@ -1,31 +1,14 @@
--- `lanes::take_radius` meets its contract: the lanes passed so far have lost the radius.
-use mathlib.Core.Path.{◌≡◌, ap, ◌∙◌}
-use Prim.Native.Nat.{ℕ}
-use Rattle.model.specs.Inner.Lanes.{lane_at, filled_row}
-use lib.ListN.{get_or}
-use Rattle.model.specs.Part.{past}
-use Rattle.model.proofs.Rows.{no_lanes, lane_more, read_own}
+-- One lane more.
+use Rattle.std.proofs.Common.{ap, ◌∙◌}
 use lib.Ieee.{Float, binary64, sub}
-use native.Mathlib.Omega.{arith}
+use Rattle.model.proofs.Rows.{no_lanes, lane_more, read_own}
 use Rattle.model.proofs.lanes.take_radius.Goals as goal
 
 pub loop-i-init : goal.loop-i-init
-loop-i-init c = (omega arith, no_lanes _ _ _)
+loop-i-init c = no_lanes _ _ _
 
 pub loop-i-preserved : goal.loop-i-preserved
 loop-i-preserved c =
-    let s = c.before.before.before in
-    let a = s.args in
-    let start = a.values.now in (
-      omega arith,
-      lane_more start a.p s.loop-i.i (λ k. sub binary64 (get_or start (lane_at a.p k) past) a.r) s.loop-i.invariant.1
-          (c.computed.ensures ∙ ap (λ (v : Float). sub binary64 v a.r) (read_own start a.p s.loop-i.i _ s.loop-i.invariant.1)),
-    )
-
-pub returns : goal.returns
-returns c =
-    let s = c.before in
-    let a = s.args in
-    let start = a.values.now in
-    let all : s.loop-i.i ≡ a.n = omega arith in
-    s.loop-i.invariant.1 ∙ ap (λ (i : ℕ). filled_row start a.p i (λ k. sub binary64 (get_or start (lane_at a.p k) past) a.r)) all
+    let a = c.args in
+    lane_more _ _ _ _ c.loop-i.invariant
+    (c.computed.ensures ∙ ap (λ (v : Float). sub binary64 v a.r) (read_own a.values.now a.p c.loop-i.i _ c.loop-i.invariant))

@@ -1,17 +1,16 @@
--- `row::copy_row` meets its contract: the row's lanes are lent as a slice of their own.
-use Prim.Native.Nat.{◌*◌, ◌-◌}
-use mathlib.Core.Path.{◌≡◌, ap, ◌∙◌}
-use native.Mathlib.Omega.{arith}
-use borrow.Author.Rules.{rules}
-use lib.ListN.{length, get_or}
-use Rattle.slices.proofs.Copied.{copied_part}
+-- The row's lanes are copied to the front.
+use Rattle.std.proofs.Common.{◌+◌, ◌*◌, ◌-◌, ◌≡◌, ◌∙◌, ap, take, drop, length, arith, length-drop}
+use lib.ListN.{get_or}
+use lib.Seq.{length-take-le, get_or-take, get_or-drop}
+use Rattle.lists.proofs.LentPart.{front_copy}
 use Rattle.model.specs.Part.{past}
-use Rattle.model.specs.Inner.Lanes.{lane_at}
 use Rattle.model.proofs.row.copy_row.Goals as goal
 
 pub returns : goal.returns
 returns c =
     let a = c.args in
-    c.copy_floats.ensures
-    ∙ copied_part 0 a.n (a.p * 64) (length a.values.now - a.p * 64) _ a.values.now a.results.now past (search rules)
-    (λ q behind below. let same : q - 0 ≡ q = omega arith in ap (λ k. get_or a.values.now (lane_at a.p k) past) same)
+    let from = a.p * 64 in
+    let size : length (take (from + a.n - from) (drop from a.values.now)) ≡ a.n =
+    length-take-le (from + a.n - from) (drop from a.values.now) (omega (arith, length-drop from a.values.now)) ∙ omega arith in
+    front_copy a.n a.results.now past (omega arith) _ (take (from + a.n - from) (drop from a.values.now)) c.copy_from_slice.ensures.after size
+    (λ k h. get_or-take (from + a.n - from) (drop from a.values.now) k past (omega arith) ∙ get_or-drop from a.values.now k past)
