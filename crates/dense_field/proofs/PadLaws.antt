@@ -12,7 +12,7 @@ use Rattle.dense_field.proofs.Edges.{row_from, point_at, edge_first, edge_last, 
 
 module _ (n : Vec3i) (value : Float) where
   module _ (l : List Float) where
-    pub out_value : (p : ℕ) → outside n (point_at n p) ≡ true → value ≡ padded_at n value l p
+    out_value : (p : ℕ) → outside n (point_at n p) ≡ true → value ≡ padded_at n value l p
     unfolding padded_at
     out_value p out = rw out refl
 

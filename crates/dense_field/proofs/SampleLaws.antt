@@ -1,22 +1,19 @@
--- A field's values from the model's flat layout.
-use Rattle.std.proofs.Common.{◌≡◌, ℕ, min, false, map, length, sym, Ok}
+-- A field that sampling does not refuse, and its values by places.
+use Rattle.std.proofs.Common.{◌≡◌, ℕ, false, sym, Ok}
 use lib.Ieee.{Float}
+use Rattle.causes.proofs.Lists.{none_applies}
 use Rattle.lists.specs.Tabulate.{tabulate}
 use Rattle.lists.proofs.Tables.{tabulate_cong}
 use Rattle.geometry.specs.declared.Vec3.{Vec3}
 use Rattle.geometry.specs.declared.Vec3i.{Vec3i}
-use Rattle.model.specs.Part.{part_in}
-use Rattle.model.specs.Flat.{Flat, layout_of}
-use Rattle.model.specs.Model.{refused_by_four}
+use Rattle.model.specs.Model.{parts_in, refused_by_four}
 use Rattle.model.specs.declared.ImplicitModel.{ImplicitModel}
-use Rattle.model.proofs.Accepted.{laid_value}
+use Rattle.model.proofs.Accepted.{accepted_value}
 use Rattle.dense_field.specs.Field.{points_of}
 use Rattle.dense_field.specs.Points.{field_point}
-use Rattle.dense_field.specs.Inner.Runs.{flat_at}
-use Rattle.dense_field.specs.Sampling.{sampled}
-use Rattle.dense_field.specs.Sampling.{sample_outcome}
+use Rattle.dense_field.specs.Sampling.{sampled, sample_outcome}
 use Rattle.dense_field.specs.Inner.Lent.{Lent}
-use Rattle.causes.proofs.Lists.{none_applies}
+use Rattle.dense_field.specs.Inner.Runs.{place_value}
 use Rattle.dense_field.proofs.Lending.{lent}
 use Rattle.dense_field.proofs.Edges.{point_at}
 
@@ -30,13 +27,9 @@ unfolding sample_outcome
 passed m origin cell n len e =
     let all = none_applies tt _ (sym e) in record { in_order = all.1.0; held = lent n len all.1.1.0 }
 
--- the layout of a model in order gives the model's own values
-pub flat_sampled : (m : ImplicitModel) (l : Flat) (origin : Vec3) (cell : Float) (n : Vec3i) → refused_by_four m ≡ false
-    → length m.parts ≡ 64 → l ≡ layout_of (map part_in m.parts)
-    → tabulate (points_of n) (flat_at l (min m.count 64) origin cell n) ≡ sampled (map part_in m.parts) m.count origin cell n
-unfolding sampled flat_at
-flat_sampled m l origin cell n in_order long laid =
-    tabulate_cong (points_of n) _ _
-    (λ p h.
-    let at = field_point origin cell (point_at n p) in
-    laid_value m in_order l at.x at.y at.z long laid)
+-- a model in order has its own values
+pub places_sampled : (m : ImplicitModel) (origin : Vec3) (cell : Float) (n : Vec3i) → refused_by_four m ≡ false
+    → tabulate (points_of n) (place_value m (record { origin = origin; cell = cell; n = n })) ≡ sampled (parts_in m) m.count origin cell n
+unfolding sampled
+places_sampled m origin cell n in_order =
+    tabulate_cong (points_of n) _ _ (λ p h. let at = field_point origin cell (point_at n p) in accepted_value m in_order at.x at.y at.z)

@@ -25,7 +25,7 @@ fn sampled(fields: &[u64; 160], values: &mut [f64]) -> Result<(), Cause> {
     let origin = cases::vector_at(fields, 0);
     let cell = cases::float_at(fields, 3);
     let n = dense_cases::counts_at(fields, 4);
-    dense_field::sample(model_of(fields), origin, cell, n, values)
+    dense_field::sample(&model_of(fields), origin, cell, n, values)
 }
 
 // `sample`: the origin, a cell's size, the dimensions, how many values are lent, the model's count

@@ -56,7 +56,7 @@ pub fn jisampode_sample(
     let model = model_given(parts, reals, count);
     let origin = Vec3::new(x, y, z);
     let n = Vec3i::new(nx, ny, nz);
-    number(dense_field::sample(model, origin, cell, n, values))
+    number(dense_field::sample(&model, origin, cell, n, values))
 }
 
 // Every point on the outside set to a value. Refused by 9.

@@ -8,4 +8,3 @@ pub mod Sums
 pub mod Flags
 pub mod Ranges
 pub mod Members
-pub mod Stretches

@@ -1,11 +1,11 @@
 -- An outer row is set whole, and an inner one at its two ends.
-use Rattle.std.proofs.Common.{◌≡◌, ◌+◌, ◌-◌, true, arith}
-use Rattle.lists.proofs.Stretches.{part_set}
+use Rattle.std.proofs.Common.{◌≡◌, ◌+◌, true, arith}
+use Rattle.lists.proofs.LentPart.{lent_set}
 use Rattle.float.specs.Zero.{plus_zero}
 use Rattle.dense_field.specs.Field.{on_edge}
 use Rattle.dense_field.proofs.Lending.{within}
 use Rattle.dense_field.proofs.Edges.{edge_first, edge_last, outer_row, row_from}
-use Rattle.dense_field.proofs.PadLaws.{out_value, inner_row}
+use Rattle.dense_field.proofs.PadLaws.{outer_stretch, inner_row}
 use Rattle.dense_field.proofs.paddings.pad_row.Goals as goal
 use Rattle.dense_field.proofs.paddings.pad_row.Goals.{then-j-eq0-via-then-j-eq0, then-j-eq0-via-else-j-eq0+then-j-n}
 
@@ -19,9 +19,8 @@ returns-then-j-eq0 c =
       | then-j-eq0-via-then-j-eq0 w ↦ edge_first _ _ (omega arith)
       | then-j-eq0-via-else-j-eq0+then-j-n w ↦ edge_last _ _ (omega arith)
     ] in
-    part_set at a.n.i (at + a.n.i - at) a.values.now _ plus_zero (omega arith) (omega arith) a.value
-    (c.fill.ensures.after (λ y same. same))
-    (λ q from below. out_value a.n a.value a.values.now q (outer_row a.n a.j a.k (omega arith) edge q from below))
+    outer_stretch a.n a.value a.values.now at a.n.i (outer_row a.n a.j a.k (omega arith) edge)
+    (lent_set at a.n.i a.values.now plus_zero (omega arith) a.value (at + a.n.i) (omega arith) (c.fill.ensures.after (λ y same. same)))
 
 pub returns : goal.returns
 returns c =

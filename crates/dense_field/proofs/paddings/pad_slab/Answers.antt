@@ -1,12 +1,12 @@
 -- An outer slab is set whole, and an inner one row by row.
-use Rattle.std.proofs.Common.{◌≡◌, ◌+◌, ◌-◌, ◌*◌, true, length, sym, ap, ◌∙◌, mul_comm, arith, rules}
+use Rattle.std.proofs.Common.{◌≡◌, ◌+◌, ◌*◌, true, length, sym, ap, ◌∙◌, mul_comm, arith, rules}
 use Rattle.lists.proofs.Filling.{filled_none, filled_length, filled_done}
-use Rattle.lists.proofs.Stretches.{part_set}
+use Rattle.lists.proofs.LentPart.{lent_set}
 use Rattle.float.specs.Zero.{plus_zero}
 use Rattle.dense_field.specs.Field.{on_edge}
 use Rattle.dense_field.proofs.Lending.{as_long, within}
 use Rattle.dense_field.proofs.Edges.{edge_first, edge_last, outer_slab}
-use Rattle.dense_field.proofs.PadLaws.{out_value, pad_more}
+use Rattle.dense_field.proofs.PadLaws.{outer_stretch, pad_more}
 use Rattle.dense_field.proofs.paddings.pad_slab.Goals as goal
 use Rattle.dense_field.proofs.paddings.pad_slab.Goals.{then-k-eq0-via-then-k-eq0, then-k-eq0-via-else-k-eq0+then-k-n}
 
@@ -21,9 +21,8 @@ returns-then-k-eq0 c =
       | then-k-eq0-via-then-k-eq0 w ↦ edge_first _ _ (omega arith)
       | then-k-eq0-via-else-k-eq0+then-k-n w ↦ edge_last _ _ (omega arith)
     ] in
-    part_set at slab (at + slab - at) a.values.now _ plus_zero (omega arith) (omega arith) a.value
-    (c.fill.ensures.after (λ y same. same))
-    (λ q from below. out_value a.n a.value a.values.now q (outer_slab a.n a.k edge q from below))
+    outer_stretch a.n a.value a.values.now at slab (outer_slab a.n a.k edge)
+    (lent_set at slab a.values.now plus_zero (omega arith) a.value (at + slab) (omega arith) (c.fill.ensures.after (λ y same. same)))
 
 pub loop-j-init : goal.loop-j-init
 loop-j-init c =

@@ -1,6 +1,6 @@
--- The model's layout gives its own values.
+-- A model in order has its own values.
 use Rattle.std.proofs.Common.{◌∙◌}
-use Rattle.dense_field.proofs.SampleLaws.{passed, flat_sampled}
+use Rattle.dense_field.proofs.SampleLaws.{passed, places_sampled}
 use Rattle.dense_field.proofs.sampling.sample.Goals as goal
 
 pub sample_places-requires : goal.sample_places-requires
@@ -10,6 +10,4 @@ pub returns-clause-values : goal.returns-clause-values
 returns-clause-values c =
     let a = c.args in
     let e = c.in_ok-tested.ensures in
-    rw (← e)
-    (c.sample_places.ensures
-    ∙ flat_sampled a.model _ a.origin a.cell a.n (passed _ _ _ _ _ e).in_order c.lay_out.ensures.long c.lay_out.ensures.laid)
+    rw (← e) (c.sample_places.ensures ∙ places_sampled a.model.now a.origin a.cell a.n (passed _ _ _ _ _ e).in_order)

@@ -1,14 +1,19 @@
 -- At each turn the places below `at` are sampled.
-use Rattle.std.proofs.Common.{◌≡◌, ◌-◌, ◌≤◌, min, length}
+use Rattle.std.proofs.Common.{◌≡◌, ◌-◌, ◌≤◌, length}
 use Rattle.lists.specs.Filled.{filled}
-use Rattle.model.specs.Flat.{flat_of}
-use Rattle.dense_field.specs.Inner.Runs.{flat_at}
+use Rattle.dense_field.specs.Inner.Runs.{place_value}
+use Rattle.dense_field.proofs.RunLaws.{Long}
 use Rattle.dense_field.proofs.sampling.sample_places.Given as goal
 
 abbrev pub invariant-loop-at : goal.invariant-loop-at
 invariant-loop-at l =
-    (l.at ≤ length l.initial.values) × (length l.results ≡ 64) × (length l.values ≡ length l.initial.values)
-    × (l.values ≡ filled 0 l.at (flat_at (flat_of l.words l.numbers) (min l.count 64) l.origin l.cell l.n) l.initial.values)
+    record {
+      within : l.at ≤ length l.initial.values;
+      points : Long l.points;
+      results : length l.results ≡ 64;
+      long : length l.values ≡ length l.initial.values;
+      sampled : l.values ≡ filled 0 l.at (place_value l.model l.field) l.initial.values;
+    }
 
 abbrev pub decreases-loop-at : goal.decreases-loop-at
 decreases-loop-at l = length l.initial.values - l.at
