@@ -16,7 +16,7 @@ use Rattle.field_host.specs.Hosted.{Hosted, answer_number, left_by, hosted_by, h
 module _ (old : Carried) (m : Memory) where
   pub open_from_none : (i : Input) → hosted_by (called (opens i) no_record m) old ≡ hosted (opens i) old m
   unfolding hosted engine_call engine_open answer_number left_by
-  open_from_none i = by (sparse.cause (lengths_of m) i)
+  open_from_none i = by (sparse.answer (lengths_of m) i)
     where
       from : Record → ℕ → Hosted
       from r n = hosted_by (engine_open sparse i (record { job_record = r; memory = m }) n) old

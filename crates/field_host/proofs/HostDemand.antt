@@ -54,7 +54,7 @@ back : (r : Record) → Codable r.job.input → decoded (encoded r) ≡ r
 back r c = record_back r c.inner c.leaf c.count c.long
 
 -- an input without a cause
-no_cause_codable : (i : Input) (l : Lengths) → sparse.cause l i ≡ 0 → length i.model.parts ≡ 64 → Codable i
+no_cause_codable : (i : Input) (l : Lengths) → sparse.answer l i ≡ Ok tt → length i.model.parts ≡ 64 → Codable i
 no_cause_codable i l none long =
     let free = nothing i l none in
     let size = sized i free in
@@ -111,9 +111,9 @@ module _ (s : Station) where
 
   open_on : (i : Input) → length i.model.parts ≡ 64 → HandedOn (called (opens i) found m)
   unfolding engine_call engine_open advanced
-  open_on i long = by (sparse.cause (lengths_of m) i) refl
+  open_on i long = by (sparse.answer (lengths_of m) i) refl
     where
-      by : (n : ℕ) → sparse.cause (lengths_of m) i ≡ n → HandedOn (engine_open sparse i (engine_at s) n)
+      by : (n : ℕ) → sparse.answer (lengths_of m) i ≡ n → HandedOn (engine_open sparse i (engine_at s) n)
       by zero none = accepted_on (opened_engine sparse i (lengths_of m)) (no_cause_codable i (lengths_of m) none long)
       by (suc n) some = refused_on n
 

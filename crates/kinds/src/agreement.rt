@@ -13,12 +13,10 @@ use grid::Grid;
 fn all_zero(kinds: &[u8]) -> bool
     ensures { result ≡ agrees_from (λ _. false) 0 kinds.now }
 {
-    let mut i: usize = 0;
-    while i < kinds.len() {
-        if kinds[i] != grid::EMPTY {
+    for i in 0..kinds.len() {
+        if kinds[i] != 0 {
             return false;
         }
-        i += 1;
     }
     true
 }
@@ -31,12 +29,10 @@ fn row_right(xs: &[bool; 64], met: bool, row: &[u8]) -> bool
     if !met {
         return all_zero(row);
     }
-    let mut i: usize = 0;
-    while i < row.len() {
-        if (row[i] != grid::EMPTY) != xs[i] {
+    for i in 0..row.len() {
+        if (row[i] != 0) != xs[i] {
             return false;
         }
-        i += 1;
     }
     true
 }

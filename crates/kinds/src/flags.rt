@@ -15,9 +15,9 @@ fn flag(active: bool) -> u8
     ensures { result ≡ bit active }
 {
     if active {
-        return grid::ACTIVE;
+        return grid::Kind::Active.number();
     }
-    grid::EMPTY
+    grid::Kind::Empty.number()
 }
 
 // Sets the kinds of a row of children by the first axis. None is active where the row is not met.

@@ -11,10 +11,8 @@ pub fn axis_table(least: f64, most: f64, s: f64, n: u32, i: usize) -> [bool; 64]
 {
     let side = n as usize;
     let mut table = [false; 64];
-    let mut c: usize = 0;
-    while c < side {
+    for c in 0..side {
         table[c] = grid::axis_active(least, most, s, n, i, c);
-        c += 1;
     }
     table
 }

@@ -52,9 +52,9 @@ abbrev answer_for : ℕ → Answer
 answer_for zero = Accepted
 answer_for (suc n) = Refused (suc n)
 
-opened_answer : (i : Input) (r : Record) (m : Memory) → (called (opens i) r m).answer ≡ answer_for (sparse.cause (lengths_of m) i)
+opened_answer : (i : Input) (r : Record) (m : Memory) → (called (opens i) r m).answer ≡ answer_for (sparse.answer (lengths_of m) i)
 unfolding engine_call engine_open
-opened_answer i r m = by (sparse.cause (lengths_of m) i)
+opened_answer i r m = by (sparse.answer (lengths_of m) i)
   where
     by : (n : ℕ) → (engine_open sparse i (record { job_record = r; memory = m }) n).answer ≡ answer_for n
     by zero = refl
@@ -70,11 +70,11 @@ module _ (j : Job) (r : Record) (m : Memory) (lengths : lengths_of m ≡ program
   pub listed_refusal : (k : ℕ) → (called (opens j.input) r m).answer ≡ Refused k → job_listed j ≡ spell refused_form (k ∷ [])
   unfolding job_listed
   listed_refusal k e =
-      refused_by_lem j (sparse.cause program_lengths j.input) k
-      (subst (λ l. answer_for (sparse.cause l j.input) ≡ Refused k) lengths (sym (opened_answer j.input r m) ∙ e))
+      refused_by_lem j (sparse.answer program_lengths j.input) k
+      (subst (λ l. answer_for (sparse.answer l j.input) ≡ Refused k) lengths (sym (opened_answer j.input r m) ∙ e))
 
 -- an accepted one: its plan's listing is printed
-accepted_listed : (j : Job) → sparse.cause program_lengths j.input ≡ 0 → job_listed j ≡ plan_listing (plan_of j.input) (job_nan j)
+accepted_listed : (j : Job) → sparse.answer program_lengths j.input ≡ Ok tt → job_listed j ≡ plan_listing (plan_of j.input) (job_nan j)
 unfolding job_listed listed_by
 accepted_listed j none = ap (listed_by j) none
 
@@ -82,8 +82,8 @@ accepted_zero : (n : ℕ) → answer_for n ≡ Accepted → n ≡ 0
 accepted_zero zero e = refl
 accepted_zero (suc n) e = let z : ◌≡◌ {A = ℕ} 0 1 = cc in absurd (omega arith)
 
-pub accepted_none : (i : Input) (r : Record) (m : Memory) → (called (opens i) r m).answer ≡ Accepted → sparse.cause (lengths_of m) i ≡ 0
-accepted_none i r m e = accepted_zero (sparse.cause (lengths_of m) i) (sym (opened_answer i r m) ∙ e)
+pub accepted_none : (i : Input) (r : Record) (m : Memory) → (called (opens i) r m).answer ≡ Accepted → sparse.answer (lengths_of m) i ≡ Ok tt
+accepted_none i r m e = accepted_zero (sparse.answer (lengths_of m) i) (sym (opened_answer i r m) ∙ e)
 
 -- ---- what is printed, by what a text is read as
 
@@ -108,16 +108,16 @@ on_here text x is on = ap (λ y. job_listed y.job) is ∙ sym (on_listed (read_t
 
 -- ---- a budget that covers every job
 
-bound_small : (i : Input) (m : Memory) → sparse.cause (lengths_of m) i ≡ 0 → evaluations_bound (plan_of i) ≤ 5000000000000
+bound_small : (i : Input) (m : Memory) → sparse.answer (lengths_of m) i ≡ Ok tt → evaluations_bound (plan_of i) ≤ 5000000000000
 unfolding plan_with evaluations_bound
 bound_small i m none = let n = nothing i (lengths_of m) none in (bound_fits i.grid n.two n.five).bound
 
-pub total_small : (i : Input) (m : Memory) → sparse.cause (lengths_of m) i ≡ 0 → total (plan_of i) ≤ 18446744073709551615
+pub total_small : (i : Input) (m : Memory) → sparse.answer (lengths_of m) i ≡ Ok tt → total (plan_of i) ≤ 18446744073709551615
 total_small i m none = omega (arith, total_bound (plan_of i), bound_small i m none)
 
 -- ---- the listing of a finished job
 
-module _ (i : Input) (m : Memory) (none : sparse.cause (lengths_of m) i ≡ 0) where
+module _ (i : Input) (m : Memory) (none : sparse.answer (lengths_of m) i ≡ Ok tt) where
   abbrev P : Plan
   P = plan_of i
 
@@ -182,15 +182,15 @@ module _
       ap (λ x. written_of x nan m₂ out) (done ∙ ap (λ h. h.next.job_record) last)
       ∙ ap (λ x. written_of (record_after (lengths_of m) i (total (plan_of i))) nan x out) (after-step ∙ ap (λ h. h.next.memory) last)
       ∙ finished_written i m none nan out
-      ∙ ap (λ bs. put_listing bs out) (ap (λ x. plan_listing (plan_of i) x) is_nan ∙ sym (accepted_listed j (subst (λ l. sparse.cause l i ≡ 0) lengths none)))
+      ∙ ap (λ bs. put_listing bs out) (ap (λ x. plan_listing (plan_of i) x) is_nan ∙ sym (accepted_listed j (subst (λ l. sparse.answer l i ≡ Ok tt) lengths none)))
 
 -- ---- what is printed fits the program's bytes
 
 job_fits : (j : Job) → length (job_listed j) ≤ 88176
 unfolding job_listed listed_by
-job_fits j = by (sparse.cause program_lengths j.input) refl
+job_fits j = by (sparse.answer program_lengths j.input) refl
   where
-    by : (n : ℕ) → sparse.cause program_lengths j.input ≡ n → length (listed_by j n) ≤ 88176
+    by : (n : ℕ) → sparse.answer program_lengths j.input ≡ n → length (listed_by j n) ≤ 88176
     by zero none = listing_fits j.input (job_nan j) none
     by (suc n) is = omega (arith, refused_fits (suc n))
 

@@ -143,7 +143,7 @@ module _ (P : Plan) where
       )
 
 -- THE PROGRAM'S LISTINGS FIT
-pub listing_fits : (i : Input) (nan : ℕ) → sparse.cause program_lengths i ≡ 0 → length (plan_listing (plan_of i) nan) ≤ 88176
+pub listing_fits : (i : Input) (nan : ℕ) → sparse.answer program_lengths i ≡ Ok tt → length (plan_listing (plan_of i) nan) ≤ 88176
 unfolding plan_with
 listing_fits i nan none =
     let n = no_cause_lem i program_lengths none in

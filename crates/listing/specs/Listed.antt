@@ -21,7 +21,7 @@ listed_by j (suc n) = spell refused_form (suc n ∷ [])
 
 -- on the memory of the program (rule T9)
 unfoldable pub job_listed : Job → List ℕ
-job_listed j = listed_by j (sparse.cause program_lengths j.input)
+job_listed j = listed_by j (sparse.answer program_lengths j.input)
 
 -- for a text off its form its line, before any other cause is looked for (rules T13 and C52)
 unfoldable pub read_listed : Read → List ℕ

@@ -7,7 +7,8 @@ use Rattle.grid.specs.Blocks.{cube}
 use Rattle.grid.proofs.LimitLaws.{inner_block}
 use Rattle.input.specs.declared.Input.{Input}
 use Rattle.input.specs.declared.Lengths.{Lengths}
-use Rattle.input.proofs.Clear.{no_cause_lem}
+use Rattle.std.specs.Prelude.{Ok}
+use Rattle.input.proofs.Clear.{clear}
 use Rattle.schedule.specs.Finished.{LongEnough}
 use Rattle.schedule.specs.Inputs.{InputsLaws}
 use Rattle.schedule.proofs.AfterFacts.{leaves_all_most}
@@ -19,15 +20,15 @@ use Rattle.plans.proofs.Plans.{plan_laws_lem, active_all_lem}
 pub sparse_laws : InputsLaws sparse
 unfolding plan_with
 sparse_laws = record {
-  plan_laws = λ l i none. plan_laws_lem i.grid i.band (value_of i.model) (omega (arith, (inner_block i.grid (no_cause_lem i l none).two).least));
-  enough_corners = λ l i none. (no_cause_lem i l none).lent.corners;
+  plan_laws = λ l i none. plan_laws_lem i.grid i.band (value_of i.model) (omega (arith, (inner_block i.grid (clear i l none).two).least));
+  enough_corners = λ l i none. (clear i l none).lent.corners;
 }
 
 -- slices that hold all children and all leaves' points
-pub long_enough : (l : Lengths) (i : Input) → sparse.cause l i ≡ 0 → LongEnough (plan_of i) l
+pub long_enough : (l : Lengths) (i : Input) → sparse.answer l i ≡ Ok tt → LongEnough (plan_of i) l
 unfolding plan_with
 long_enough l i none =
-    let n = no_cause_lem i l none in
+    let n = clear i l none in
     let few = mul-le-mul_right (cube i.grid.leaf) (leaves_all_most (plan_of i)) in
     record {
       kinds = n.lent.kinds;

@@ -7,7 +7,9 @@ use lib.ListN.{length, get_or}
 use lib.Ieee.{Float}
 use borrow.Author.Tests.{le-leb}
 use Rattle.geometry.specs.Values.{at}
+use Rattle.grid.specs.declared.Kind.{Kind}
 use Rattle.grid.specs.declared.Verdict.TheVariants.{Constant}
+use Rattle.grid.specs.Kinds.{kind_number}
 use Rattle.grid.specs.Boxes.{active, node_box}
 use Rattle.grid.specs.Corners.{corner_point, octet}
 use Rattle.grid.proofs.Octets.{octet_length}
@@ -35,7 +37,8 @@ own_corners i v c hc on =
     ) refl))
 
 -- a constant of the schedule has not the kind of a leaf
-pub constant_not_leaf : (i : Input) (v c k : ℕ) (x : Float) → decision (plan_of i) v c ≡ Constant k x → k ≡ 2 → ⊥
+pub constant_not_leaf : (i : Input) (v c : ℕ) (k : Kind) (x : Float) → decision (plan_of i) v c ≡ Constant k x → kind_number k ≡ 2 → ⊥
 unfolding plan_with
-constant_not_leaf i v c k x is =
-    (verdict_kind i.band.min i.band.max (box_of i.grid v c) (map (corners_held (plan_of i) v 0 zeros) (octet i.grid.inner c)) is).1
+constant_not_leaf i v c k x is two =
+    let kind = verdict_kind i.band.min i.band.max (box_of i.grid v c) (map (corners_held (plan_of i) v 0 zeros) (octet i.grid.inner c)) is in
+    omega (arith, ap kind_number kind, two)

@@ -5,6 +5,7 @@ use mathlib.Core.List.{List, map}
 use native.Mathlib.Nat.{pos_of_ne-zero}
 use lib.Ieee.{Float}
 use Rattle.geometry.specs.declared.BoundingBox.{BoundingBox}
+use native.Mathlib.Omega.{arith}
 use Rattle.grid.specs.declared.Grid.{Grid}
 use Rattle.grid.specs.declared.Verdict.{Verdict}
 use Rattle.grid.specs.Nodes.{nodes_of}
@@ -25,7 +26,8 @@ unfolding plan_with
 plan_laws_lem g band value above = record {
   inside = λ v i below needed. needed_below g.inner (active g v) i above needed;
   constant_kind = λ v c read k x decided.
-      pos_of_ne-zero (verdict_kind band.min band.max (box_of g v c) (map read (corners.octet g.inner c)) decided).0;
+      let kind = verdict_kind band.min band.max (box_of g v c) (map read (corners.octet g.inner c)) decided in
+      rw kind (omega arith);
 }
 
 -- its active children are the grid's

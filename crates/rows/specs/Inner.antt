@@ -2,6 +2,6 @@
 pub mod Around
 pub mod Axes
 pub mod CornerRun
-pub mod FlatValue
 pub mod Gathered
+pub mod ModelValue
 pub mod Written

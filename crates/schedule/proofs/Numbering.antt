@@ -9,7 +9,9 @@ use lib.Ieee.{Float}
 use borrow.Author.Tests.{eq-eqb, ne_eqb}
 use Rattle.lists.specs.Sums.{sum_from, bit}
 use Rattle.lists.proofs.Sums.{bit_most}
+use Rattle.grid.specs.declared.Kind.{Kind}
 use Rattle.grid.specs.declared.Verdict.{Verdict}
+use Rattle.grid.specs.Kinds.{kind_number}
 use Rattle.grid.specs.declared.Verdict.TheVariants.{Constant, Leaf}
 use Rattle.input.specs.declared.Lengths.{Lengths}
 use Rattle.schedule.specs.Plan.{Plan}
@@ -42,7 +44,7 @@ skip_all kinds places j n other (suc r) =
     ∙ skip kinds places (r + j) n (other (r + j) (omega arith))
     ∙ skip_all kinds places j n other r
 
-module _ (P : Plan) (other : (v c k : ℕ) (x : Float) → decision P v c ≡ Constant k x → k ≡ 2 → ⊥) where
+module _ (P : Plan) (other : (v c : ℕ) (k : Kind) (x : Float) → decision P v c ≡ Constant k x → kind_number k ≡ 2 → ⊥) where
   module _ (s : State) (at : Decided P s) where
     -- the children before child c of node v are numbered
     abbrev Before : ℕ → ℕ → Type 0
@@ -74,7 +76,7 @@ module _ (P : Plan) (other : (v c k : ℕ) (x : Float) → decision P v c ≡ Co
             let none : becomes_leaf P v c ≡ false = rw on refl in
             same (omega (arith, before_next P (becomes_leaf P) v c, ap bit none)) (λ two. omega (arith, kind, two))
         one true (Constant k x) on is child =
-            let kind : get_or ks j 0 ≡ k = ap (λ (x : Child). x.kind) child in
+            let kind : get_or ks j 0 ≡ kind_number k = ap (λ (x : Child). x.kind) child in
             let none : becomes_leaf P v c ≡ false = rw (on, is) refl in
             same (omega (arith, before_next P (becomes_leaf P) v c, ap bit none)) (λ two. other v c k x is (sym kind ∙ two))
         one true Leaf on is child =

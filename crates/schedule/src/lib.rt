@@ -1,13 +1,13 @@
 // The schedule of a job as a list of events, the ledger, and their laws, over any plan: see
 // specs/Lib.antt and proofs/Lib.antt. The code has the words that the definitions share with calls:
-// what a record counts, where a job stands, the record itself, and how a call is answered.
+// what a record counts, where a job stands, and the record itself.
 #![tactic(auto)]
 
 use grid::GridCounts;
 use input::{Input, Lengths};
 
 // What a record counts: of its grid, leaves so far, their points, and evaluations so far (rule R2).
-#[derive(Clone, Copy)]
+#[derive(Clone, Copy, Debug, PartialEq, Eq)]
 pub struct Counts {
     pub grid: GridCounts,
     pub leaves: u64,
@@ -16,7 +16,7 @@ pub struct Counts {
 }
 
 // Where a job stands (rule S12): at the end, or before a corner of a node or a point of a node's child.
-#[derive(Clone, Copy)]
+#[derive(Clone, Copy, Debug, PartialEq, Eq)]
 pub enum Cursor {
     End,
     Corner(usize, usize),
@@ -39,11 +39,4 @@ pub struct Job {
 pub struct Record {
     pub opened: bool,
     pub job: Job,
-}
-
-// Whether a call was accepted, or the number of the cause that refused it (rule C51).
-#[derive(Clone, Copy)]
-pub enum Answer {
-    Accepted,
-    Refused(u32),
 }

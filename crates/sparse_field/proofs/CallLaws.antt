@@ -38,7 +38,7 @@ module _ (i : Input) (r : Record) (m : Memory) where
       ap (λ x. by_number (number_of x)) e ∙ ap by_number above ∙ ap (λ k. refused_by k r m) (sym above)
 
   -- an accepted open
-  pub open_accepted : sparse.cause (lengths_of m) i ≡ 0 → called (opens i) r m ≡ accepted_with (opened_engine sparse i (lengths_of m))
+  pub open_accepted : sparse.answer (lengths_of m) i ≡ Ok tt → called (opens i) r m ≡ accepted_with (opened_engine sparse i (lengths_of m))
   unfolding engine_call engine_open
   open_accepted none = ap by_number none
 

@@ -81,7 +81,7 @@ active_within i size = active_few i.grid (decide_by i.band) (value_of i.model) s
 
 -- ---- the start of a job
 
-module _ (i : Input) (l : Lengths) (none : sparse.cause l i ≡ 0) where
+module _ (i : Input) (l : Lengths) (none : sparse.answer l i ≡ Ok tt) where
   abbrev P : Plan
   P = plan_of i
 

@@ -29,7 +29,7 @@ use Rattle.plans.proofs.Lawful.{sparse_laws, long_enough}
 abbrev pub record_after : Lengths → Input → ℕ → Record
 record_after l i k = record { opened = true; job = job_at sparse l i k }
 
-module _ (i : Input) (m : Memory) (none : sparse.cause (lengths_of m) i ≡ 0) where
+module _ (i : Input) (m : Memory) (none : sparse.answer (lengths_of m) i ≡ Ok tt) where
   abbrev P : Plan
   P = plan_of i
 

@@ -1,12 +1,8 @@
--- `axis_points` meets its contract: the places passed hold where their points stand.
-use mathlib.Core.Path.{◌≡◌}
-use Prim.Native.Nat.{◌-◌, ◌≤◌}
+-- The places passed hold where their points stand.
+use Rattle.std.proofs.Common.{◌≡◌, ◌-◌}
 use Rattle.geometry.specs.Axis.{along}
 use Rattle.lists.specs.Filled.{filled}
 use Rattle.rows.proofs.points.axis_points.Given as goal
 
 abbrev pub invariant-loop-i : goal.invariant-loop-i
-invariant-loop-i l = (l.i ≤ l.count) × (l.axes ≡ filled l.first l.i (λ q. along l.least l.most (l.l - 1) (q - l.first)) l.initial.axes)
-
-abbrev pub decreases-loop-i : goal.decreases-loop-i
-decreases-loop-i l = l.count - l.i
+invariant-loop-i l = l.axis ≡ filled 0 l.i (along l.fn.least l.fn.most (l.fn.l - 1)) l.initial.axis
