@@ -1,27 +1,14 @@
 -- A cell's corners in a field: the places of its octet, and what the walk's step tells of its cursor.
-use Rattle.std.proofs.Common.{◌≡◌, ℕ, ◌+◌, ◌*◌, ◌<◌, ◌≤◌, true, false, ◌&&◌, ltb, List, [], ◌∷◌, length, get_or, ap, ◌∙◌, mul-le-mul_right, mul_assoc, arith, ltb-true}
+use Rattle.std.proofs.Common.{◌≡◌, ℕ, ◌+◌, ◌*◌, ◌<◌, ◌≤◌, List, [], ◌∷◌, length, get_or, ap, ◌∙◌, mul-le-mul_right, mul_assoc, arith}
 use lib.Ieee.{Float, nan}
-use Rattle.lists.proofs.Tests.{and_left, and_right}
 use Rattle.lists.proofs.Lists.{get_d_any}
 use Rattle.float.specs.Zero.{plus_zero}
 use Rattle.geometry.specs.declared.Vec3i.{Vec3i}
 use Rattle.geometry.specs.Index.{place_of}
 use Rattle.geometry.specs.Octet.{octet_order, octet_places}
-use Rattle.dense_field.specs.Field.{values_refused, points_of}
+use Rattle.dense_field.specs.Field.{points_of}
 use Rattle.dense_field.specs.Inner.Lent.{Found}
-use Rattle.dense_field.proofs.Lending.{lent}
-use Rattle.dense_field.specs.Octets.{cell_inside, octet_of}
-
-pub found : {n c : Vec3i} {len : ℕ} → values_refused n len ≡ false → cell_inside n c ≡ true → Found n len c
-unfolding cell_inside
-found {n} {c} {len} passed e =
-    let ij : (ltb (c.i + 1) n.i && ltb (c.j + 1) n.j) ≡ true = and_left _ _ e in
-    record {
-      held = lent n len passed;
-      i_in = ltb-true _ _ (and_left _ _ ij);
-      j_in = ltb-true _ _ (and_right (ltb (c.i + 1) n.i) _ ij);
-      k_in = ltb-true _ _ (and_right (ltb (c.i + 1) n.i && ltb (c.j + 1) n.j) _ e);
-    }
+use Rattle.dense_field.specs.Octets.{octet_of}
 
 -- the octet's places stand in the field
 pub record Reach (n c : Vec3i) (len : ℕ) : Type 0 where

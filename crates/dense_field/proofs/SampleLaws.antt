@@ -1,4 +1,4 @@
--- A field that sampling does not refuse, and its values by places.
+-- A model that sampling does not refuse, and the values of a field by its places.
 use Rattle.std.proofs.Common.{◌≡◌, ℕ, false, sym, Ok}
 use lib.Ieee.{Float}
 use Rattle.causes.proofs.Lists.{none_applies}
@@ -12,20 +12,13 @@ use Rattle.model.proofs.Accepted.{accepted_value}
 use Rattle.dense_field.specs.Field.{points_of}
 use Rattle.dense_field.specs.Points.{field_point}
 use Rattle.dense_field.specs.Sampling.{sampled, sample_outcome}
-use Rattle.dense_field.specs.Inner.Lent.{Lent}
 use Rattle.dense_field.specs.Inner.Runs.{place_value}
-use Rattle.dense_field.proofs.Lending.{lent}
 use Rattle.dense_field.proofs.Edges.{point_at}
 
--- what holds where no cause applies
-pub record Passed (m : ImplicitModel) (n : Vec3i) (len : ℕ) : Type 0 where
-  pub in_order : refused_by_four m ≡ false
-  pub held : Lent n len
-
-pub passed : (m : ImplicitModel) (origin : Vec3) (cell : Float) (n : Vec3i) (len : ℕ) → Ok tt ≡ sample_outcome m origin cell n len → Passed m n len
+-- a model that sampling does not refuse is in order
+pub passed : (m : ImplicitModel) (origin : Vec3) (cell : Float) (n : Vec3i) (len : ℕ) → Ok tt ≡ sample_outcome m origin cell n len → refused_by_four m ≡ false
 unfolding sample_outcome
-passed m origin cell n len e =
-    let all = none_applies tt _ (sym e) in record { in_order = all.1.0; held = lent n len all.1.1.0 }
+passed m origin cell n len e = (none_applies tt _ (sym e)).1.0
 
 -- a model in order has its own values
 pub places_sampled : (m : ImplicitModel) (origin : Vec3) (cell : Float) (n : Vec3i) → refused_by_four m ≡ false

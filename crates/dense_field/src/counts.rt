@@ -1,7 +1,6 @@
 // How many points a field has: from its bounds, and in a lent slice.
 ghost use Rattle.std.specs.Prelude.{◌≡◌, min, OnOk};
 ghost use Rattle.std.specs.Float.Ieee.{to_unsigned};
-ghost use Rattle.dense_field.specs.Field.{values_refused};
 ghost use Rattle.dense_field.specs.Inner.Lent.{Lent};
 ghost use Rattle.dense_field.specs.Outcomes.{outcome_of};
 ghost use Rattle.dense_field.specs.Points.{points_along, point_count_of};
@@ -9,21 +8,13 @@ ghost use Rattle.dense_field.specs.Points.{points_along, point_count_of};
 use causes::Cause;
 use geometry::{BoundingBox, Vec3i};
 
-// Whether a field's dimensions are refused, or `len` values are not what they ask for: cause 9.
-#[tactic(auto, unfolding(crate::specs::Field::values_refused))]
-pub fn values_refused(n: Vec3i, len: usize) -> bool
-    ensures { result ≡ values_refused n len }
-{
-    geometry::dimensions_refused(n.i, n.j, n.k) || len != n.i * n.j * n.k
-}
-
-// The same test, as what a call on lent values answers.
-#[tactic(auto, unfolding(crate::specs::Outcomes::outcome_of, causes::specs::First::first_of))]
+// Refuses dimensions that no field has, and `len` values that are not what they ask for: cause 9.
+#[tactic(auto, unfolding(crate::specs::Outcomes::outcome_of, crate::specs::Field::values_refused, causes::specs::First::first_of))]
 pub fn tested(n: Vec3i, len: usize) -> Result<(), Cause>
     ensures answer { result ≡ outcome_of n len }
     ensures lent { OnOk result (Lent n len) }
 {
-    if values_refused(n, len) {
+    if geometry::dimensions_refused(n.i, n.j, n.k) || len != n.i * n.j * n.k {
         return Err(Cause::Dimensions);
     }
     Ok(())

@@ -1,5 +1,5 @@
 // A cell's eight corners and the values there, in octet order (rule B9).
-ghost use Rattle.std.specs.Prelude.{◌≡◌, length, IfOk, IfSome};
+ghost use Rattle.std.specs.Prelude.{◌≡◌, ◌+◌, ◌<◌, length, IsTrue, IfOk, IfSome};
 ghost use Rattle.std.specs.Float.{binary64};
 ghost use Rattle.std.specs.Float.Ieee.{add, mul};
 ghost use Rattle.dense_field.specs.Inner.Lent.{Found};
@@ -14,7 +14,8 @@ use geometry::{Vec3, Vec3i};
 // Whether the point after a cell on each axis is one of the field.
 #[tactic(auto, unfolding(crate::specs::Octets::cell_inside))]
 fn cell_inside(n: Vec3i, c: Vec3i) -> bool
-    ensures { result ≡ cell_inside n c }
+    ensures answer { result ≡ cell_inside n c }
+    ensures inside { IsTrue result → (c.i + 1 < n.i) × (c.j + 1 < n.j) × (c.k + 1 < n.k) }
 {
     c.i < n.i && c.j < n.j && c.k < n.k && c.i + 1 < n.i && c.j + 1 < n.j && c.k + 1 < n.k
 }
@@ -96,13 +97,11 @@ fn octet(n: Vec3i, values: &[f64], c: Vec3i) -> [f64; 8]
 }
 
 // The eight values at the corners of a cell.
-#[tactic(auto, unfolding(crate::specs::Cells::cell_values_of, causes::specs::First::first_of))]
+#[tactic(auto, unfolding(crate::specs::Cells::cell_values_of, crate::specs::Outcomes::outcome_of, causes::specs::First::first_of))]
 pub fn cell_values(n: Vec3i, values: &[f64], c: Vec3i) -> Result<[f64; 8], Cause>
     ensures { result ≡ cell_values_of n values.now c }
 {
-    if counts::values_refused(n, values.len()) {
-        return Err(Cause::Dimensions);
-    }
+    counts::tested(n, values.len())?;
     if !cell_inside(n, c) {
         return Err(Cause::Outside);
     }
@@ -118,14 +117,12 @@ fn no_cells(cells: Vec3i) -> bool
 }
 
 // The cell after the one at the cursor of a walk over octets, or none where the walk is done.
-#[tactic(auto, unfolding(crate::specs::Walks::next_cell))]
+#[tactic(auto, unfolding(crate::specs::Walks::next_cell, crate::specs::Outcomes::outcome_of, causes::specs::First::first_of))]
 fn next_cell(n: Vec3i, len: usize, c: Vec3i) -> Result<Option<Vec3i>, Cause>
     ensures next { result ≡ next_cell n len c }
     ensures found { IfOk result (λ place. IfSome place (λ _. Found n len c)) }
 {
-    if counts::values_refused(n, len) {
-        return Err(Cause::Dimensions);
-    }
+    counts::tested(n, len)?;
     let cells = Vec3i::new(n.i - 1, n.j - 1, n.k - 1);
     if no_cells(cells) || c.k >= cells.k {
         return Ok(None);

@@ -1,6 +1,6 @@
 // A model's values at a field's points, in runs of up to 64 consecutive places. A row is the points
 // of one j and k, and a run goes on over row ends.
-ghost use Rattle.std.specs.Prelude.{◌≡◌, ◌+◌, ◌-◌, ◌≤◌, length, is_ok, if◌then◌else◌};
+ghost use Rattle.std.specs.Prelude.{◌≡◌, ◌+◌, ◌-◌, ◌≤◌, length, is_ok, OnOk, if◌then◌else◌};
 ghost use Rattle.lists.specs.Tabulate.{tabulate};
 ghost use Rattle.lists.specs.Filled.{filled};
 ghost use Rattle.geometry.specs.PointRow.{with_points};
@@ -92,7 +92,8 @@ fn sample_places(model: &ImplicitModel, field: Lattice, values: &mut [f64])
 // Why sampling is refused, where it is.
 #[tactic(auto, unfolding(crate::specs::Sampling::sample_outcome, crate::specs::Outcomes::outcome_of, causes::specs::First::first_of))]
 fn tested(model: &ImplicitModel, origin: Vec3, cell: f64, n: Vec3i, len: usize) -> Result<(), Cause>
-    ensures { result ≡ sample_outcome model.now origin cell n len }
+    ensures answer { result ≡ sample_outcome model.now origin cell n len }
+    ensures lent { OnOk result (Lent n len) }
 {
     if geometry::point_refused(origin) || geometry::cell_refused(cell) {
         return Err(Cause::Bounds);

@@ -108,16 +108,8 @@ fn smooth_rounds(n: Vec3i, factor: f64, rounds: u32, values: &mut [f64], scratch
     }
 }
 
-// Whether smoothing is refused: cause 9.
-#[tactic(auto, unfolding(crate::specs::Smoothing::smooth_refused, crate::specs::Field::scratch_needed))]
-fn smooth_refused(n: Vec3i, values: usize, scratch: usize) -> bool
-    ensures { result ≡ smooth_refused n values scratch }
-{
-    counts::values_refused(n, values) || scratch < values
-}
-
 // Smooths the values in so many rounds and sets the whole scratch to +0. A refusal changes nothing.
-#[tactic(auto, unfolding(crate::specs::Outcomes::smooth_outcome, causes::specs::First::first_of))]
+#[tactic(auto, unfolding(crate::specs::Outcomes::smooth_outcome, crate::specs::Outcomes::outcome_of, crate::specs::Smoothing::smooth_refused, crate::specs::Field::scratch_needed, causes::specs::First::first_of))]
 pub fn smooth(
     n: Vec3i,
     factor: f64,
@@ -133,10 +125,11 @@ pub fn smooth(
         ≡ cond (smooth_refused n (length values.old) (length scratch.old)) scratch.old
         (replicate (length scratch.old) plus_zero) }
 {
-    if smooth_refused(n, values.len(), scratch.len()) {
+    let count = values.len();
+    counts::tested(n, count)?;
+    if scratch.len() < count {
         return Err(Cause::Dimensions);
     }
-    let count = values.len();
     smooth_rounds(n, factor, rounds, values, &mut scratch[..count]);
     scratch.fill(0.0);
     Ok(())
