@@ -61,6 +61,7 @@ fn fill_points(field: Lattice, at: usize, len: usize, points: &mut PointRow)
     let n = field.n;
     let mut first = geometry::indices(at, n.i, n.j);
     let mut t: usize = 0;
+    // Kept: a stretch ends where its row does, so that its length is not the same at each turn.
     while t < len {
         let count = (n.i - first.i).min(len - t);
         fill_stretch(field, first, points, t, count);
@@ -79,13 +80,12 @@ fn sample_places(model: &ImplicitModel, field: Lattice, values: &mut [f64])
     let mut scratch = [0.0; 4096];
     let mut points = PointRow::new();
     let mut results = [0.0; 64];
-    let mut at = 0;
-    while at < values.len() {
+    for run in 0..values.len().div_ceil(64) {
+        let at = run * 64;
         let len = (values.len() - at).min(64);
         fill_points(field, at, len, &mut points);
         model::evaluate_row_into(model, &points, len, &mut scratch, &mut results);
         values[at..at + len].copy_from_slice(&results[..len]);
-        at += len;
     }
 }
 

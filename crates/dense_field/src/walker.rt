@@ -10,7 +10,9 @@ use crate::{Step, octets};
 use causes::Cause;
 use geometry::Vec3i;
 
-#[derive(Drop)]
+// Kept: it is no Copy, since a copy would be moved on in its place; and no std Iterator, whose `None`
+// could not tell the end from a refusal.
+#[derive(Clone, Debug, PartialEq, Drop)]
 pub struct DenseCellValueIterator<'a> {
     pub data: &'a [f64],
     pub current: Vec3i,
