@@ -20,6 +20,8 @@ use Rattle.grid.specs.Leaves.{leaf_point}
 use Rattle.grid.specs.Inner.Octets.{octet_values}
 use Rattle.grid.specs.declared.Verdict.{Verdict}
 use Rattle.grid.specs.declared.Verdict.TheVariants.{Constant, Leaf}
+use Rattle.grid.specs.declared.Kind.{Kind}
+use Rattle.grid.specs.Kinds.{kind_number}
 use Rattle.schedule.specs.Plan.{Plan}
 use Rattle.schedule.specs.Memory.{Memory}
 use Rattle.lists.specs.Flags.{nonzero}
@@ -129,14 +131,14 @@ module _ (g : Grid) (decide : BoundingBox → List Float → Verdict) (value : F
     decided = sym (judged ∙ ap₂ decide lies_in read)
 
     -- a child that becomes a constant
-    pub constant_turn : {k : ℕ} {x : Float} → verdict ≡ Constant k x → 0 < k
+    pub constant_turn : {k : Kind} {x : Float} → verdict ≡ Constant k x → 0 < kind_number k
         → ChildrenAdvanced P v c (suc c) b leaves m
-        (memory_of (set m.kinds (v * r + c) k) (set m.numbers (v * r + c) x) m.places m.store m.corners) (progress leaves b Through)
+        (memory_of (set m.kinds (v * r + c) (kind_number k)) (set m.numbers (v * r + c) x) m.places m.store m.corners) (progress leaves b Through)
     unfolding plan_with
     constant_turn {k} {x} is kind =
         let turn = turn_constant P v c b leaves m ready below is_active k x kind (decided ∙ is) in
         subst (λ n. ChildrenAdvanced P v c (suc c) b leaves m
-        (memory_of (set m.kinds (v * n + c) k) (set m.numbers (v * n + c) x) m.places m.store m.corners) (progress leaves b Through)) (sym cubed)
+        (memory_of (set m.kinds (v * n + c) (kind_number k)) (set m.numbers (v * n + c) x) m.places m.store m.corners) (progress leaves b Through)) (sym cubed)
         turn
 
     -- a leaf more is one of all active children

@@ -13,6 +13,8 @@ use Rattle.float.specs.Zero.{plus_zero}
 use Rattle.lists.specs.Filled.{filled}
 use Rattle.lists.proofs.Filling.{filled_length}
 use Rattle.schedule.specs.Schedule.{Site, Event, point, evaluate, make_constant, make_leaf, clear_corners}
+use Rattle.grid.specs.declared.Kind.{Kind}
+use Rattle.grid.specs.Kinds.{kind_number}
 use Rattle.schedule.specs.Plan.{Plan}
 use Rattle.grid.specs.declared.Verdict.TheVariants.{Constant, Leaf}
 use Rattle.schedule.specs.Resume.{at_site, events_from, children_left, nodes_left}
@@ -101,21 +103,21 @@ module _ (P : Plan) where
     }
 
     -- a child that becomes a constant
-    pub turn_constant : P.active v c ≡ true → (k : ℕ) (x : Float) → 0 < k → P.decide v c (reading_in m) ≡ Constant k x
+    pub turn_constant : P.active v c ≡ true → (k : Kind) (x : Float) → 0 < kind_number k → P.decide v c (reading_in m) ≡ Constant k x
         → ChildrenAdvanced P v c (suc c) b leaves m
-        (memory_of (set m.kinds (v * P.children + c) k) (set m.numbers (v * P.children + c) x) m.places m.store m.corners)
+        (memory_of (set m.kinds (v * P.children + c) (kind_number k)) (set m.numbers (v * P.children + c) x) m.places m.store m.corners)
         (progress leaves b Through)
     unfolding apply
     turn_constant active k x above decided = record {
       same = ap (λ es. run_of P b es (state_in m leaves)) (child_constant P v c below active (reading_in m) k x decided)
-          ∙ run_work P b (make_constant (v * P.children + c) k x) (children_left P v (suc c) (reading_in m)) (state_in m leaves);
+          ∙ run_work P b (make_constant (v * P.children + c) (kind_number k) x) (children_left P v (suc c) (reading_in m)) (state_in m leaves);
       lent = record {
         kinds = rw length-set ready.lent.kinds;
         numbers = rw length-set ready.lent.numbers;
         places = ready.lent.places;
         store = ready.lent.store;
         corners = ready.lent.corners;
-        active_kinds = set_active P m.kinds (v * P.children + c) k (active_at_lem P v c ready.node below ∙ active) above ready.lent.active_kinds;
+        active_kinds = set_active P m.kinds (v * P.children + c) (kind_number k) (active_at_lem P v c ready.node below ∙ active) above ready.lent.active_kinds;
       };
       at_most = omega (arith, ready.at_most, before_next P P.active v c);
     }

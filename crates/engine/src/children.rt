@@ -6,22 +6,21 @@ ghost use Rattle.grid.specs.Blocks.{cube};
 ghost use Rattle.grid.specs.Boxes.{node_box};
 ghost use Rattle.grid.specs.Leaves.{leaf_point};
 ghost use Rattle.schedule.specs.Lent.{memory_of};
-ghost use Rattle.rows.specs.Inner.FlatValue.{value_in};
+ghost use Rattle.rows.specs.Inner.ModelValue.{model_at};
 ghost use Rattle.geometry.specs.Values.{at};
-ghost use Rattle.engine.specs.Inner.Progress.{plan_in, plan_now, plan_by, Sized, Ready, ChildrenAdvanced, leaf_progress};
+ghost use Rattle.engine.specs.Inner.Progress.{plan, plan_by, Sized, Ready, ChildrenAdvanced, leaf_progress};
 ghost use Rattle.engine.specs.Inner.Children.{Decidable, Decided, Fits, PointsMade};
 
 use crate::{Decision, LeafVisit, Progress, Stop, Task, Visit};
 use geometry::BoundingBox;
 use grid::Verdict;
+use model::ImplicitModel;
 use schedule::Cursor;
 
 // Evaluates points of a leaf that has the box b, from point p on while the budget lasts, into the
 // stretch of the store that its ordinal names. Answers the next point.
 pub fn fill_leaf(
-    words: &[u32; 192],
-    reals: &[f64; 256],
-    parts: usize,
+    model: &ImplicitModel,
     b: BoundingBox,
     l: u32,
     p: usize,
@@ -30,18 +29,16 @@ pub fn fill_leaf(
     scratch: &mut [f64; 4096],
     store: &mut [f64],
 ) -> usize
-    requires { (0 < l) × (l ≤ 64) × (p ≤ cube l) × ((ordinal + 1) * cube l ≤ length store.old) × (parts ≤ 64) }
+    requires { (0 < l) × (l ≤ 64) × (p ≤ cube l) × ((ordinal + 1) * cube l ≤ length store.old) }
     ensures answer { result ≡ p + min budget (cube l - p) }
     ensures store { store.new
-        ≡ filled (ordinal * cube l + p) (min budget (cube l - p)) (λ q. at (value_in words reals parts) (leaf_point b l (q - ordinal * cube l)))
+        ≡ filled (ordinal * cube l + p) (min budget (cube l - p)) (λ q. at (model_at model.now) (leaf_point b l (q - ordinal * cube l)))
         store.old }
 {
     let points = grid::cube_of(l as usize);
     let from = ordinal * points;
     rows::fill_points(
-        words,
-        reals,
-        parts,
+        model,
         b,
         l,
         p,
@@ -53,28 +50,24 @@ pub fn fill_leaf(
 
 // Points of the last of so many leaves, which has the box b, while the budget lasts.
 pub fn leaf_from(
-    words: &[u32; 192],
-    reals: &[f64; 256],
-    parts: usize,
+    model: &ImplicitModel,
     b: BoundingBox,
     l: u32,
     leaf: LeafVisit,
     scratch: &mut [f64; 4096],
     store: &mut [f64],
 ) -> Progress
-    requires { (0 < l) × (l ≤ 64) × (leaf.point ≤ cube l) × (0 < leaf.leaves) × (leaf.leaves * cube l ≤ length store.old) × (parts ≤ 64) }
+    requires { (0 < l) × (l ≤ 64) × (leaf.point ≤ cube l) × (0 < leaf.leaves) × (leaf.leaves * cube l ≤ length store.old) }
     ensures answer { result ≡ leaf_progress leaf.leaves leaf.left leaf.node leaf.child leaf.point (cube l) }
     ensures store { store.new
         ≡ filled ((leaf.leaves - 1) * cube l + leaf.point) (min leaf.left (cube l - leaf.point))
-        (λ q. at (value_in words reals parts) (leaf_point b l (q - (leaf.leaves - 1) * cube l))) store.old }
+        (λ q. at (model_at model.now) (leaf_point b l (q - (leaf.leaves - 1) * cube l))) store.old }
 {
     let p = leaf.point;
     let leaves = leaf.leaves;
     let budget = leaf.left;
     let ordinal = (leaves as usize) - 1;
-    let next = fill_leaf(
-        words, reals, parts, b, l, p, ordinal, budget, scratch, store,
-    );
+    let next = fill_leaf(model, b, l, p, ordinal, budget, scratch, store);
     let left = budget - ((next - p) as u64);
     if next < grid::cube_of(l as usize) {
         let stop = Stop::At(Cursor::Point(leaf.node, leaf.child, next));
@@ -107,7 +100,7 @@ fn decide_at(
     let n = task.grid.inner;
     let c = visit.place;
     let j = visit.node * grid::cube_of(n as usize) + c;
-    let empty = kinds[j] == grid::EMPTY;
+    let empty = kinds[j] == 0;
     if empty {
         return Decision::Passed;
     }
@@ -117,12 +110,12 @@ fn decide_at(
     let verdict = grid::decide_child(band.min, band.max, child, octet);
     match verdict {
         Verdict::Constant(kind, number) => {
-            kinds[j] = kind;
+            kinds[j] = kind.number();
             numbers[j] = number;
             Decision::Passed
         }
         Verdict::Leaf => {
-            kinds[j] = grid::LEAF;
+            kinds[j] = grid::Kind::Leaf.number();
             places[j] = visit.leaves as u32;
             Decision::Leaf(child)
         }
@@ -134,14 +127,13 @@ fn points_of(
     task: Task,
     visit: Visit,
     decision: Decision,
-    words: &[u32; 192],
-    reals: &[f64; 256],
+    model: &ImplicitModel,
     scratch: &mut [f64; 4096],
     store: &mut [f64],
 ) -> Progress
-    requires sized { Sized task.grid × (task.parts ≤ 64) × (visit.leaves ≤ 16777216) }
+    requires sized { Sized task.grid × (visit.leaves ≤ 16777216) }
     requires fits { Fits task.grid visit decision store.old }
-    ensures { PointsMade task.grid (value_in words reals task.parts) visit decision store.old store.new result }
+    ensures { PointsMade task.grid (model_at model.now) visit decision store.old store.new result }
 {
     let left = visit.left;
     match decision {
@@ -159,16 +151,7 @@ fn points_of(
                 leaves,
                 left,
             };
-            leaf_from(
-                words,
-                reals,
-                task.parts,
-                child,
-                task.grid.leaf,
-                leaf,
-                scratch,
-                store,
-            )
+            leaf_from(model, child, task.grid.leaf, leaf, scratch, store)
         }
     }
 }
@@ -177,8 +160,7 @@ fn points_of(
 pub fn run_children(
     task: Task,
     visit: Visit,
-    words: &[u32; 192],
-    reals: &[f64; 256],
+    model: &ImplicitModel,
     scratch: &mut [f64; 4096],
     kinds: &mut [u8],
     numbers: &mut [f64],
@@ -186,10 +168,10 @@ pub fn run_children(
     store: &mut [f64],
     corners: &[f64],
 ) -> Progress
-    requires sized { Sized task.grid × (visit.bounds ≡ node_box task.grid visit.node) × (visit.place ≤ cube task.grid.inner) × (task.parts ≤ 64) }
-    requires ready { Ready (plan_now task words reals) visit.node visit.place visit.leaves
+    requires sized { Sized task.grid × (visit.bounds ≡ node_box task.grid visit.node) × (visit.place ≤ cube task.grid.inner) }
+    requires ready { Ready (plan task model.now) visit.node visit.place visit.leaves
         (memory_of kinds.old numbers.old places.old store.old corners.now) }
-    ensures { ChildrenAdvanced (plan_in task words reals) visit.node visit.place (cube task.grid.inner) visit.left visit.leaves
+    ensures { ChildrenAdvanced (plan task model.now) visit.node visit.place (cube task.grid.inner) visit.left visit.leaves
         (memory_of kinds.old numbers.old places.old store.old corners.now)
         (memory_of kinds.new numbers.new places.new store.new corners.now) result }
 {
@@ -208,7 +190,7 @@ pub fn run_children(
             left,
         };
         let decision = decide_at(task, child, kinds, numbers, places, corners);
-        let turn = points_of(task, child, decision, words, reals, scratch, store);
+        let turn = points_of(task, child, decision, model, scratch, store);
         leaves = turn.leaves;
         left = turn.left;
         let stop = turn.stop;

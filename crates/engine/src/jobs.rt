@@ -12,8 +12,7 @@ use crate::{Progress, Standing, Task, nodes};
 use input::Input;
 use schedule::Cursor;
 
-// What is left of an input's job from a cursor on, while the budget lasts. The model's parts are laid
-// out once.
+// What is left of an input's job from a cursor on, while the budget lasts.
 pub fn run_job(
     input: Input,
     cursor: Cursor,
@@ -36,18 +35,10 @@ pub fn run_job(
         (memory_of kinds.old numbers.old places.old store.old corners.old))) [] result
         (active_all (plan_of input)) }
 {
-    let model = input.model;
-    let mut words = [0u32; 192];
-    let mut reals = [0.0; 256];
     let mut scratch = [0.0; 4096];
-    model::lay_out(model, &mut words, &mut reals);
-    let parts = model.count as usize;
-    let g = input.grid;
-    let band = input.band;
     let task = Task {
-        grid: g,
-        band,
-        parts,
+        grid: input.grid,
+        band: input.band,
     };
     let standing = Standing {
         cursor,
@@ -57,8 +48,7 @@ pub fn run_job(
     nodes::run_from(
         task,
         standing,
-        &words,
-        &reals,
+        &input.model,
         &mut scratch,
         kinds,
         numbers,

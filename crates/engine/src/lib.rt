@@ -13,13 +13,11 @@ mod nodes; // nodes.rt: node after node, from a cursor on
 
 pub use jobs::run_job;
 
-// What the work is about, beside the arrays of its model: the grid, the band, and how many parts the
-// model has.
+// What the work is about, beside its model: the grid and the band.
 #[derive(Clone, Copy)]
 pub struct Task {
     pub grid: Grid,
     pub band: Band,
-    pub parts: usize,
 }
 
 // Where a job goes on: its cursor, the leaves so far, and the budget that is left.

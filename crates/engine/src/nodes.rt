@@ -5,10 +5,11 @@ ghost use Rattle.float.specs.Zero.{plus_zero};
 ghost use Rattle.schedule.specs.Resume.{events_from};
 ghost use Rattle.schedule.specs.Totals.{active_all};
 ghost use Rattle.schedule.specs.Lent.{memory_of};
-ghost use Rattle.engine.specs.Inner.Progress.{plan_in, plan_now, Sized, Advanced, ZeroFrom, reading_in};
+ghost use Rattle.engine.specs.Inner.Progress.{plan, Sized, Advanced, ZeroFrom, reading_in};
 ghost use Rattle.engine.specs.Inner.Turns.{Standable, Evaluable, TurnMade};
 
 use crate::{LeafVisit, Progress, Standing, Stop, Task, Turn, Visit, children};
+use model::ImplicitModel;
 use schedule::Cursor;
 
 // The evaluations at a job's cursor: the corners of its node from there on, or the points of its leaf.
@@ -16,19 +17,18 @@ use schedule::Cursor;
 fn evaluate_from(
     task: Task,
     at: Standing,
-    words: &[u32; 192],
-    reals: &[f64; 256],
+    model: &ImplicitModel,
     scratch: &mut [f64; 4096],
     kinds: &[u8],
     store: &mut [f64],
     corners: &mut [f64],
 ) -> Turn
-    requires sized { Sized task.grid × (task.parts ≤ 64) }
-    requires evaluable { Evaluable (plan_now task words reals) at kinds.now store.old corners.old }
+    requires sized { Sized task.grid }
+    requires evaluable { Evaluable (plan task model.now) at kinds.now store.old corners.old }
     ensures { (numbers : List Float) (places : List ℕ)
-        → Standable (plan_in task words reals) at
+        → Standable (plan task model.now) at
         (memory_of kinds.now numbers places store.old corners.old)
-        → TurnMade task.grid (plan_in task words reals) at
+        → TurnMade task.grid (plan task model.now) at
         (memory_of kinds.now numbers places store.old corners.old)
         (memory_of kinds.now numbers places store.new corners.new) result }
 {
@@ -48,9 +48,7 @@ fn evaluate_from(
             let children = grid::cube_of(n);
             let first = node * children;
             let end = rows::run_corners(
-                words,
-                reals,
-                task.parts,
+                model,
                 bounds,
                 g.inner,
                 &kinds[first..first + children],
@@ -84,9 +82,7 @@ fn evaluate_from(
                 leaves,
                 left,
             };
-            let done = children::leaf_from(
-                words, reals, task.parts, lies, g.leaf, leaf, scratch, store,
-            );
+            let done = children::leaf_from(model, lies, g.leaf, leaf, scratch, store);
             let stop = done.stop;
             if let Stop::At(_) = stop {
                 return Turn::Stopped(done);
@@ -117,8 +113,7 @@ fn clear_corners(used: usize, corners: &mut [f64])
 pub fn run_from(
     task: Task,
     standing: Standing,
-    words: &[u32; 192],
-    reals: &[f64; 256],
+    model: &ImplicitModel,
     scratch: &mut [f64; 4096],
     kinds: &mut [u8],
     numbers: &mut [f64],
@@ -126,27 +121,27 @@ pub fn run_from(
     store: &mut [f64],
     corners: &mut [f64],
 ) -> Progress
-    requires sized { Sized task.grid × (task.parts ≤ 64) }
-    requires standable { Standable (plan_now task words reals) standing
+    requires sized { Sized task.grid }
+    requires standable { Standable (plan task model.now) standing
         (memory_of kinds.old numbers.old places.old store.old corners.old) }
-    ensures { Advanced (plan_in task words reals) standing.left standing.leaves
+    ensures { Advanced (plan task model.now) standing.left standing.leaves
         (memory_of kinds.old numbers.old places.old store.old corners.old)
         (memory_of kinds.new numbers.new places.new store.new corners.new)
-        (events_from (plan_in task words reals) standing.cursor (reading_in
+        (events_from (plan task model.now) standing.cursor (reading_in
         (memory_of kinds.old numbers.old places.old store.old corners.old))) [] result
-        (active_all (plan_in task words reals)) }
+        (active_all (plan task model.now)) }
 {
     let nodes = grid::node_total(task.grid);
     let own = grid::cube_of((task.grid.inner as usize) + 1);
     let mut used = corners.len();
     let mut at = standing;
     loop {
-        let turn = evaluate_from(task, at, words, reals, scratch, kinds, store, corners);
+        let turn = evaluate_from(task, at, model, scratch, kinds, store, corners);
         match turn {
             Turn::Stopped(done) => return done,
             Turn::Children(visit) => {
                 let done = children::run_children(
-                    task, visit, words, reals, scratch, kinds, numbers, places, store, corners,
+                    task, visit, model, scratch, kinds, numbers, places, store, corners,
                 );
                 let stop = done.stop;
                 if let Stop::At(_) = stop {

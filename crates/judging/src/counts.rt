@@ -26,11 +26,7 @@ pub fn counts_right(g: Grid, counts: Counts) -> bool
     requires { (refused_by_two g ≡ false) × (refused_by_five g ≡ false) }
     ensures { result ≡ same_counts counts (counts_with (grid_plan g) counts.leaves counts.evaluations) }
 {
-    let own = counts.grid;
-    if !grid::same_grid(own, grid::grid_counts(g)) {
-        return false;
-    }
-    sampled_right(counts.sampled, counts.leaves, g.leaf)
+    counts.grid == grid::grid_counts(g) && sampled_right(counts.sampled, counts.leaves, g.leaf)
 }
 
 // The most evaluations that a job can need: all corners, and all points of all children.

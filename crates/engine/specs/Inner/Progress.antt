@@ -8,7 +8,6 @@ use Rattle.schedule.specs.Plan.{Plan}
 use Rattle.schedule.specs.Resume.{children_left, nodes_left}
 use Rattle.schedule.specs.Memory.{Memory, State}
 use Rattle.float.specs.Zero.{plus_zero}
-use Rattle.lists.specs.Slices.{Slice, LentSlice}
 use Rattle.schedule.specs.Totals.{active_before, active_all}
 use Rattle.schedule.specs.Opened.{ActiveKinds}
 use Rattle.engine.specs.declared.Progress.{Progress}
@@ -17,22 +16,16 @@ use Rattle.engine.specs.declared.Stop.{Stop}
 use Rattle.engine.specs.declared.Stop.TheVariants.{Through, At}
 use Rattle.schedule.specs.declared.Cursor.TheVariants.{Point}
 use Rattle.plans.specs.Plan.{plan_with, decide_by}
-use Rattle.rows.specs.Inner.FlatValue.{flat_value}
+use Rattle.model.specs.declared.ImplicitModel.{ImplicitModel}
+use Rattle.rows.specs.Inner.ModelValue.{model_at}
 use Rattle.engine.specs.Inner.Runs.{Run, run_of}
 
--- the plan that the engine's functions work on: a task, with the value of its model at a point, or with the model's flat arrays
+-- the plan that the engine's functions work on: a task, with some value at a point, or with that of a model
 abbrev pub plan_by : Task → (Float → Float → Float → Float) → Plan
 plan_by task value = plan_with task.grid (decide_by task.band) value
 
-abbrev pub plan : Task → (words : List ℕ) (reals : List Float) → Plan
-plan task words reals = plan_by task (flat_value words reals task.parts)
-
--- the same of arrays that are lent: in what a function requires, and in what it ensures
-abbrev pub plan_now : Task → Slice ℕ → Slice Float → Plan
-plan_now task words reals = plan task words.now reals.now
-
-abbrev pub plan_in : Task → LentSlice ℕ → LentSlice Float → Plan
-plan_in task words reals = plan_now task words.entry reals.entry
+abbrev pub plan : Task → ImplicitModel → Plan
+plan task m = plan_by task (model_at m)
 
 -- sizes that causes 2 and 5 do not refuse
 pub record Sized (g : Grid) : Type 0 where

@@ -7,7 +7,7 @@ use lib.Ieee.{Float}
 use Rattle.grid.specs.Blocks.{cube}
 use Rattle.grid.specs.Leaves.{leaf_point}
 use Rattle.lists.specs.Filled.{filled}
-use Rattle.rows.specs.Inner.FlatValue.{flat_value}
+use Rattle.rows.specs.Inner.ModelValue.{model_at}
 use Rattle.geometry.specs.Values.{at}
 use Rattle.engine.proofs.Stretch.{stretch_filled}
 use borrow.Author.Rules.{rules}
@@ -52,7 +52,7 @@ returns c =
     let k = c.cube_of-points.result in
     let e : k ≡ cube a.l = c.cube_of-points.ensures in
     let from = a.ordinal * k in
-    let f : ℕ → Float = λ q. at (flat_value a.words.now a.reals.now a.parts) (leaf_point a.b a.l q) in
+    let f : ℕ → Float = λ q. at (model_at a.model.now) (leaf_point a.b a.l q) in
     let made = min a.budget (cube a.l - a.p) in (
       c.fill_points.ensures.0,
       stretch_filled from (from + k - from) a.p made f a.store.now (omega (arith, inside c.before.before.before.before.before)) (omega (arith, e, c.requires.2))

@@ -9,7 +9,7 @@ use Rattle.engine.proofs.children.leaf_from.Goals as goal
 pub fill_leaf-next-requires : goal.fill_leaf-next-requires
 fill_leaf-next-requires c =
     let one : c.args.leaf.leaves - 1 + 1 ≡ c.args.leaf.leaves = omega (arith, c.requires.3) in
-    (c.requires.0, c.requires.1, c.requires.2, omega (arith, ap (λ n. n * cube c.args.l) one, c.requires.4), c.requires.5)
+    (c.requires.0, c.requires.1, c.requires.2, omega (arith, ap (λ n. n * cube c.args.l) one, c.requires.4))
 
 pub returns-then-next-cube_of : goal.returns-then-next-cube_of
 returns-then-next-cube_of c =

@@ -2,7 +2,7 @@
 use mathlib.Core.Path.{refl, sym, subst}
 use native.Mathlib.Omega.{arith}
 use lib.Ieee.{Float}
-use Rattle.rows.specs.Inner.FlatValue.{flat_value}
+use Rattle.rows.specs.Inner.ModelValue.{model_at}
 use Rattle.engine.specs.declared.Stop.TheVariants.{Through}
 use Rattle.engine.specs.Inner.Progress.{progress}
 use Rattle.engine.specs.Inner.Children.{Fits, PointsMade}
@@ -12,7 +12,7 @@ use Rattle.engine.proofs.children.points_of.Tie as tie
 
 -- the value at a point
 abbrev value : tie.Start → Float → Float → Float → Float
-value s = flat_value s.args.words.now s.args.reals.now s.args.task.parts
+value s = model_at s.args.model.now
 
 enum_told-1 : tie.Need-enum_told-1
 enum_told-1 c = search rules
@@ -21,13 +21,13 @@ enum_known-decision : tie.Need-enum_known-decision
 enum_known-decision c = search rules
 
 overflow_add-leaves : tie.Need-overflow_add-leaves
-overflow_add-leaves c = omega (arith, c.requires.0.2)
+overflow_add-leaves c = omega (arith, c.requires.0.1)
 
 leaf_from-requires : tie.Need-leaf_from-requires
 leaf_from-requires c κs =
     let a = c.args in
     let fits = subst (λ d. Fits a.task.grid a.visit d a.store.now) c.in-Leaf.is c.requires.1 in
-    (c.requires.0.0.leaf_least, c.requires.0.0.leaf_most, omega arith, omega arith, fits, c.requires.0.1)
+    (c.requires.0.0.leaf_least, c.requires.0.0.leaf_most, omega arith, omega arith, fits)
 
 returns-in-Passed : tie.Need-returns-in-Passed
 returns-in-Passed c =

@@ -10,7 +10,7 @@ use Rattle.grid.specs.Blocks.{cube}
 use Rattle.engine.specs.declared.Stop.TheVariants.{Through}
 use Rattle.schedule.specs.Lent.{memory_of}
 use Rattle.plans.specs.Plan.{decide_by}
-use Rattle.rows.specs.Inner.FlatValue.{flat_value}
+use Rattle.rows.specs.Inner.ModelValue.{model_at}
 use Rattle.engine.specs.Inner.Progress.{plan, progress, Ready, ChildrenAdvanced}
 use Rattle.engine.proofs.ChildLaws.{leaves_few}
 use Rattle.engine.proofs.Turns.{advanced_start, advanced_through, advanced_then, advanced_stopped, children_upto}
@@ -18,24 +18,24 @@ use Rattle.engine.proofs.children.run_children.Statement.{statement}
 use Rattle.engine.proofs.children.run_children.Tie as tie
 
 abbrev invariant-loop-place : tie.invariant-loop-place
-invariant-loop-place task visit words reals _ kinds₀ numbers₀ places₀ store₀ corners children _ _ _ _ _ kinds numbers places store place leaves left =
+invariant-loop-place task visit model _ kinds₀ numbers₀ places₀ store₀ corners children _ _ _ _ _ kinds numbers places store place leaves left =
     (children ≡ cube task.grid.inner) × (place ≤ children)
     × (length kinds ≡ length kinds₀) × (length numbers ≡ length numbers₀) × (length places ≡ length places₀) × (length store ≡ length store₀)
-    × ChildrenAdvanced (plan task words reals) visit.node visit.place place visit.left visit.leaves
+    × ChildrenAdvanced (plan task model) visit.node visit.place place visit.left visit.leaves
     (memory_of kinds₀ numbers₀ places₀ store₀ corners) (memory_of kinds numbers places store corners) (progress leaves left Through)
 
 abbrev decreases-loop-place : tie.decreases-loop-place
-decreases-loop-place _ _ _ _ _ _ _ _ _ _ children _ _ _ _ _ _ _ _ _ place _ _ = children - place
+decreases-loop-place _ _ _ _ _ _ _ _ _ children _ _ _ _ _ _ _ _ _ place _ _ = children - place
 
 abbrev start : tie.At-loop-place invariant-loop-place decreases-loop-place → tie.Start invariant-loop-place decreases-loop-place
 start l = l.before.before.before.before.before.before.before.before.before.before
 
 abbrev value : tie.Start invariant-loop-place decreases-loop-place → Float → Float → Float → Float
-value s = flat_value s.args.words.now s.args.reals.now s.args.task.parts
+value s = model_at s.args.model.now
 
 -- the child is ready
 ready : (l : tie.At-loop-place invariant-loop-place decreases-loop-place) → let s = start l in
-    Ready (plan s.args.task s.args.words.now s.args.reals.now) s.args.visit.node l.loop-place.place l.loop-place.leaves
+    Ready (plan s.args.task s.args.model.now) s.args.visit.node l.loop-place.place l.loop-place.leaves
     (memory_of l.loop-place.kinds l.loop-place.numbers l.loop-place.places l.loop-place.store s.args.corners.now)
 ready l = let done = l.loop-place.invariant.6 in record { lent = done.lent; node = (start l).requires.1.node; at_most = done.at_most }
 
@@ -76,7 +76,7 @@ points_of-turn-requires c κs =
     let a = s.args in
     let few = leaves_few a.task.grid (decide_by a.task.band) (value s) a.visit.node l.loop-place.place l.loop-place.leaves _ s.requires.0.0
     (omega (arith, l.loop-place.invariant, c.loop-place-test.true)) (ready l) in
-    ((s.requires.0.0, s.requires.0.3, few), (c.decide_at-decision.ensures (value s) l.loop-place.store (ready l)).fits)
+    ((s.requires.0.0, few), (c.decide_at-decision.ensures (value s) l.loop-place.store (ready l)).fits)
 
 enum_told-1 : tie.Need-enum_told-1 invariant-loop-place decreases-loop-place
 enum_told-1 c = search rules

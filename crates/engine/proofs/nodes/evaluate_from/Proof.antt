@@ -17,7 +17,7 @@ use Rattle.schedule.specs.Resume.{events_from, children_left}
 use Rattle.schedule.specs.Totals.{active_before}
 use Rattle.plans.specs.Plan.{plan_with, decide_by}
 use Rattle.plans.proofs.Plans.{plan_laws_lem}
-use Rattle.rows.specs.Inner.FlatValue.{flat_value}
+use Rattle.rows.specs.Inner.ModelValue.{model_at}
 use Rattle.engine.specs.Inner.Progress.{Ready, Advanced, reading_in}
 use Rattle.engine.specs.Inner.Turns.{Standable}
 use Rattle.engine.proofs.Turns.{advanced_stopped}
@@ -32,7 +32,7 @@ abbrev decide : tie.Start → BoundingBox → List Float → Verdict
 decide s = decide_by s.args.task.band
 
 abbrev value : tie.Start → Float → Float → Float → Float
-value s = flat_value s.args.words.now s.args.reals.now s.args.task.parts
+value s = model_at s.args.model.now
 
 abbrev plan : tie.Start → Plan
 plan s = plan_with s.args.task.grid (decide s) (value s)
@@ -43,7 +43,7 @@ memory s numbers places = memory_of s.args.kinds.now numbers places s.args.store
 
 -- the plan is lawful
 laws : (s : tie.Start) → PlanLaws (plan s)
-laws s = plan_laws_lem s.args.task.grid s.args.task.band (value s) s.requires.0.0.inner_least
+laws s = plan_laws_lem s.args.task.grid s.args.task.band (value s) s.requires.0.inner_least
 
 -- ---- at a corner
 
@@ -74,8 +74,8 @@ part_few p =
       arith,
       ap (λ n. v * n) p.cube_of-children.ensures,
       p.cube_of-children.ensures,
-      s.requires.0.0.children,
-      node_few s.args.task.grid v s.requires.0.0 (ready (known p) s.requires.1.standable).node,
+      s.requires.0.children,
+      node_few s.args.task.grid v s.requires.0 (ready (known p) s.requires.1.standable).node,
     )
 
 part_inside : (p : tie.After-cube_of-children) → node (known p) * p.cube_of-children.result + p.cube_of-children.result ≤ length (start (known p)).args.kinds.now
@@ -88,7 +88,7 @@ part_inside p =
       ap (λ n. v * n) p.cube_of-children.ensures,
       p.cube_of-children.ensures,
       s.requires.1.standable.lent.kinds,
-      node_few s.args.task.grid v s.requires.0.0 (ready (known p) s.requires.1.standable).node,
+      node_few s.args.task.grid v s.requires.0 (ready (known p) s.requires.1.standable).node,
     )
 
 -- where its corners have run, and are counted
@@ -173,19 +173,18 @@ run_corners-end-requires c κs =
     let s = start (known c.before.before.before) in
     let here = known_start (plan s) s.args.at (known c.before.before.before).in-Corner.is s.requires.1.standable in
     let n = c.cube_of-children.result in (
-      s.requires.0.0.inner_least,
-      s.requires.0.0.inner_most,
+      s.requires.0.inner_least,
+      s.requires.0.inner_most,
       part_long s.args.kinds.now (node (known c.before.before.before) * n) n (part_inside c.before.before.before) ∙ c.cube_of-children.ensures,
       s.requires.1.standable.lent.corners,
       here.1,
-      s.requires.0.1,
     )
 
 overflow_add-n : tie.Need-overflow_add-n
 overflow_add-n c = search rules
 
 cube_of-requires : tie.Need-cube_of-requires
-cube_of-requires c κs = omega (arith, (start (known (counted c.before.before))).requires.0.0.inner_most)
+cube_of-requires c κs = omega (arith, (start (known (counted c.before.before))).requires.0.inner_most)
 
 shape_of-corners-then-end-cube_of : tie.Need-shape_of-corners-then-end-cube_of
 shape_of-corners-then-end-cube_of c = search rules
@@ -221,13 +220,12 @@ leaf_from-done-requires c κs =
     let s = start2 c.before.before.before.before in
     let e = s.requires.1 in
     let here = known_start (plan s) s.args.at c.in-Point.is e.standable in (
-      s.requires.0.0.leaf_least,
-      s.requires.0.0.leaf_most,
+      s.requires.0.leaf_least,
+      s.requires.0.leaf_most,
       here.2,
       here.3,
       leaves_inside s.args.task.grid (decide s) (value s) (node2 c.before.before.before.before) (child2 c.before.before.before.before) 0 0 s.args.at.leaves (memory s e.numbers e.places)
           (ready2 c.before.before.before.before e.standable) here.1,
-      s.requires.0.1,
     )
 
 enum_told-in-At : tie.Need-enum_told-in-At
@@ -256,7 +254,7 @@ overflow_add-place c =
     let k = known2 c.before.before.before in
     let s = start2 k in
     let here = known_start (plan s) s.args.at k.in-Point.is s.requires.1.standable in
-    omega (arith, here.1, cube_le 64 s.args.task.grid.inner s.requires.0.0.inner_most)
+    omega (arith, here.1, cube_le 64 s.args.task.grid.inner s.requires.0.inner_most)
 
 returns-in-End : tie.Need-returns-in-End
 returns-in-End c =

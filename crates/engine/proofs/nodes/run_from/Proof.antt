@@ -26,8 +26,8 @@ use Rattle.engine.proofs.nodes.run_from.Statement.{statement}
 use Rattle.engine.proofs.nodes.run_from.Tie as tie
 
 abbrev invariant-loop-done : tie.invariant-loop-done
-invariant-loop-done task words reals _ kinds₀ numbers₀ places₀ store₀ corners₀ nodes own _ at₀ _ kinds numbers places store corners used at =
-    let P = progresses.plan task words reals in
+invariant-loop-done task model _ kinds₀ numbers₀ places₀ store₀ corners₀ nodes own _ at₀ _ kinds numbers places store corners used at =
+    let P = progresses.plan task model in
     let m₀ = memory_of kinds₀ numbers₀ places₀ store₀ corners₀ in
     let m = memory_of kinds numbers places store corners in
     (nodes ≡ nodes_of task.grid)
@@ -39,7 +39,7 @@ invariant-loop-done task words reals _ kinds₀ numbers₀ places₀ store₀ co
     × (own ≡ P.corners) × (P.corners ≤ used) × (used ≤ length corners) × ZeroFrom used corners
 
 abbrev decreases-loop-done : tie.decreases-loop-done
-decreases-loop-done task words reals _ _ _ _ _ _ _ _ _ _ _ _ _ _ _ _ _ at = let P = progresses.plan task words reals in P.nodes - node_of P at.cursor
+decreases-loop-done task model _ _ _ _ _ _ _ _ _ _ _ _ _ _ _ _ _ at = let P = progresses.plan task model in P.nodes - node_of P at.cursor
 
 -- ---- where a turn begins, and where its evaluations have come to
 
@@ -47,7 +47,7 @@ abbrev start : tie.At-loop-done invariant-loop-done decreases-loop-done → tie.
 start l = l.before.before.before.before.before.before.before.before.before.before
 
 abbrev plan : tie.At-loop-done invariant-loop-done decreases-loop-done → Plan
-plan l = let a = (start l).args in progresses.plan a.task a.words.now a.reals.now
+plan l = let a = (start l).args in progresses.plan a.task a.model.now
 
 abbrev memory : tie.At-loop-done invariant-loop-done decreases-loop-done → Memory
 memory l = memory_of l.loop-done.kinds l.loop-done.numbers l.loop-done.places l.loop-done.store l.loop-done.corners
@@ -136,7 +136,7 @@ through z =
 
 node_total-nodes-requires : tie.Need-node_total-nodes-requires invariant-loop-done decreases-loop-done
 node_total-nodes-requires c κs =
-    omega (arith, nodes_few c.args.task.grid c.requires.0.0)
+    omega (arith, nodes_few c.args.task.grid c.requires.0)
 
 overflow_cast-task : tie.Need-overflow_cast-task invariant-loop-done decreases-loop-done
 overflow_cast-task c = search rules
@@ -146,7 +146,7 @@ overflow_add-task c = search rules
 
 cube_of-own-requires : tie.Need-cube_of-own-requires invariant-loop-done decreases-loop-done
 cube_of-own-requires c κs =
-    omega (arith, c.requires.0.0.inner_most)
+    omega (arith, c.requires.0.inner_most)
 
 loop-done-init : tie.Need-loop-done-init invariant-loop-done decreases-loop-done
 unfolding plan_with
@@ -169,7 +169,7 @@ loop-done-init c =
 evaluate_from-turn-requires : tie.Need-evaluate_from-turn-requires invariant-loop-done decreases-loop-done
 evaluate_from-turn-requires c κs =
     let s = start c.before.before.before in
-    ((s.requires.0.0, s.requires.0.1), record { numbers = c.loop-done.numbers; places = c.loop-done.places; standable = ready c.before.before.before })
+    (s.requires.0, record { numbers = c.loop-done.numbers; places = c.loop-done.places; standable = ready c.before.before.before })
 
 enum_known-turn : tie.Need-enum_known-turn invariant-loop-done decreases-loop-done
 enum_known-turn c = search rules
@@ -202,7 +202,7 @@ unfolding plan_with
 run_children-done-requires c κs =
     let s = start (looped (turned c.before.before.before.before.before)) in
     let now = begun c.before.before.before.before.before in (
-      (s.requires.0.0, now.boxed, now.place, s.requires.0.1),
+      (s.requires.0, now.boxed, now.place),
       record { lent = now.advanced.lent; node = now.inside; at_most = now.advanced.at_most },
     )
 
@@ -248,7 +248,7 @@ unfolding plan_with
 overflow_add-node c =
     let k = came (ran (ended c.before.before.before)) in
     let s = start (looped (turned k)) in
-    omega (arith, (begun k).inside, nodes_few s.args.task.grid s.requires.0.0)
+    omega (arith, (begun k).inside, nodes_few s.args.task.grid s.requires.0)
 
 shape_of-kinds-then-node-nodes : tie.Need-shape_of-kinds-then-node-nodes invariant-loop-done decreases-loop-done
 shape_of-kinds-then-node-nodes c = (kept (ended c.before.before.before.before)).0
