@@ -23,9 +23,8 @@ pub fn corners(fields: &[u64; 160], answers: &mut [u64; 160]) -> usize
     let n = numbers::counts_at(fields, 4);
     let c = numbers::counts_at(fields, 7);
     let found = dense_field::cell_corners(origin, cell, n, c);
-    answers[0] = numbers::cause(found.refused);
-    let points = found.points;
-    put_points(answers, points);
+    answers[0] = numbers::outcome(found);
+    put_points(answers, found.unwrap_or([Vec3::new(0.0, 0.0, 0.0); 8]));
     25
 }
 
@@ -38,8 +37,7 @@ pub fn octet(fields: &[u64; 160], values: &mut [f64], answers: &mut [u64; 160]) 
     let c = numbers::counts_at(fields, 3);
     numbers::values_at(fields, 6, values);
     let found = dense_field::cell_values(n, values, c);
-    answers[0] = numbers::cause(found.refused);
-    let eight = found.values;
-    numbers::put_eight(answers, 1, eight);
+    answers[0] = numbers::outcome(found);
+    numbers::put_eight(answers, 1, found.unwrap_or([0.0; 8]));
     9
 }

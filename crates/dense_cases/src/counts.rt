@@ -2,7 +2,6 @@
 ghost use Rattle.std.specs.Prelude.{◌<◌, ◌≤◌};
 
 use crate::numbers;
-use dense_field::PointCount;
 
 // `count`: bounds and a cell's size; the counts along the axes.
 pub fn count(fields: &[u64; 160], answers: &mut [u64; 160]) -> usize
@@ -11,13 +10,13 @@ pub fn count(fields: &[u64; 160], answers: &mut [u64; 160]) -> usize
     let bounds = cases::box_at(fields, 0);
     let cell = cases::float_at(fields, 6);
     match dense_field::point_count(bounds, cell) {
-        PointCount::Points(n) => {
+        Ok(n) => {
             answers[0] = 0;
             numbers::put_counts(answers, 1, n);
             4
         }
-        PointCount::Refused(n) => {
-            answers[0] = numbers::cause(n);
+        Err(cause) => {
+            answers[0] = numbers::cause(cause.number());
             1
         }
     }

@@ -1,7 +1,7 @@
 // What the numbers of a case stand for, and the numbers of an answer.
 ghost use Rattle.std.specs.Prelude.{◌+◌, ◌<◌, ◌≤◌, length};
 
-use dense_field::Applied;
+use causes::Cause;
 use geometry::{Vec3, Vec3i};
 
 // Room for values.
@@ -103,15 +103,20 @@ pub fn put_eight(answers: &mut [u64; 160], at: usize, values: [f64; 8])
 }
 
 // The number that an outcome stands for.
-pub fn outcome(done: Applied) -> u64 {
+pub fn outcome<T: Copy>(done: Result<T, Cause>) -> u64 {
     match done {
-        Applied::Done => 0,
-        Applied::Refused(n) => cause(n),
+        Ok(_) => 0,
+        Err(refused) => cause(refused.number()),
     }
 }
 
 // Puts the number of an outcome, and so many values after it.
-pub fn put_outcome(done: Applied, values: &[f64], len: usize, answers: &mut [u64; 160]) -> usize
+pub fn put_outcome(
+    done: Result<(), Cause>,
+    values: &[f64],
+    len: usize,
+    answers: &mut [u64; 160],
+) -> usize
     requires { len ≤ 150 }
     ensures { (0 < result) × (result ≤ 160) }
 {

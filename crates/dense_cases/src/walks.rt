@@ -3,14 +3,14 @@
 ghost use Rattle.std.specs.Prelude.{◌<◌, ◌≤◌, length};
 
 use crate::numbers;
-use dense_field::{CellStep, OctetStep, PointStep};
+use causes::Cause;
 use geometry::Vec3i;
 
 // A refusal alone.
-fn refused(answers: &mut [u64; 160], cause: u32) -> usize
-    ensures { (0 < result) × (result ≤ 160) }
+fn refused(answers: &mut [u64; 160], cause: Cause) -> usize
+    ensures { (0 < result) × (result ≤ 5) }
 {
-    answers[0] = numbers::cause(cause);
+    answers[0] = numbers::cause(cause.number());
     1
 }
 
@@ -29,16 +29,16 @@ pub fn points(fields: &[u64; 160], answers: &mut [u64; 160]) -> usize
     let n = numbers::counts_at(fields, 6);
     let cursor = numbers::counts_at(fields, 9);
     match dense_field::point_step(bounds, n, cursor) {
-        PointStep::Point(p, next) => {
-            stepped(answers, 1, next);
-            numbers::put_point(answers, 5, p);
+        Ok(Some(step)) => {
+            stepped(answers, 1, step.next);
+            numbers::put_point(answers, 5, step.found);
             8
         }
-        PointStep::Done(last) => {
-            stepped(answers, 0, last);
+        Ok(None) => {
+            stepped(answers, 0, cursor);
             5
         }
-        PointStep::Refused(cause) => refused(answers, cause),
+        Err(cause) => refused(answers, cause),
     }
 }
 
@@ -50,37 +50,17 @@ pub fn cells(fields: &[u64; 160], answers: &mut [u64; 160]) -> usize
     let n = numbers::counts_at(fields, 6);
     let cursor = numbers::counts_at(fields, 9);
     match dense_field::cell_step(bounds, n, cursor) {
-        CellStep::Cell(found, next) => {
-            stepped(answers, 1, next);
-            numbers::put_point(answers, 5, found.min);
-            numbers::put_point(answers, 8, found.max);
+        Ok(Some(step)) => {
+            stepped(answers, 1, step.next);
+            numbers::put_point(answers, 5, step.found.min);
+            numbers::put_point(answers, 8, step.found.max);
             11
         }
-        CellStep::Done(last) => {
-            stepped(answers, 0, last);
+        Ok(None) => {
+            stepped(answers, 0, cursor);
             5
         }
-        CellStep::Refused(cause) => refused(answers, cause),
-    }
-}
-
-// The step's numbers, which the values follow.
-fn put_step(answers: &mut [u64; 160], step: OctetStep) -> usize
-    ensures { (0 < result) × (result ≤ 5) }
-{
-    match step {
-        OctetStep::Cell(next) => {
-            stepped(answers, 1, next);
-            5
-        }
-        OctetStep::Done(last) => {
-            stepped(answers, 0, last);
-            5
-        }
-        OctetStep::Refused(cause) => {
-            answers[0] = numbers::cause(cause);
-            1
-        }
+        Err(cause) => refused(answers, cause),
     }
 }
 
@@ -92,10 +72,18 @@ pub fn octets(fields: &[u64; 160], values: &mut [f64], answers: &mut [u64; 160])
     let n = numbers::counts_at(fields, 0);
     let cursor = numbers::counts_at(fields, 3);
     numbers::values_at(fields, 6, values);
-    let found = dense_field::walk_octet(values, n, cursor);
-    let step = found.step;
-    let eight = found.values;
-    let at = put_step(answers, step);
+    let (at, eight) = match dense_field::walk_octet(values, n, cursor) {
+        Ok(Some(step)) => {
+            stepped(answers, 1, step.next);
+            let eight = step.found;
+            (5, eight)
+        }
+        Ok(None) => {
+            stepped(answers, 0, cursor);
+            (5, [0.0; 8])
+        }
+        Err(cause) => (refused(answers, cause), [0.0; 8]),
+    };
     numbers::put_eight(answers, at, eight);
     at + 8
 }

@@ -1,23 +1,12 @@
 -- Values that cause 9 does not refuse.
-use Rattle.std.proofs.Common.{◌≡◌, ℕ, ◌+◌, ◌*◌, ◌<◌, ◌≤◌, false, ◌∙◌, mul-le-mul_right, le-mul_of_pos_right, arith, eqb-true}
-use borrow.Author.Tests.{not-false}
-use Rattle.lists.proofs.Tests.{or_left, or_right}
+use Rattle.std.proofs.Common.{◌≡◌, ℕ, ◌+◌, ◌*◌, ◌<◌, ◌≤◌, ◌∙◌, mul-le-mul_right, le-mul_of_pos_right, arith}
 use Rattle.geometry.specs.declared.Vec3i.{Vec3i}
-use Rattle.geometry.specs.Index.{dimensions_refused}
-use Rattle.geometry.proofs.Grid.{accepted}
-use Rattle.dense_field.specs.Field.{values_refused, points_of}
+use Rattle.dense_field.specs.Field.{points_of}
 use Rattle.dense_field.specs.Inner.Lent.{Lent}
 
 -- the same field with other values of its length
 pub as_long : {n : Vec3i} {a b : ℕ} → Lent n a → b ≡ a → Lent n b
 as_long s e = record { x_above = s.x_above; y_above = s.y_above; z_above = s.z_above; few = s.few; long = e ∙ s.long }
-
-pub lent : (n : Vec3i) (len : ℕ) → values_refused n len ≡ false → Lent n len
-unfolding values_refused
-lent n len passed =
-    let g = accepted n.i n.j n.k (or_left _ _ passed) in
-    let exact = eqb-true _ _ (not-false _ (or_right (dimensions_refused n.i n.j n.k) _ passed)) in
-    record { x_above = g.x_above; y_above = g.y_above; z_above = g.z_above; few = g.few; long = exact }
 
 -- a row and a slab stand in the field
 pub record Within (n : Vec3i) (j k len : ℕ) : Type 0 where

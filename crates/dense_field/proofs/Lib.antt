@@ -1,5 +1,4 @@
 pub mod WalkLaws
-pub mod StandLaws
 pub mod CountLaws
 pub mod Lending
 pub mod Edges

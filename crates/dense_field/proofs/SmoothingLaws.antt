@@ -1,5 +1,5 @@
 -- One round of smoothing: which points stay, which are blended, and how rows and slabs make up the whole.
-use Rattle.std.proofs.Common.{◌≡◌, ℕ, zero, suc, ◌+◌, ◌-◌, ◌*◌, ◌<◌, ◌≤◌, Bool, true, false, ◌||◌, eqb, List, length, get_or, refl, ap, ◌∙◌, subst, add-zero, mul_assoc, suc-mul, mul_comm, arith, ltb-false, eq-eqb}
+use Rattle.std.proofs.Common.{◌≡◌, ℕ, zero, suc, ◌+◌, ◌-◌, ◌*◌, ◌<◌, ◌≤◌, Bool, true, false, ◌||◌, eqb, List, length, get_or, refl, ap, ◌∙◌, subst, add-zero, mul_assoc, suc-mul, mul_comm, arith, eq-eqb}
 use mathlib.Core.Bool.{or-true}
 use lib.Ieee.{Float, nan, binary64, add, sub, mul, div, of_bits, of_int}
 use Rattle.lists.specs.Filled.{filled}
@@ -12,12 +12,11 @@ use Rattle.geometry.specs.declared.Vec3i.{Vec3i}
 use Rattle.geometry.specs.Values.{vec3i}
 use Rattle.geometry.specs.Index.{place_of}
 use Rattle.geometry.specs.Axis.{as_float}
-use Rattle.dense_field.specs.Field.{values_refused, points_of, scratch_needed, on_edge, outside}
-use Rattle.dense_field.specs.Inner.Lent.{Lent, Between}
+use Rattle.dense_field.specs.Field.{points_of, on_edge, outside}
+use Rattle.dense_field.specs.Inner.Lent.{Between}
 use Rattle.dense_field.specs.Inner.Offsets.{offset_sum, offset_blend}
-use Rattle.dense_field.specs.Smoothing.{smooth_refused, neighbour_sum, value_of, blended, blended_at, smoothed_at, smoothed_once, smoothed}
+use Rattle.dense_field.specs.Smoothing.{neighbour_sum, value_of, blended, blended_at, smoothed_at, smoothed_once, smoothed}
 use Rattle.dense_field.proofs.Edges.{edge_first, edge_last, edge_none, row_from, point_at, point_of_row, out_i, out_j, not_out, outer_slab}
-use Rattle.dense_field.proofs.Lending.{lent}
 
 -- what is read past the end does not count where the six neighbours stand in the list
 pub neighbours_read : (n : Vec3i) (vs : List Float) (p : ℕ) → Between n p 1 (length vs) (length vs)
@@ -217,16 +216,3 @@ module _ (n : Vec3i) (f : Float) (vs : List Float) where
   pub round_more : {r t : ℕ} {x y : List Float} → x ≡ smoothed n f r vs → y ≡ smoothed_once n f x → suc r ≡ t → y ≡ smoothed n f t vs
   unfolding smoothed
   round_more so_far once next = once ∙ ap (smoothed_once n f) so_far ∙ ap (λ (m : ℕ). smoothed n f m vs) next
-
--- what holds where cause 9 does not apply
-module _ (n : Vec3i) (len scratch : ℕ) (passed : smooth_refused n len scratch ≡ false) where
-  values_passed : values_refused n len ≡ false
-  unfolding smooth_refused
-  values_passed = or_left _ _ passed
-
-  pub values_lent : Lent n len
-  values_lent = lent n len values_passed
-
-  pub scratch_long : len ≤ scratch
-  unfolding smooth_refused scratch_needed
-  scratch_long = omega (arith, values_lent.long, ltb-false scratch (points_of n) (or_right (values_refused n len) _ passed))

@@ -1,35 +1,24 @@
 -- Walks: what holds where cause 11 does not apply, and that a walk from its start visits every point, or cell, once,
 -- in order, and then is done. So does the octet walker.
-use Rattle.std.proofs.Common.{◌≡◌, ℕ, zero, suc, ◌+◌, ◌-◌, ◌*◌, ◌<◌, ◌≤◌, Bool, true, false, cond, not, ◌||◌, eqb, ltb, leb, List, length, sym, refl, ap, ◌∙◌, mul-le-mul_right, mul_assoc, mul_comm, mul-pos, add-one, arith, ltb-false, ltb-true, le-ltb, lt-ltb, ne_eqb, le-leb}
+use Rattle.std.proofs.Common.{◌≡◌, ℕ, zero, suc, ◌+◌, ◌-◌, ◌*◌, ◌<◌, ◌≤◌, Bool, true, false, cond, not, ◌||◌, eqb, ltb, List, length, Option, Some, None, Result, Ok, Err, sym, refl, ap, ◌∙◌, mul-le-mul_right, mul_assoc, mul_comm, mul-pos, add-one, arith, ltb-false, ltb-true, le-ltb, lt-ltb, ne_eqb}
 use lib.Ieee.{Float}
-use borrow.Author.Tests.{lt-leb, eqb-false, not-false}
+use borrow.Author.Tests.{eqb-false, not-false}
 use Rattle.lists.proofs.Tests.{or_left, or_right}
 use Rattle.geometry.specs.declared.Vec3i.{Vec3i}
 use Rattle.geometry.specs.declared.BoundingBox.{BoundingBox}
 use Rattle.geometry.specs.Values.{vec3i}
-use Rattle.geometry.specs.Causes.{first_of}
+use Rattle.causes.specs.declared.Cause.{Cause}
+use Rattle.causes.specs.declared.Cause.TheVariants.{Outside}
+use Rattle.causes.specs.First.{first_of}
 use Rattle.geometry.specs.Bounds.{box_refused}
 use Rattle.geometry.specs.Index.{place_of, indices_of, next_indices}
 use Rattle.geometry.proofs.Inverse.{indices_of_place, place_of_indices, column_below, line_below, slab_below}
 use Rattle.geometry.proofs.Next.{next_of}
-use Rattle.dense_field.specs.declared.PointStep.TheVariants as point
-use Rattle.dense_field.specs.declared.CellStep.TheVariants as cell
-use Rattle.dense_field.specs.declared.OctetStep.{OctetStep}
-use Rattle.dense_field.specs.declared.OctetStep.TheVariants as octet
+use Rattle.dense_field.specs.declared.Step.{Step}
 use Rattle.dense_field.specs.Field.{points_of, values_refused}
-use Rattle.dense_field.specs.Walks.{count_refused, walk_refused, walk_point, walk_cell, point_step, cell_step, no_cells, octet_step}
+use Rattle.dense_field.specs.Walks.{count_refused, walk_refused, walk_point, walk_cell, step_to, step_by, next_place, point_step, cell_step, no_cells, next_cell, octet_step}
 use Rattle.dense_field.specs.Octets.{octet_of}
-use Rattle.dense_field.specs.Cells.{no_values, step_values, octet_walk_of}
-use Rattle.dense_field.specs.Walker.{after_step}
-use Rattle.dense_field.specs.Traces.{point_after, point_trace, cell_after, cell_trace, octet_cell, octet_trace}
-
--- the test of the code and that of the definition
-pub leb_not_ltb : (a b : ℕ) → leb b a ≡ not (ltb a b)
-leb_not_ltb a b = one (ltb a b) refl
-  where
-    one : (t : Bool) → ltb a b ≡ t → leb b a ≡ not (ltb a b)
-    one true e = lt-leb b a (ltb-true a b e) ∙ rw e refl
-    one false e = le-leb b a (ltb-false a b e) ∙ rw e refl
+use Rattle.dense_field.specs.Traces.{after_step, cursor_after, trace, point_trace, cell_trace, octet_cell, octet_trace}
 
 -- counts and a cursor that cause 11 does not refuse
 pub record Walk (least : ℕ) (n c : Vec3i) : Type 0 where
@@ -82,33 +71,34 @@ module _ (n : Vec3i) where
       omega (arith, mul_assoc n.k n.i n.j, mul_comm n.k (n.i * n.j)) in
       ap (λ (p : ℕ). indices_of p n.i n.j) all ∙ indices_of_place n.i n.j 0 0 n.k x_above y_above
 
-  -- a walk of any kind: S are its answers, `visit p` the one at place p
-  module _ {S : Type 0} (step : Vec3i → S) (after : S → S) (visit : ℕ → S) (done : S) (trace : ℕ → S)
-      (x_above : 0 < n.i) (y_above : 0 < n.j) (z_above : 0 < n.k)
-      (starts : trace 0 ≡ step (vec3i 0 0 0))
-      (goes_on : (p : ℕ) → trace (suc p) ≡ after (trace p))
-      (stands : (p : ℕ) → p < points_of n → step (indices_of p n.i n.j) ≡ visit p)
-      (hands_on : (p : ℕ) → after (visit p) ≡ step (indices_of (suc p) n.i n.j))
-      (ends : step (vec3i 0 0 n.k) ≡ done)
-      (stays : after done ≡ step (vec3i 0 0 n.k)) where
-    visits : (p : ℕ) → p < points_of n → trace p ≡ visit p
-    visits zero h = starts ∙ ap step (first_index x_above y_above) ∙ stands 0 h
-    visits (suc p) h = goes_on p ∙ ap after (visits p (omega arith)) ∙ hands_on p ∙ stands (suc p) h
+  -- a walk of any kind, which finds `found p` at place p
+  module _ {A : Type 0} (step : Vec3i → Result (Option (Step A)) Cause) (found : ℕ → A)
+      (x_above : 0 < n.i) (y_above : 0 < n.j)
+      (stands : (p : ℕ) → p < points_of n → step (indices_of p n.i n.j) ≡ Ok (Some (step_to (found p) (indices_of (suc p) n.i n.j))))
+      (ends : step (vec3i 0 0 n.k) ≡ Ok None) where
+    cursor_at : (p : ℕ) → p ≤ points_of n → cursor_after step p ≡ indices_of p n.i n.j
+    unfolding cursor_after after_step
+    cursor_at zero h = first_index x_above y_above
+    cursor_at (suc p) h =
+        ap (λ (c : Vec3i). after_step (step c) c) (cursor_at p (omega arith))
+        ∙ ap (λ (s : Result (Option (Step A)) Cause). after_step s (indices_of p n.i n.j)) (stands p (omega arith))
 
-    last_visit : (m : ℕ) → suc m ≡ points_of n → trace (suc m) ≡ done
-    last_visit m e =
-        goes_on m ∙ ap after (visits m (omega arith)) ∙ hands_on m
-        ∙ ap (λ (p : ℕ). step (indices_of p n.i n.j)) e ∙ ap step (end_index x_above y_above) ∙ ends
+    visits : (p : ℕ) → p < points_of n → trace step p ≡ Ok (Some (step_to (found p) (indices_of (suc p) n.i n.j)))
+    visits p h = ap step (cursor_at p (omega arith)) ∙ stands p h
 
-    is_done : (q : ℕ) → trace (points_of n + q) ≡ done
-    is_done zero =
-        let some : 0 < points_of n = mul-pos (mul-pos x_above y_above) z_above in
-        let last : suc (points_of n - 1) ≡ points_of n = omega arith in
-        let whole : points_of n + 0 ≡ suc (points_of n - 1) = omega arith in
-        ap trace whole ∙ last_visit (points_of n - 1) last
-    is_done (suc q) =
+    cursor_stays : (q : ℕ) → cursor_after step (points_of n + q) ≡ vec3i 0 0 n.k
+    unfolding cursor_after after_step
+    cursor_stays zero =
+        let all : points_of n + 0 ≡ points_of n = omega arith in
+        ap (cursor_after step) all ∙ cursor_at (points_of n) (omega arith) ∙ end_index x_above y_above
+    cursor_stays (suc q) =
         let next : points_of n + suc q ≡ suc (points_of n + q) = omega arith in
-        ap trace next ∙ goes_on (points_of n + q) ∙ ap after (is_done q) ∙ stays ∙ ends
+        ap (cursor_after step) next
+        ∙ ap (λ (c : Vec3i). after_step (step c) c) (cursor_stays q)
+        ∙ ap (λ (s : Result (Option (Step A)) Cause). after_step s (vec3i 0 0 n.k)) ends
+
+    is_done : (q : ℕ) → (trace step (points_of n + q) ≡ Ok None) × (cursor_after step (points_of n + q) ≡ vec3i 0 0 n.k)
+    is_done q = (ap step (cursor_stays q) ∙ ends, cursor_stays q)
 
 -- counts that cause 11 does not refuse
 pub record Counts (least : ℕ) (n : Vec3i) : Type 0 where
@@ -121,94 +111,64 @@ unfolding walk_refused
 walk_goes least n c s hi hj = simp (s.x_passed, s.y_passed, s.z_passed, lt-ltb _ _ hi, lt-ltb _ _ hj)
 
 module _ (b : BoundingBox) (n : Vec3i) (box_passed : box_refused b ≡ false) where
-  -- the point walk stands at each place below the product in order, and is done from there on
-  module _ (s : Counts 2 n) where
+  -- the walk stands at each place below the product in order, and is done from there on
+  module _ {A : Type 0} (least : ℕ) (some : 0 < least) (s : Counts least n) (found : Vec3i → A) where
     x_some : 0 < n.i
-    x_some = omega (arith, count_least 2 n.i s.x_passed)
+    x_some = omega (arith, count_least least n.i s.x_passed)
 
     y_some : 0 < n.j
-    y_some = omega (arith, count_least 2 n.j s.y_passed)
+    y_some = omega (arith, count_least least n.j s.y_passed)
 
-    z_some : 0 < n.k
-    z_some = omega (arith, count_least 2 n.k s.z_passed)
+    abbrev step_at : Vec3i → Result (Option (Step A)) Cause
+    step_at c = step_by (found c) (next_place least b n c)
 
-    point_at : (p : ℕ) → p < points_of n
-        → point_step b n (indices_of p n.i n.j) ≡ point.Point (walk_point b n (indices_of p n.i n.j)) (indices_of (suc p) n.i n.j)
-    unfolding first_of point_step
-    point_at p h =
+    next_at : (p : ℕ) → p < points_of n → next_place least b n (indices_of p n.i n.j) ≡ Ok (Some (indices_of (suc p) n.i n.j))
+    unfolding first_of next_place
+    next_at p h =
         let v = indices_of p n.i n.j in
         simp (
           box_passed,
-          walk_goes 2 n v s (column_below p n.i n.j x_some y_some)
+          walk_goes least n v s (column_below p n.i n.j x_some y_some)
               (line_below p n.i n.j x_some y_some),
           lt-ltb _ _ (slab_below p n.i n.j x_some y_some n.k h),
         )
-        (ap (point.Point (walk_point b n v)) (next_index n p x_some y_some))
+        (ap (λ (c : Vec3i). Ok (Some c)) (next_index n p x_some y_some))
 
-    point_end : point_step b n (vec3i 0 0 n.k) ≡ point.Done (vec3i 0 0 n.k)
-    unfolding first_of point_step
-    point_end = simp (box_passed, walk_goes 2 n (vec3i 0 0 n.k) s x_some y_some, le-ltb n.k n.k (omega arith))
+    none_next : next_place least b n (vec3i 0 0 n.k) ≡ Ok None
+    unfolding first_of next_place
+    none_next = simp (box_passed, walk_goes least n (vec3i 0 0 n.k) s x_some y_some, le-ltb n.k n.k (omega arith))
 
+    stands_at : (p : ℕ) → p < points_of n
+        → step_at (indices_of p n.i n.j) ≡ Ok (Some (step_to (found (indices_of p n.i n.j)) (indices_of (suc p) n.i n.j)))
+    stands_at p h = ap (step_by (found (indices_of p n.i n.j))) (next_at p h)
+
+    ends_at : step_at (vec3i 0 0 n.k) ≡ Ok None
+    ends_at = ap (step_by (found (vec3i 0 0 n.k))) none_next
+
+    place_walk : (p : ℕ) → p < points_of n
+        → trace step_at p ≡ Ok (Some (step_to (found (indices_of p n.i n.j)) (indices_of (suc p) n.i n.j)))
+    place_walk = visits n step_at (λ p. found (indices_of p n.i n.j)) x_some y_some stands_at ends_at
+
+    place_walk_done : (q : ℕ) → (trace step_at (points_of n + q) ≡ Ok None) × (cursor_after step_at (points_of n + q) ≡ vec3i 0 0 n.k)
+    place_walk_done = is_done n step_at (λ p. found (indices_of p n.i n.j)) x_some y_some stands_at ends_at
+
+  -- the walk over points
+  module _ (s : Counts 2 n) where
     pub point_walk : (p : ℕ) → p < points_of n
-        → point_trace b n p ≡ point.Point (walk_point b n (indices_of p n.i n.j)) (indices_of (suc p) n.i n.j)
-    unfolding point_trace point_after
-    point_walk =
-        visits n (point_step b n) (point_after b n)
-        (λ p. point.Point (walk_point b n (indices_of p n.i n.j)) (indices_of (suc p) n.i n.j))
-        (point.Done (vec3i 0 0 n.k))
-        (point_trace b n) x_some y_some z_some refl (λ p. refl) point_at (λ p. refl) point_end refl
+        → point_trace b n p ≡ Ok (Some (step_to (walk_point b n (indices_of p n.i n.j)) (indices_of (suc p) n.i n.j)))
+    point_walk = place_walk 2 (omega arith) s (walk_point b n)
 
-    pub point_walk_done : (q : ℕ) → point_trace b n (points_of n + q) ≡ point.Done (vec3i 0 0 n.k)
-    unfolding point_trace point_after
-    point_walk_done =
-        is_done n (point_step b n) (point_after b n)
-        (λ p. point.Point (walk_point b n (indices_of p n.i n.j)) (indices_of (suc p) n.i n.j))
-        (point.Done (vec3i 0 0 n.k))
-        (point_trace b n) x_some y_some z_some refl (λ p. refl) point_at (λ p. refl) point_end refl
+    pub point_walk_done : (q : ℕ) → (point_trace b n (points_of n + q) ≡ Ok None) × (cursor_after (point_step b n) (points_of n + q) ≡ vec3i 0 0 n.k)
+    point_walk_done = place_walk_done 2 (omega arith) s (walk_point b n)
 
-  -- and so does the cell walk
+  -- and the walk over cells
   module _ (s : Counts 1 n) where
-    x_one : 0 < n.i
-    x_one = omega (arith, count_least 1 n.i s.x_passed)
-
-    y_one : 0 < n.j
-    y_one = omega (arith, count_least 1 n.j s.y_passed)
-
-    z_one : 0 < n.k
-    z_one = omega (arith, count_least 1 n.k s.z_passed)
-
-    cell_at : (p : ℕ) → p < points_of n
-        → cell_step b n (indices_of p n.i n.j) ≡ cell.Cell (walk_cell b n (indices_of p n.i n.j)) (indices_of (suc p) n.i n.j)
-    unfolding first_of cell_step
-    cell_at p h =
-        let v = indices_of p n.i n.j in
-        simp (
-          box_passed,
-          walk_goes 1 n v s (column_below p n.i n.j x_one y_one) (line_below p n.i n.j x_one y_one),
-          lt-ltb _ _ (slab_below p n.i n.j x_one y_one n.k h),
-        )
-        (ap (cell.Cell (walk_cell b n v)) (next_index n p x_one y_one))
-
-    cell_end : cell_step b n (vec3i 0 0 n.k) ≡ cell.Done (vec3i 0 0 n.k)
-    unfolding first_of cell_step
-    cell_end = simp (box_passed, walk_goes 1 n (vec3i 0 0 n.k) s x_one y_one, le-ltb n.k n.k (omega arith))
-
     pub cell_walk : (p : ℕ) → p < points_of n
-        → cell_trace b n p ≡ cell.Cell (walk_cell b n (indices_of p n.i n.j)) (indices_of (suc p) n.i n.j)
-    unfolding cell_trace cell_after
-    cell_walk =
-        visits n (cell_step b n) (cell_after b n)
-        (λ p. cell.Cell (walk_cell b n (indices_of p n.i n.j)) (indices_of (suc p) n.i n.j))
-        (cell.Done (vec3i 0 0 n.k))
-        (cell_trace b n) x_one y_one z_one refl (λ p. refl) cell_at (λ p. refl) cell_end refl
+        → cell_trace b n p ≡ Ok (Some (step_to (walk_cell b n (indices_of p n.i n.j)) (indices_of (suc p) n.i n.j)))
+    cell_walk = place_walk 1 (omega arith) s (walk_cell b n)
 
-    pub cell_walk_done : (q : ℕ) → cell_trace b n (points_of n + q) ≡ cell.Done (vec3i 0 0 n.k)
-    unfolding cell_trace cell_after
-    cell_walk_done =
-        is_done n (cell_step b n) (cell_after b n)
-        (λ p. cell.Cell (walk_cell b n (indices_of p n.i n.j)) (indices_of (suc p) n.i n.j))
-        (cell.Done (vec3i 0 0 n.k))
-        (cell_trace b n) x_one y_one z_one refl (λ p. refl) cell_at (λ p. refl) cell_end refl
+    pub cell_walk_done : (q : ℕ) → (cell_trace b n (points_of n + q) ≡ Ok None) × (cursor_after (cell_step b n) (points_of n + q) ≡ vec3i 0 0 n.k)
+    cell_walk_done = place_walk_done 1 (omega arith) s (walk_cell b n)
 
 -- the octet walker stands at each of a field's cells in order, finds its octet there, and is done from there on
 module _ (n : Vec3i) (vs : List Float) (passed : values_refused n (length vs) ≡ false) (x_more : 1 < n.i) (y_more : 1 < n.j) (z_more : 1 < n.k) where
@@ -224,12 +184,10 @@ module _ (n : Vec3i) (vs : List Float) (passed : values_refused n (length vs) �
   y_cell : 0 < cells.j
   y_cell = omega arith
 
-  z_cell : 0 < cells.k
-  z_cell = omega arith
-
-  octet_at : (p : ℕ) → p < points_of cells → octet_step n (length vs) (cell_index p) ≡ octet.Cell (cell_index (suc p))
-  unfolding octet_step no_cells
-  octet_at p h =
+  cell_next : (p : ℕ) → p < points_of cells → next_cell n (length vs) (cell_index p) ≡ Ok (Some (cell_index (suc p)))
+  unfolding next_cell no_cells
+  cell_next p h =
+      let z : 0 < cells.k = omega arith in
       simp (
         passed,
         ne_eqb cells.i 0 (λ e. omega arith),
@@ -239,11 +197,11 @@ module _ (n : Vec3i) (vs : List Float) (passed : values_refused n (length vs) �
         lt-ltb _ _ (line_below p cells.i cells.j x_cell y_cell),
         lt-ltb _ _ (slab_below p cells.i cells.j x_cell y_cell cells.k h),
       )
-      (ap octet.Cell (next_index cells p x_cell y_cell))
+      (ap (λ (c : Vec3i). Ok (Some c)) (next_index cells p x_cell y_cell))
 
-  octet_end : octet_step n (length vs) (vec3i 0 0 cells.k) ≡ octet.Done (vec3i 0 0 cells.k)
-  unfolding octet_step no_cells
-  octet_end =
+  none_after : next_cell n (length vs) (vec3i 0 0 cells.k) ≡ Ok None
+  unfolding next_cell no_cells
+  none_after =
       simp (
         passed,
         ne_eqb cells.i 0 (λ e. omega arith),
@@ -252,50 +210,19 @@ module _ (n : Vec3i) (vs : List Float) (passed : values_refused n (length vs) �
         le-ltb cells.k cells.k (omega arith),
       )
 
-  -- the step of the walker at the cell p, and the step after a given one
-  abbrev step_at : ℕ → OctetStep
-  step_at p = octet_step n (length vs) (octet_cell n vs p)
+  octet_at : (p : ℕ) → p < points_of cells
+      → octet_step n vs (cell_index p) ≡ Ok (Some (step_to (octet_of n vs (cell_index p)) (cell_index (suc p))))
+  octet_at p h = ap (step_by (octet_of n vs (cell_index p))) (cell_next p h)
 
-  abbrev after : OctetStep → OctetStep
-  after (octet.Cell next) = octet_step n (length vs) next
-  after (octet.Done c) = octet_step n (length vs) c
-  after (octet.Refused number) = octet.Refused number
+  octet_end : octet_step n vs (vec3i 0 0 cells.k) ≡ Ok None
+  octet_end = ap (step_by (octet_of n vs (vec3i 0 0 cells.k))) none_after
 
-  goes_on : (p : ℕ) → step_at (suc p) ≡ after (step_at p)
-  unfolding octet_cell octet_walk_of after_step
-  goes_on p = one (step_at p) refl
-    where
-      one : (s : OctetStep) → step_at p ≡ s → octet_step n (length vs) (after_step s (octet_cell n vs p)) ≡ after s
-      one (octet.Cell next) e = refl
-      one (octet.Done c) e = refl
-      one (octet.Refused number) e = e
+  pub octet_walk : (p : ℕ) → p < points_of cells
+      → octet_trace n vs p ≡ Ok (Some (step_to (octet_of n vs (cell_index p)) (cell_index (suc p))))
+  octet_walk = visits cells (octet_step n vs) (λ p. octet_of n vs (cell_index p)) x_cell y_cell octet_at octet_end
 
-  starts : step_at 0 ≡ octet_step n (length vs) (vec3i 0 0 0)
-  unfolding octet_cell
-  starts = refl
-
-  octet_steps : (p : ℕ) → p < points_of cells → step_at p ≡ octet.Cell (cell_index (suc p))
-  octet_steps =
-      visits cells (octet_step n (length vs)) after (λ p. octet.Cell (cell_index (suc p))) (octet.Done (vec3i 0 0 cells.k))
-      step_at x_cell y_cell z_cell starts goes_on octet_at (λ p. refl) octet_end refl
-
-  octet_stops : (q : ℕ) → step_at (points_of cells + q) ≡ octet.Done (vec3i 0 0 cells.k)
-  octet_stops =
-      is_done cells (octet_step n (length vs)) after (λ p. octet.Cell (cell_index (suc p))) (octet.Done (vec3i 0 0 cells.k))
-      step_at x_cell y_cell z_cell starts goes_on octet_at (λ p. refl) octet_end refl
-
-  cell_visited : (p : ℕ) → p < points_of cells → octet_cell n vs p ≡ cell_index p
-  unfolding octet_cell octet_walk_of after_step
-  cell_visited zero h = first_index cells x_cell y_cell
-  cell_visited (suc p) h = ap (λ (s : OctetStep). after_step s (octet_cell n vs p)) (octet_steps p (omega arith))
-
-  pub octet_walk : (p : ℕ) → p < points_of cells → octet_trace n vs p ≡ record { step = octet.Cell (cell_index (suc p)); values = octet_of n vs (cell_index p) }
-  unfolding octet_trace octet_walk_of step_values
-  octet_walk p h = λ i. record { step = octet_steps p h i; values = step_values (octet_steps p h i) (octet_of n vs (cell_visited p h i)) }
-
-  pub octet_walk_done : (q : ℕ) → octet_trace n vs (points_of cells + q) ≡ record { step = octet.Done (vec3i 0 0 cells.k); values = no_values }
-  unfolding octet_trace octet_walk_of step_values
-  octet_walk_done q = λ i. record { step = octet_stops q i; values = step_values (octet_stops q i) (octet_of n vs (octet_cell n vs (points_of cells + q))) }
+  pub octet_walk_done : (q : ℕ) → (octet_trace n vs (points_of cells + q) ≡ Ok None) × (octet_cell n vs (points_of cells + q) ≡ vec3i 0 0 cells.k)
+  octet_walk_done = is_done cells (octet_step n vs) (λ p. octet_of n vs (cell_index p)) x_cell y_cell octet_at octet_end
 
 above : (m : ℕ) → (m ≡ 0 → ⊥) → 0 < m
 above zero h = absurd (h refl)
@@ -303,15 +230,15 @@ above (suc m) h = omega arith
 
 -- where one axis has one point there is no cell, and the walk is done at once (rule W7)
 module _ (n : Vec3i) (vs : List Float) (passed : values_refused n (length vs) ≡ false) (no_cell : points_of (vec3i (n.i - 1) (n.j - 1) (n.k - 1)) ≡ 0) where
-  done_at_once : octet_step n (length vs) (vec3i 0 0 0) ≡ octet.Done (vec3i 0 0 0)
-  unfolding octet_step no_cells
-  done_at_once = simp (passed) (one (eqb (n.i - 1) 0) (eqb (n.j - 1) 0) (eqb (n.k - 1) 0) refl refl refl)
+  no_next : next_cell n (length vs) (vec3i 0 0 0) ≡ Ok None
+  unfolding next_cell no_cells
+  no_next = simp (passed) (one (eqb (n.i - 1) 0) (eqb (n.j - 1) 0) (eqb (n.k - 1) 0) refl refl refl)
     where
       one : (x y z : Bool) → eqb (n.i - 1) 0 ≡ x → eqb (n.j - 1) 0 ≡ y → eqb (n.k - 1) 0 ≡ z
-          → cond (x || y || z || not (ltb 0 (n.k - 1))) (octet.Done (vec3i 0 0 0))
-          (cond (not (ltb 0 (n.i - 1)) || not (ltb 0 (n.j - 1))) (octet.Refused 10)
-          (octet.Cell (next_indices (vec3i 0 0 0) (n.i - 1) (n.j - 1))))
-          ≡ octet.Done (vec3i 0 0 0)
+          → cond (x || y || z || not (ltb 0 (n.k - 1))) (Ok None)
+          (cond (not (ltb 0 (n.i - 1)) || not (ltb 0 (n.j - 1))) (Err Outside)
+          (Ok (Some (next_indices (vec3i 0 0 0) (n.i - 1) (n.j - 1)))))
+          ≡ Ok None
       one true y z ex ey ez = refl
       one false true z ex ey ez = refl
       one false false true ex ey ez = refl
@@ -322,16 +249,18 @@ module _ (n : Vec3i) (vs : List Float) (passed : values_refused n (length vs) �
           let some : 0 < points_of (vec3i (n.i - 1) (n.j - 1) (n.k - 1)) = mul-pos (mul-pos x_above y_above) z_above in
           absurd (omega arith)
 
-  stays_first : (p : ℕ) → octet_cell n vs p ≡ vec3i 0 0 0
-  unfolding octet_cell octet_walk_of after_step
-  stays_first zero = refl
-  stays_first (suc p) = ap (λ (s : OctetStep). after_step s (octet_cell n vs p)) (ap (octet_step n (length vs)) (stays_first p) ∙ done_at_once)
+  done_at_once : octet_step n vs (vec3i 0 0 0) ≡ Ok None
+  done_at_once = ap (step_by (octet_of n vs (vec3i 0 0 0))) no_next
 
-  pub octet_walk_none : (p : ℕ) → octet_trace n vs p ≡ record { step = octet.Done (vec3i 0 0 0); values = no_values }
-  unfolding octet_trace octet_walk_of step_values
-  octet_walk_none p =
-      let at : octet_step n (length vs) (octet_cell n vs p) ≡ octet.Done (vec3i 0 0 0) = ap (octet_step n (length vs)) (stays_first p) ∙ done_at_once in
-      λ i. record { step = at i; values = step_values (at i) (octet_of n vs (octet_cell n vs p)) }
+  stays_first : (p : ℕ) → octet_cell n vs p ≡ vec3i 0 0 0
+  unfolding cursor_after after_step
+  stays_first zero = refl
+  stays_first (suc p) =
+      ap (λ (c : Vec3i). after_step (octet_step n vs c) c) (stays_first p)
+      ∙ ap (λ (s : Result (Option (Step (List Float))) Cause). after_step s (vec3i 0 0 0)) done_at_once
+
+  pub octet_walk_none : (p : ℕ) → (octet_trace n vs p ≡ Ok None) × (octet_cell n vs p ≡ vec3i 0 0 0)
+  octet_walk_none p = (ap (octet_step n vs) (stays_first p) ∙ done_at_once, stays_first p)
 
 -- no two places have the same indices, and each point of the grid has a place below the product
 pub visited_once : (n : Vec3i) (p q : ℕ) → indices_of p n.i n.j ≡ indices_of q n.i n.j → p ≡ q

@@ -2,4 +2,3 @@
 pub mod Lent
 pub mod Runs
 pub mod Offsets
-pub mod Stands

@@ -1,42 +1,41 @@
--- A walk from its start: the answers of repeated steps, each from the cursor that the one before it hands on (rule W1).
-use Rattle.std.specs.Prelude.{ℕ, zero, suc, List, Float}
+-- A walk from its start: the answers of repeated steps, each from the cursor that the one before it hands on (rules W1 and W8).
+use Rattle.std.specs.Prelude.{ℕ, zero, suc, List, Option, Some, None, Result, Ok, Err, Float}
+use Rattle.causes.specs.declared.Cause.{Cause}
+use Rattle.geometry.specs.declared.Vec3.{Vec3}
 use Rattle.geometry.specs.declared.Vec3i.{Vec3i}
 use Rattle.geometry.specs.declared.BoundingBox.{BoundingBox}
 use Rattle.geometry.specs.Values.{vec3i}
-use Rattle.dense_field.specs.declared.PointStep.{PointStep}
-use Rattle.dense_field.specs.declared.PointStep.TheVariants as point
-use Rattle.dense_field.specs.declared.CellStep.{CellStep}
-use Rattle.dense_field.specs.declared.CellStep.TheVariants as cell
-use Rattle.dense_field.specs.declared.OctetWalk.{OctetWalk}
-use Rattle.dense_field.specs.Walks.{point_step, cell_step}
-use Rattle.dense_field.specs.Cells.{octet_walk_of}
-use Rattle.dense_field.specs.Walker.{after_step}
+use Rattle.dense_field.specs.declared.Step.{Step}
+use Rattle.dense_field.specs.Walks.{point_step, cell_step, octet_step}
 
-unfoldable pub point_after : BoundingBox → Vec3i → PointStep → PointStep
-point_after b n (point.Point p next) = point_step b n next
-point_after b n (point.Done c) = point_step b n c
-point_after b n (point.Refused number) = point.Refused number
+-- the cursor after a step: the next one; past the last one, and where the step is refused, the same (rules W1 and W8)
+unfoldable pub after_step : {A : Type 0} → Result (Option (Step A)) Cause → Vec3i → Vec3i
+after_step (Ok (Some step)) c = step.next
+after_step (Ok None) c = c
+after_step (Err cause) c = c
 
--- the answer of step p of a walk over points, counted from 0 (rule W1)
-unfoldable pub point_trace : BoundingBox → Vec3i → ℕ → PointStep
-point_trace b n zero = point_step b n (vec3i 0 0 0)
-point_trace b n (suc p) = point_after b n (point_trace b n p)
+module _ {A : Type 0} (step : Vec3i → Result (Option (Step A)) Cause) where
+  -- the cursor after p steps from the start
+  unfoldable pub cursor_after : ℕ → Vec3i
+  cursor_after zero = vec3i 0 0 0
+  cursor_after (suc p) = after_step (step (cursor_after p)) (cursor_after p)
 
-unfoldable pub cell_after : BoundingBox → Vec3i → CellStep → CellStep
-cell_after b n (cell.Cell c next) = cell_step b n next
-cell_after b n (cell.Done c) = cell_step b n c
-cell_after b n (cell.Refused number) = cell.Refused number
+  -- the answer of step p, counted from 0
+  abbrev pub trace : ℕ → Result (Option (Step A)) Cause
+  trace p = step (cursor_after p)
+
+-- the answer of step p of a walk over points (rule W1)
+abbrev pub point_trace : BoundingBox → Vec3i → ℕ → Result (Option (Step Vec3)) Cause
+point_trace b n = trace (point_step b n)
 
 -- the same of a walk over cells (rule W1)
-unfoldable pub cell_trace : BoundingBox → Vec3i → ℕ → CellStep
-cell_trace b n zero = cell_step b n (vec3i 0 0 0)
-cell_trace b n (suc p) = cell_after b n (cell_trace b n p)
+abbrev pub cell_trace : BoundingBox → Vec3i → ℕ → Result (Option (Step BoundingBox)) Cause
+cell_trace b n = trace (cell_step b n)
 
 -- the cell of an octet walker after p times `next` from its start (rule W8)
-unfoldable pub octet_cell : Vec3i → List Float → ℕ → Vec3i
-octet_cell n vs zero = vec3i 0 0 0
-octet_cell n vs (suc p) = after_step (octet_walk_of n vs (octet_cell n vs p)).step (octet_cell n vs p)
+abbrev pub octet_cell : Vec3i → List Float → ℕ → Vec3i
+octet_cell n vs = cursor_after (octet_step n vs)
 
 -- what step p finds (rule W8)
-unfoldable pub octet_trace : Vec3i → List Float → ℕ → OctetWalk
-octet_trace n vs p = octet_walk_of n vs (octet_cell n vs p)
+abbrev pub octet_trace : Vec3i → List Float → ℕ → Result (Option (Step (List Float))) Cause
+octet_trace n vs = trace (octet_step n vs)

@@ -1,20 +1,23 @@
 // How many points a field has: from its bounds, and in a lent slice.
-ghost use Rattle.std.specs.Prelude.{◌≡◌, min};
+ghost use Rattle.std.specs.Prelude.{◌≡◌, min, OnOk};
 ghost use Rattle.std.specs.Float.Ieee.{to_unsigned};
-ghost use Rattle.dense_field.specs.Field.{values_refused};
+ghost use Rattle.dense_field.specs.Inner.Lent.{Lent};
+ghost use Rattle.dense_field.specs.Outcomes.{outcome_of};
 ghost use Rattle.dense_field.specs.Points.{points_along, point_count_of};
 
-use crate::PointCount;
+use causes::Cause;
 use geometry::{BoundingBox, Vec3i};
 
-// Whether a field's dimensions are refused, or `len` values are not what they ask for: cause 9.
-pub fn values_refused(n: Vec3i, len: usize) -> bool
-    ensures { result ≡ values_refused n len }
+// Refuses dimensions that no field has, and `len` values that are not what they ask for: cause 9.
+#[tactic(auto, unfolding(crate::specs::Outcomes::outcome_of, crate::specs::Field::values_refused, causes::specs::First::first_of))]
+pub fn tested(n: Vec3i, len: usize) -> Result<(), Cause>
+    ensures answer { result ≡ outcome_of n len }
+    ensures lent { OnOk result (Lent n len) }
 {
-    if geometry::dimensions_refused(n.i, n.j, n.k) {
-        return true;
+    if geometry::dimensions_refused(n.i, n.j, n.k) || len != n.i * n.j * n.k {
+        return Err(Cause::Dimensions);
     }
-    len != n.i * n.j * n.k
+    Ok(())
 }
 
 // A whole number as a count, and one above 16,777,216 as that. A NaN or a number below 0 counts as 0.
@@ -42,14 +45,12 @@ fn points_along(least: f64, most: f64, cell: f64) -> usize
 
 // The number of points along each axis of a field in bounds. A quotient is compared as a float
 // before it becomes a count, since it may be infinite.
-pub fn point_count(bounds: BoundingBox, cell: f64) -> PointCount
+#[tactic(auto, unfolding(crate::specs::Points::point_count_of, causes::specs::First::first_of))]
+pub fn point_count(bounds: BoundingBox, cell: f64) -> Result<Vec3i, Cause>
     ensures { result ≡ point_count_of bounds cell }
 {
-    if geometry::box_refused(bounds) {
-        return PointCount::Refused(1);
-    }
-    if geometry::cell_refused(cell) {
-        return PointCount::Refused(1);
+    if geometry::box_refused(bounds) || geometry::cell_refused(cell) {
+        return Err(Cause::Bounds);
     }
     let min = bounds.min;
     let max = bounds.max;
@@ -57,7 +58,7 @@ pub fn point_count(bounds: BoundingBox, cell: f64) -> PointCount
     let ny = points_along(min.y, max.y, cell);
     let nz = points_along(min.z, max.z, cell);
     if geometry::dimensions_refused(nx, ny, nz) {
-        return PointCount::Refused(9);
+        return Err(Cause::Dimensions);
     }
-    PointCount::Points(Vec3i::new(nx, ny, nz))
+    Ok(Vec3i::new(nx, ny, nz))
 }

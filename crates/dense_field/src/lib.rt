@@ -3,7 +3,7 @@
 // and a lent slice of values.
 #![tactic(auto)]
 
-use geometry::{BoundingBox, Vec3, Vec3i};
+use geometry::Vec3i;
 
 mod counts; // counts.rt: how many points a field has
 mod octets; // octets.rt: a cell's corners and values, and a walk's octet
@@ -23,63 +23,9 @@ pub use thresholds::threshold;
 pub use walker::{DenseCellValueIterator, walk_octet};
 pub use walks::{cell_step, point_step};
 
-// How many points a field has along each axis, or the cause of a refusal.
-#[derive(Clone, Copy)]
-pub enum PointCount {
-    Points(Vec3i),
-    Refused(u32),
-}
-
-// What a call on lent values answers: that it was done, or the cause of its refusal.
-#[derive(Clone, Copy)]
-pub enum Applied {
-    Done,
-    Refused(u32),
-}
-
-// The eight corners of a cell, or the cause of a refusal. The points stand beside the answer, since
-// an enum holds no array.
-#[derive(Clone, Copy)]
-pub struct CellCorners {
-    pub refused: u32,
-    pub points: [Vec3; 8],
-}
-
-// The eight values at a cell's corners, or the cause of a refusal.
-#[derive(Clone, Copy)]
-pub struct CellValues {
-    pub refused: u32,
-    pub values: [f64; 8],
-}
-
-// What a walk over points finds at its cursor: the point and the next cursor, or that it is done.
-#[derive(Clone, Copy)]
-pub enum PointStep {
-    Point(Vec3, Vec3i),
-    Done(Vec3i),
-    Refused(u32),
-}
-
-// What a walk over cells finds at its cursor: the cell's box and the next cursor, or that it is
-// done.
-#[derive(Clone, Copy)]
-pub enum CellStep {
-    Cell(BoundingBox, Vec3i),
-    Done(Vec3i),
-    Refused(u32),
-}
-
-// What a walk over octets finds at its cursor: a cell, with the next cursor, or that it is done.
-#[derive(Clone, Copy)]
-pub enum OctetStep {
-    Cell(Vec3i),
-    Done(Vec3i),
-    Refused(u32),
-}
-
-// The step, and the values at the corners of its cell; +0 where there is none.
-#[derive(Clone, Copy)]
-pub struct OctetWalk {
-    pub step: OctetStep,
-    pub values: [f64; 8],
+// What a step of a walk finds, and the cursor that comes next.
+#[derive(Clone, Copy, Debug, PartialEq)]
+pub struct Step<T> {
+    pub found: T,
+    pub next: Vec3i,
 }

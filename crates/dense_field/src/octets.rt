@@ -1,61 +1,51 @@
 // A cell's eight corners and the values there, in octet order (rule B9).
-ghost use Rattle.std.specs.Prelude.{◌≡◌, ◌+◌, ◌<◌, length};
+ghost use Rattle.std.specs.Prelude.{◌≡◌, ◌+◌, ◌<◌, length, IsTrue, IfOk, IfSome};
 ghost use Rattle.std.specs.Float.{binary64};
 ghost use Rattle.std.specs.Float.Ieee.{add, mul};
-ghost use Rattle.dense_field.specs.Inner.Lent.{Lent};
+ghost use Rattle.dense_field.specs.Inner.Lent.{Found};
 ghost use Rattle.dense_field.specs.Octets.{cell_inside, corner_index, corners_of, octet_of};
-ghost use Rattle.dense_field.specs.Cells.{corners_cause, cell_corners_of, octet_cause, cell_values_of, octet_walk_of};
-ghost use Rattle.dense_field.specs.Walks.{no_cells, octet_step};
+ghost use Rattle.dense_field.specs.Cells.{cell_corners_of, cell_values_of};
+ghost use Rattle.dense_field.specs.Walks.{no_cells, next_cell, octet_step};
 
-use crate::{CellCorners, CellValues, OctetStep, OctetWalk, counts};
+use crate::{Step, counts};
+use causes::Cause;
 use geometry::{Vec3, Vec3i};
 
 // Whether the point after a cell on each axis is one of the field.
+#[tactic(auto, unfolding(crate::specs::Octets::cell_inside))]
 fn cell_inside(n: Vec3i, c: Vec3i) -> bool
-    ensures { result ≡ cell_inside n c }
+    ensures answer { result ≡ cell_inside n c }
+    ensures inside { IsTrue result → (c.i + 1 < n.i) × (c.j + 1 < n.j) × (c.k + 1 < n.k) }
 {
-    if c.i >= n.i {
-        return false;
-    }
-    if c.j >= n.j {
-        return false;
-    }
-    if c.k >= n.k {
-        return false;
-    }
-    if c.i + 1 >= n.i {
-        return false;
-    }
-    if c.j + 1 >= n.j {
-        return false;
-    }
-    c.k + 1 < n.k
+    c.i < n.i && c.j < n.j && c.k < n.k && c.i + 1 < n.i && c.j + 1 < n.j && c.k + 1 < n.k
 }
 
-// Where a cell begins along an axis.
-fn corner_first(origin: f64, cell: f64, i: usize) -> f64
-    ensures { result ≡ add binary64 origin (mul binary64 (corner_index i 0) cell) }
+// Where a cell's corner stands along an axis: `index` is the cell's own, or the one after it.
+fn corner(origin: f64, cell: f64, index: f64) -> f64
+    ensures { result ≡ add binary64 origin (mul binary64 index cell) }
 {
-    float::computed(origin + float::from_count(i as u64) * cell)
+    float::computed(origin + index * cell)
 }
 
-// Where it ends, with i + 1 computed as a float.
-fn corner_last(origin: f64, cell: f64, i: usize) -> f64
-    ensures { result ≡ add binary64 origin (mul binary64 (corner_index i 1) cell) }
+// The index of the point after a cell, computed as a float.
+#[tactic(auto, unfolding(crate::specs::Octets::corner_index))]
+fn after(i: usize) -> f64
+    ensures { result ≡ corner_index i 1 }
 {
-    float::computed(origin + (float::from_count(i as u64) + 1.0) * cell)
+    float::computed(float::from_count(i as u64) + 1.0)
 }
 
 // The eight corners of a cell.
+#[tactic(auto, unfolding(crate::specs::Octets::corners_of, crate::specs::Octets::corner_at, crate::specs::Octets::corner_index, geometry::specs::Octet::octet_order))]
 fn corners(origin: Vec3, cell: f64, c: Vec3i) -> [Vec3; 8]
     ensures { result ≡ corners_of origin cell c }
 {
-    let x0 = corner_first(origin.x, cell, c.i);
-    let y0 = corner_first(origin.y, cell, c.j);
-    let z0 = corner_first(origin.z, cell, c.k);
-    let x1 = corner_last(origin.x, cell, c.i);
-    let y1 = corner_last(origin.y, cell, c.j);
-    let z1 = corner_last(origin.z, cell, c.k);
+    let x0 = corner(origin.x, cell, float::from_count(c.i as u64));
+    let y0 = corner(origin.y, cell, float::from_count(c.j as u64));
+    let z0 = corner(origin.z, cell, float::from_count(c.k as u64));
+    let x1 = corner(origin.x, cell, after(c.i));
+    let y1 = corner(origin.y, cell, after(c.j));
+    let z1 = corner(origin.z, cell, after(c.k));
     [
         Vec3::new(x0, y0, z0),
         Vec3::new(x1, y0, z0),
@@ -68,46 +58,26 @@ fn corners(origin: Vec3, cell: f64, c: Vec3i) -> [Vec3; 8]
     ]
 }
 
-// The cause of a refusal of a cell's corners, and 0 where there is none.
-fn corners_cause(origin: Vec3, cell: f64, n: Vec3i, c: Vec3i) -> u32
-    ensures { result ≡ corners_cause origin cell n c }
-{
-    if geometry::point_refused(origin) {
-        return 1;
-    }
-    if geometry::cell_refused(cell) {
-        return 1;
-    }
-    if geometry::dimensions_refused(n.i, n.j, n.k) {
-        return 9;
-    }
-    if cell_inside(n, c) { 0 } else { 10 }
-}
-
-// The eight corners of a field's cell. A refusal gives eight times the point (0, 0, 0).
-pub fn cell_corners(origin: Vec3, cell: f64, n: Vec3i, c: Vec3i) -> CellCorners
+// The eight corners of a field's cell.
+#[tactic(auto, unfolding(crate::specs::Cells::cell_corners_of, causes::specs::First::first_of))]
+pub fn cell_corners(origin: Vec3, cell: f64, n: Vec3i, c: Vec3i) -> Result<[Vec3; 8], Cause>
     ensures { result ≡ cell_corners_of origin cell n c }
 {
-    let refused = corners_cause(origin, cell, n, c);
-    if refused != 0 {
-        let none = [Vec3 {
-            x: 0.0,
-            y: 0.0,
-            z: 0.0,
-        }; 8];
-        return CellCorners {
-            refused,
-            points: none,
-        };
+    if geometry::point_refused(origin) || geometry::cell_refused(cell) {
+        return Err(Cause::Bounds);
     }
-    let points = corners(origin, cell, c);
-    CellCorners { refused, points }
+    if geometry::dimensions_refused(n.i, n.j, n.k) {
+        return Err(Cause::Dimensions);
+    }
+    if !cell_inside(n, c) {
+        return Err(Cause::Outside);
+    }
+    Ok(corners(origin, cell, c))
 }
 
 // The values at the corners of a cell that is inside.
 fn octet(n: Vec3i, values: &[f64], c: Vec3i) -> [f64; 8]
-    requires lent { Lent n (length values.now) }
-    requires inside { (c.i + 1 < n.i) × (c.j + 1 < n.j) × (c.k + 1 < n.k) }
+    requires { Found n (length values.now) c }
     ensures { result ≡ octet_of n values.now c }
 {
     let row = n.i;
@@ -126,84 +96,50 @@ fn octet(n: Vec3i, values: &[f64], c: Vec3i) -> [f64; 8]
     ]
 }
 
-// The cause of a refusal of a cell's values, and 0 where there is none.
-fn octet_cause(n: Vec3i, len: usize, c: Vec3i) -> u32
-    ensures { result ≡ octet_cause n len c }
-{
-    if counts::values_refused(n, len) {
-        return 9;
-    }
-    if cell_inside(n, c) { 0 } else { 10 }
-}
-
-// The eight values at the corners of a cell. A refusal gives eight times +0.
-pub fn cell_values(n: Vec3i, values: &[f64], c: Vec3i) -> CellValues
+// The eight values at the corners of a cell.
+#[tactic(auto, unfolding(crate::specs::Cells::cell_values_of, crate::specs::Outcomes::outcome_of, causes::specs::First::first_of))]
+pub fn cell_values(n: Vec3i, values: &[f64], c: Vec3i) -> Result<[f64; 8], Cause>
     ensures { result ≡ cell_values_of n values.now c }
 {
-    let refused = octet_cause(n, values.len(), c);
-    if refused != 0 {
-        let none = [0.0; 8];
-        return CellValues {
-            refused,
-            values: none,
-        };
+    counts::tested(n, values.len())?;
+    if !cell_inside(n, c) {
+        return Err(Cause::Outside);
     }
-    let eight = octet(n, values, c);
-    CellValues {
-        refused,
-        values: eight,
-    }
+    Ok(octet(n, values, c))
 }
 
 // Whether a field has no cell.
+#[tactic(auto, unfolding(crate::specs::Walks::no_cells))]
 fn no_cells(cells: Vec3i) -> bool
     ensures { result ≡ no_cells cells }
 {
-    if cells.i == 0 {
-        return true;
-    }
-    if cells.j == 0 {
-        return true;
-    }
-    cells.k == 0
+    cells.i == 0 || cells.j == 0 || cells.k == 0
 }
 
-// What the walk over octets finds at its cursor.
-fn walk_step(n: Vec3i, len: usize, c: Vec3i) -> OctetStep
-    ensures { result ≡ octet_step n len c }
+// The cell after the one at the cursor of a walk over octets, or none where the walk is done.
+#[tactic(auto, unfolding(crate::specs::Walks::next_cell, crate::specs::Outcomes::outcome_of, causes::specs::First::first_of))]
+fn next_cell(n: Vec3i, len: usize, c: Vec3i) -> Result<Option<Vec3i>, Cause>
+    ensures next { result ≡ next_cell n len c }
+    ensures found { IfOk result (λ place. IfSome place (λ _. Found n len c)) }
 {
-    if counts::values_refused(n, len) {
-        return OctetStep::Refused(9);
-    }
+    counts::tested(n, len)?;
     let cells = Vec3i::new(n.i - 1, n.j - 1, n.k - 1);
-    if no_cells(cells) {
-        return OctetStep::Done(c);
+    if no_cells(cells) || c.k >= cells.k {
+        return Ok(None);
     }
-    if c.k >= cells.k {
-        return OctetStep::Done(c);
+    if c.i >= cells.i || c.j >= cells.j {
+        return Err(Cause::Outside);
     }
-    if c.i >= cells.i {
-        return OctetStep::Refused(10);
-    }
-    if c.j >= cells.j {
-        return OctetStep::Refused(10);
-    }
-    OctetStep::Cell(geometry::next_indices(c, cells.i, cells.j))
+    Ok(Some(geometry::next_indices(c, cells.i, cells.j)))
 }
 
 // One step of the walk over a field's octets: the values at the cursor's cell with the next cursor,
-// or eight times +0 where the walk is done or refused.
-pub fn octet_step(n: Vec3i, values: &[f64], c: Vec3i) -> OctetWalk
-    ensures { result ≡ octet_walk_of n values.now c }
+// or none where the walk is done.
+pub fn octet_step(n: Vec3i, values: &[f64], c: Vec3i) -> Result<Option<Step<[f64; 8]>>, Cause>
+    ensures { result ≡ octet_step n values.now c }
 {
-    let step = walk_step(n, values.len(), c);
-    if let OctetStep::Cell(_) = step {
-        let eight = octet(n, values, c);
-        return OctetWalk {
-            step,
-            values: eight,
-        };
-    }
-    let none = [0.0; 8];
-    OctetWalk { step, values: none }
+    Ok(next_cell(n, values.len(), c)?.map(|next| Step {
+        found: octet(n, values, c),
+        next,
+    }))
 }

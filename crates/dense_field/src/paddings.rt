@@ -7,7 +7,8 @@ ghost use Rattle.dense_field.specs.Inner.Lent.{Lent};
 ghost use Rattle.dense_field.specs.Outcomes.{outcome_of};
 ghost use Rattle.dense_field.specs.Padding.{padded_at, padded};
 
-use crate::{Applied, counts};
+use crate::counts;
+use causes::Cause;
 use geometry::Vec3i;
 
 // One row of an inner slab: all of an outer row, and the two ends of an inner one.
@@ -17,18 +18,13 @@ fn pad_row(n: Vec3i, value: f64, values: &mut [f64], j: usize, k: usize)
     ensures { values.new
         ≡ filled (k * (n.i * n.j) + j * n.i) n.i (padded_at n value values.old) values.old }
 {
-    let row = n.i;
-    let at = k * (n.i * n.j) + j * row;
-    if j == 0 {
-        slices::fill_floats(value, values, at, row);
-        return;
-    }
-    if j + 1 == n.j {
-        slices::fill_floats(value, values, at, row);
+    let at = k * (n.i * n.j) + j * n.i;
+    if j == 0 || j + 1 == n.j {
+        values[at..at + n.i].fill(value);
         return;
     }
     values[at] = value;
-    values[at + (row - 1)] = value;
+    values[at + (n.i - 1)] = value;
 }
 
 // One slab: all of the first and of the last, and the others row by row.
@@ -38,18 +34,12 @@ fn pad_slab(n: Vec3i, value: f64, values: &mut [f64], k: usize)
     ensures { values.new ≡ filled (k * (n.i * n.j)) (n.i * n.j) (padded_at n value values.old) values.old }
 {
     let slab = n.i * n.j;
-    if k == 0 {
-        slices::fill_floats(value, values, k * slab, slab);
+    if k == 0 || k + 1 == n.k {
+        values[k * slab..k * slab + slab].fill(value);
         return;
     }
-    if k + 1 == n.k {
-        slices::fill_floats(value, values, k * slab, slab);
-        return;
-    }
-    let mut j = 0;
-    while j < n.j {
+    for j in 0..n.j {
         pad_row(n, value, values, j, k);
-        j += 1;
     }
 }
 
@@ -57,23 +47,20 @@ fn pad_slabs(n: Vec3i, value: f64, values: &mut [f64])
     requires { Lent n (length values.old) }
     ensures { values.new ≡ padded n value values.old }
 {
-    let mut k = 0;
-    while k < n.k {
+    for k in 0..n.k {
         pad_slab(n, value, values, k);
-        k += 1;
     }
 }
 
 // Sets every point on the outside to a value (rule D6). No other point is written. A refusal changes
 // nothing.
-pub fn padding(n: Vec3i, value: f64, values: &mut [f64]) -> Applied
+#[tactic(auto, unfolding(crate::specs::Outcomes::outcome_of, causes::specs::First::first_of))]
+pub fn padding(n: Vec3i, value: f64, values: &mut [f64]) -> Result<(), Cause>
     ensures answer { result ≡ outcome_of n (length values.old) }
     ensures values { values.new
         ≡ (if values_refused n (length values.old) then values.old else padded n value values.old) }
 {
-    if counts::values_refused(n, values.len()) {
-        return Applied::Refused(9);
-    }
+    counts::tested(n, values.len())?;
     pad_slabs(n, value, values);
-    Applied::Done
+    Ok(())
 }

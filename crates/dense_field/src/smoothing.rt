@@ -1,13 +1,15 @@
 // Smoothing of a field's values, in rounds from one slice into the other. A row is the points of
 // one j and k, and a slab those of one k.
-ghost use Rattle.std.specs.Prelude.{◌≡◌, ◌+◌, ◌*◌, ◌<◌, ◌≤◌, cond, length, replicate, if◌then◌else◌};
+ghost use Rattle.std.specs.Prelude.{◌≡◌, ◌+◌, ◌*◌, ◌<◌, ◌≤◌, cond, length, replicate};
 ghost use Rattle.lists.specs.Filled.{filled};
 ghost use Rattle.float.specs.Zero.{plus_zero};
 ghost use Rattle.dense_field.specs.Inner.Lent.{Lent, Between};
 ghost use Rattle.dense_field.specs.Inner.Offsets.{offset_sum, offset_blend};
+ghost use Rattle.dense_field.specs.Outcomes.{smooth_outcome};
 ghost use Rattle.dense_field.specs.Smoothing.{smooth_refused, value_of, smoothed_at, smoothed_once, smoothed};
 
-use crate::Applied;
+use crate::counts;
+use causes::Cause;
 use geometry::Vec3i;
 
 // Copies `count` values from `at` on.
@@ -15,7 +17,7 @@ fn copy_values(old: &[f64], new: &mut [f64], at: usize, count: usize)
     requires { (at + count ≤ length old.now) × (length new.old ≡ length old.now) }
     ensures { new.new ≡ filled at count (value_of old.now) new.old }
 {
-    slices::copy_floats(&old[at..], new, at, count);
+    new[at..at + count].copy_from_slice(&old[at..at + count]);
 }
 
 // The sum of a point's six neighbours.
@@ -40,12 +42,10 @@ fn blend_values(n: Vec3i, factor: f64, old: &[f64], new: &mut [f64], at: usize, 
     ensures { new.new ≡ filled at count (offset_blend n factor old.now) new.old }
 {
     let keep = 1.0 - factor;
-    let mut i = 0;
-    while i < count {
+    for i in 0..count {
         let p = at + i;
         let sum = neighbour_sum(n, old, p);
         new[p] = float::computed(keep * old[p] + factor * (sum / 6.0));
-        i += 1;
     }
 }
 
@@ -57,15 +57,7 @@ fn smooth_row(n: Vec3i, factor: f64, old: &[f64], new: &mut [f64], j: usize, k: 
 {
     let row = n.i;
     let at = k * (n.i * n.j) + j * row;
-    if row < 3 {
-        copy_values(old, new, at, row);
-        return;
-    }
-    if j == 0 {
-        copy_values(old, new, at, row);
-        return;
-    }
-    if j + 1 == n.j {
+    if row < 3 || j == 0 || j + 1 == n.j {
         copy_values(old, new, at, row);
         return;
     }
@@ -81,18 +73,12 @@ fn smooth_slab(n: Vec3i, factor: f64, old: &[f64], new: &mut [f64], k: usize)
     ensures { new.new ≡ filled (k * (n.i * n.j)) (n.i * n.j) (smoothed_at n factor old.now) new.old }
 {
     let slab = n.i * n.j;
-    if k == 0 {
+    if k == 0 || k + 1 == n.k {
         copy_values(old, new, k * slab, slab);
         return;
     }
-    if k + 1 == n.k {
-        copy_values(old, new, k * slab, slab);
-        return;
-    }
-    let mut j = 0;
-    while j < n.j {
+    for j in 0..n.j {
         smooth_row(n, factor, old, new, j, k);
-        j += 1;
     }
 }
 
@@ -101,10 +87,8 @@ fn smooth_once(n: Vec3i, factor: f64, old: &[f64], new: &mut [f64])
     requires { Lent n (length old.now) × (length new.old ≡ length old.now) }
     ensures { new.new ≡ smoothed_once n factor old.now }
 {
-    let mut k = 0;
-    while k < n.k {
+    for k in 0..n.k {
         smooth_slab(n, factor, old, new, k);
-        k += 1;
     }
 }
 
@@ -114,41 +98,26 @@ fn smooth_rounds(n: Vec3i, factor: f64, rounds: u32, values: &mut [f64], scratch
     requires { Lent n (length values.old) × (length scratch.old ≡ length values.old) }
     ensures { values.new ≡ smoothed n factor rounds values.old }
 {
-    let mut left = rounds;
-    while left > 1 {
+    for _ in 0..rounds / 2 {
         smooth_once(n, factor, &values[..], scratch);
         smooth_once(n, factor, &scratch[..], values);
-        left -= 2;
     }
-    if left == 1 {
+    if rounds % 2 == 1 {
         smooth_once(n, factor, &values[..], scratch);
         copy_values(&scratch[..], values, 0, scratch.len());
     }
 }
 
-// Whether smoothing is refused: cause 9.
-fn smooth_refused(n: Vec3i, values: usize, scratch: usize) -> bool
-    ensures { result ≡ smooth_refused n values scratch }
-{
-    if geometry::dimensions_refused(n.i, n.j, n.k) {
-        return true;
-    }
-    let points = n.i * n.j * n.k;
-    if values != points {
-        return true;
-    }
-    scratch < points
-}
-
 // Smooths the values in so many rounds and sets the whole scratch to +0. A refusal changes nothing.
+#[tactic(auto, unfolding(crate::specs::Outcomes::smooth_outcome, crate::specs::Outcomes::outcome_of, crate::specs::Smoothing::smooth_refused, crate::specs::Field::scratch_needed, causes::specs::First::first_of))]
 pub fn smooth(
     n: Vec3i,
     factor: f64,
     rounds: u32,
     values: &mut [f64],
     scratch: &mut [f64],
-) -> Applied
-    ensures answer { result ≡ (if smooth_refused n (length values.old) (length scratch.old) then Applied.Refused 9 else Applied.Done) }
+) -> Result<(), Cause>
+    ensures answer { result ≡ smooth_outcome n (length values.old) (length scratch.old) }
     ensures values { values.new
         ≡ cond (smooth_refused n (length values.old) (length scratch.old)) values.old
         (smoothed n factor rounds values.old) }
@@ -156,11 +125,12 @@ pub fn smooth(
         ≡ cond (smooth_refused n (length values.old) (length scratch.old)) scratch.old
         (replicate (length scratch.old) plus_zero) }
 {
-    if smooth_refused(n, values.len(), scratch.len()) {
-        return Applied::Refused(9);
-    }
     let count = values.len();
+    counts::tested(n, count)?;
+    if scratch.len() < count {
+        return Err(Cause::Dimensions);
+    }
     smooth_rounds(n, factor, rounds, values, &mut scratch[..count]);
-    slices::zero_floats(scratch);
-    Applied::Done
+    scratch.fill(0.0);
+    Ok(())
 }

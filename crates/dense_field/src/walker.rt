@@ -1,31 +1,22 @@
 // The octet walker: a field's values, its numbers of points and the cell that the walk stands at,
-// after `DenseCellValueIterator`. It leaves the work to `octet_step` and `after_walk`.
+// after `DenseCellValueIterator`. It leaves the work to `octet_step`.
 ghost use Rattle.std.specs.Prelude.{◌≡◌};
 ghost use Rattle.geometry.specs.Values.{vec3i};
-ghost use Rattle.dense_field.specs.Cells.{octet_walk_of};
-ghost use Rattle.dense_field.specs.Walker.{walker_at, after_step};
+ghost use Rattle.dense_field.specs.Walks.{octet_step};
+ghost use Rattle.dense_field.specs.Traces.{after_step};
+ghost use Rattle.dense_field.specs.Walker.{walker_at};
 
-use crate::{OctetStep, OctetWalk, octets};
+use crate::{Step, octets};
+use causes::Cause;
 use geometry::Vec3i;
 
-#[derive(Drop)]
+// Kept: it is no Copy, since a copy would be moved on in its place; and no std Iterator, whose `None`
+// could not tell the end from a refusal.
+#[derive(Clone, Debug, PartialEq, Drop)]
 pub struct DenseCellValueIterator<'a> {
     pub data: &'a [f64],
     pub current: Vec3i,
     pub point_count: Vec3i,
-}
-
-// The cell that a walk stands at after a step: the next one, or the same where it is done or
-// refused.
-fn after_walk(found: OctetWalk, current: Vec3i) -> Vec3i
-    ensures { result ≡ after_step found.step current }
-{
-    let step = found.step;
-    match step {
-        OctetStep::Cell(next) => next,
-        OctetStep::Done(last) => last,
-        OctetStep::Refused(_) => current,
-    }
 }
 
 impl<'a> DenseCellValueIterator<'a> {
@@ -53,30 +44,35 @@ impl<'a> DenseCellValueIterator<'a> {
     }
 
     // What the walker finds at its cell.
-    pub fn step(self) -> OctetWalk
-        ensures { result ≡ octet_walk_of self.entry.point_count self.entry.«data».now self.entry.current }
+    pub fn step(self) -> Result<Option<Step<[f64; 8]>>, Cause>
+        ensures { result ≡ octet_step self.entry.point_count self.entry.«data».now self.entry.current }
     {
         octets::octet_step(self.point_count, self.data, self.current)
     }
 
-    // A step that moves the walker's own cell on.
-    pub fn next<'s>(&'s mut self) -> OctetWalk
-        ensures { (result ≡ octet_walk_of self.old.point_count self.old.«data».now self.old.current)
+    // A step that moves the walker's own cell on. Where it finds none the cell stays.
+    #[tactic(auto, unfolding(crate::specs::Traces::after_step))]
+    pub fn next<'s>(&'s mut self) -> Result<Option<Step<[f64; 8]>>, Cause>
+        ensures { (result ≡ octet_step self.old.point_count self.old.«data».now self.old.current)
             ×
             (self.new ≡ walker_at self.old.«data» self.old.point_count
-            (after_step result.step self.old.current)) }
+            (after_step result self.old.current)) }
     {
-        let current = self.current;
-        let found = octets::octet_step(self.point_count, self.data, current);
-        let next = after_walk(found, current);
-        self.current = next;
-        found
+        let step = octets::octet_step(self.point_count, self.data, self.current);
+        if let Ok(Some(at)) = step {
+            self.current = at.next;
+        }
+        step
     }
 }
 
 // One step of a walker that is made for it: for every other caller, who then needs no walker.
-pub fn walk_octet(values: &[f64], point_count: Vec3i, current: Vec3i) -> OctetWalk
-    ensures { result ≡ octet_walk_of point_count values.now current }
+pub fn walk_octet(
+    values: &[f64],
+    point_count: Vec3i,
+    current: Vec3i,
+) -> Result<Option<Step<[f64; 8]>>, Cause>
+    ensures { result ≡ octet_step point_count values.now current }
 {
     DenseCellValueIterator::new(values, point_count)
         .moved(current)

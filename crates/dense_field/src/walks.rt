@@ -1,66 +1,58 @@
 // Walks over the points and the cells of a grid that fills a box, after PointGridIter and
 // CellGridIter. The cursor goes by value: it stands at the next point or cell.
-ghost use Rattle.std.specs.Prelude.{◌≡◌, ◌≤◌};
-ghost use Rattle.dense_field.specs.Walks.{count_refused, walk_refused, walk_point, walk_cell, point_step, cell_step};
-ghost use Rattle.dense_field.specs.Inner.Stands.{stand_of};
+ghost use Rattle.std.specs.Prelude.{◌≡◌, ◌≤◌, IfOk, IfSome};
+ghost use Rattle.dense_field.specs.Walks.{count_refused, walk_refused, next_place, walk_point, walk_cell, point_step, cell_step};
 
-use crate::{CellStep, PointStep};
+use crate::Step;
+use causes::Cause;
 use geometry::{BoundingBox, Vec3, Vec3i};
 
-// How a walk over points or cells stands: refused by a cause, past its last place, or at a place.
-#[derive(Clone, Copy)]
-enum Stand {
-    Refused(u32),
-    Done,
-    There,
-}
-
 // Whether a count along an axis is too small or too large.
+#[tactic(auto, unfolding(crate::specs::Walks::count_refused))]
 fn count_refused(least: usize, n: usize) -> bool
     ensures { result ≡ count_refused least n }
 {
-    if n < least {
-        return true;
-    }
-    geometry::LARGEST_PRODUCT < n
+    n < least || geometry::LARGEST_PRODUCT < n
 }
 
 // Whether a walk is refused: cause 11.
+#[tactic(auto, unfolding(crate::specs::Walks::walk_refused))]
 fn walk_refused(least: usize, n: Vec3i, cursor: Vec3i) -> bool
     ensures { result ≡ walk_refused least n cursor }
 {
-    if count_refused(least, n.i) {
-        return true;
-    }
-    if count_refused(least, n.j) {
-        return true;
-    }
-    if count_refused(least, n.k) {
-        return true;
-    }
-    if cursor.i >= n.i {
-        return true;
-    }
-    cursor.j >= n.j
+    count_refused(least, n.i)
+        || count_refused(least, n.j)
+        || count_refused(least, n.k)
+        || cursor.i >= n.i
+        || cursor.j >= n.j
 }
 
-// How a walk stands before it looks at its place: cause 1, then 11, then whether k has gone through.
-fn stand_at(least: usize, bounds: BoundingBox, n: Vec3i, cursor: Vec3i) -> Stand
-    ensures { result ≡ stand_of least bounds n cursor }
+// The place after the one at the cursor of a walk, or none where k has gone through. Refused by 1,
+// then 11.
+#[tactic(auto, unfolding(crate::specs::Walks::next_place, causes::specs::First::first_of))]
+fn next_place(
+    least: usize,
+    bounds: BoundingBox,
+    n: Vec3i,
+    cursor: Vec3i,
+) -> Result<Option<Vec3i>, Cause>
+    ensures next { result ≡ next_place least bounds n cursor }
+    ensures counted { IfOk result (λ place. IfSome place (λ _. (least ≤ n.i) × (least ≤ n.j) × (least ≤ n.k))) }
 {
     if geometry::box_refused(bounds) {
-        return Stand::Refused(1);
+        return Err(Cause::Bounds);
     }
     if walk_refused(least, n, cursor) {
-        return Stand::Refused(11);
+        return Err(Cause::Walk);
     }
     if cursor.k >= n.k {
-        return Stand::Done;
+        return Ok(None);
     }
-    Stand::There
+    Ok(Some(geometry::next_indices(cursor, n.i, n.j)))
 }
 
 // The point at a cursor. The first point of an axis is its least end and the last its most.
+#[tactic(auto, unfolding(crate::specs::Walks::walk_point))]
 fn walk_point(bounds: BoundingBox, n: Vec3i, cursor: Vec3i) -> Vec3
     requires { (1 ≤ n.i) × (1 ≤ n.j) × (1 ≤ n.k) }
     ensures { result ≡ walk_point bounds n cursor }
@@ -74,64 +66,51 @@ fn walk_point(bounds: BoundingBox, n: Vec3i, cursor: Vec3i) -> Vec3
     )
 }
 
-// The corner at which a cell begins.
-fn cell_min(bounds: BoundingBox, n: Vec3i, cursor: Vec3i) -> Vec3
-    ensures { result ≡ (walk_cell bounds n cursor).min }
+// The box of the cell at a cursor.
+#[tactic(auto, unfolding(crate::specs::Walks::walk_cell))]
+fn walk_cell(bounds: BoundingBox, n: Vec3i, cursor: Vec3i) -> BoundingBox
+    ensures { result ≡ walk_cell bounds n cursor }
 {
     let min = bounds.min;
     let max = bounds.max;
-    Vec3::new(
-        geometry::along(min.x, max.x, n.i as u64, cursor.i as u64),
-        geometry::along(min.y, max.y, n.j as u64, cursor.j as u64),
-        geometry::along(min.z, max.z, n.k as u64, cursor.k as u64),
+    let (nx, ny, nz) = (n.i as u64, n.j as u64, n.k as u64);
+    let (i, j, k) = (cursor.i as u64, cursor.j as u64, cursor.k as u64);
+    BoundingBox::new(
+        Vec3::new(
+            geometry::along(min.x, max.x, nx, i),
+            geometry::along(min.y, max.y, ny, j),
+            geometry::along(min.z, max.z, nz, k),
+        ),
+        Vec3::new(
+            geometry::along_end(min.x, max.x, nx, i),
+            geometry::along_end(min.y, max.y, ny, j),
+            geometry::along_end(min.z, max.z, nz, k),
+        ),
     )
 }
 
-// The corner at which a cell ends.
-fn cell_max(bounds: BoundingBox, n: Vec3i, cursor: Vec3i) -> Vec3
-    ensures { result ≡ (walk_cell bounds n cursor).max }
-{
-    let min = bounds.min;
-    let max = bounds.max;
-    Vec3::new(
-        geometry::along_end(min.x, max.x, n.i as u64, cursor.i as u64),
-        geometry::along_end(min.y, max.y, n.j as u64, cursor.j as u64),
-        geometry::along_end(min.z, max.z, n.k as u64, cursor.k as u64),
-    )
-}
-
-// The point at the cursor and the next cursor, or done past the last point, with the cursor
-// unchanged. There are n.i by n.j by n.k points.
-pub fn point_step(bounds: BoundingBox, n: Vec3i, cursor: Vec3i) -> PointStep
+// The point at the cursor and the next cursor, or none past the last point. There are n.i by n.j by
+// n.k points.
+pub fn point_step(bounds: BoundingBox, n: Vec3i, cursor: Vec3i) -> Result<Option<Step<Vec3>>, Cause>
     ensures { result ≡ point_step bounds n cursor }
 {
-    let stand = stand_at(2, bounds, n, cursor);
-    match stand {
-        Stand::Refused(cause) => PointStep::Refused(cause),
-        Stand::Done => PointStep::Done(cursor),
-        Stand::There => PointStep::Point(
-            walk_point(bounds, n, cursor),
-            geometry::next_indices(cursor, n.i, n.j),
-        ),
-    }
+    Ok(next_place(2, bounds, n, cursor)?.map(|next| Step {
+        found: walk_point(bounds, n, cursor),
+        next,
+    }))
 }
 
-// The box of the cell at the cursor and the next cursor, or done past the last cell, with the
-// cursor unchanged. There are n.i by n.j by n.k cells.
-pub fn cell_step(bounds: BoundingBox, n: Vec3i, cursor: Vec3i) -> CellStep
+// The box of the cell at the cursor and the next cursor, or none past the last cell. There are n.i by
+// n.j by n.k cells.
+pub fn cell_step(
+    bounds: BoundingBox,
+    n: Vec3i,
+    cursor: Vec3i,
+) -> Result<Option<Step<BoundingBox>>, Cause>
     ensures { result ≡ cell_step bounds n cursor }
 {
-    let stand = stand_at(1, bounds, n, cursor);
-    match stand {
-        Stand::Refused(cause) => CellStep::Refused(cause),
-        Stand::Done => CellStep::Done(cursor),
-        Stand::There => {
-            let min = cell_min(bounds, n, cursor);
-            let max = cell_max(bounds, n, cursor);
-            CellStep::Cell(
-                BoundingBox::new(min, max),
-                geometry::next_indices(cursor, n.i, n.j),
-            )
-        }
-    }
+    Ok(next_place(1, bounds, n, cursor)?.map(|next| Step {
+        found: walk_cell(bounds, n, cursor),
+        next,
+    }))
 }

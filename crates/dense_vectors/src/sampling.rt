@@ -1,7 +1,7 @@
 // Sampling of a model that a case holds part by part.
 ghost use Rattle.std.specs.Prelude.{◌<◌, ◌≤◌, length};
 
-use dense_field::Applied;
+use causes::Cause;
 use model::ImplicitModel;
 
 // What each value is before a call.
@@ -21,11 +21,11 @@ fn model_of(fields: &[u64; 160]) -> ImplicitModel {
 }
 
 // Samples a case's model over the values that are lent.
-fn sampled(fields: &[u64; 160], values: &mut [f64]) -> Applied {
+fn sampled(fields: &[u64; 160], values: &mut [f64]) -> Result<(), Cause> {
     let origin = cases::vector_at(fields, 0);
     let cell = cases::float_at(fields, 3);
     let n = dense_cases::counts_at(fields, 4);
-    dense_field::sample(model_of(fields), origin, cell, n, values)
+    dense_field::sample(&model_of(fields), origin, cell, n, values)
 }
 
 // `sample`: the origin, a cell's size, the dimensions, how many values are lent, the model's count

@@ -2,7 +2,7 @@
 // answer.
 ghost use Rattle.std.specs.Prelude.{◌<◌, ◌≤◌, length};
 
-use dense_field::Applied;
+use causes::Cause;
 
 // What each value of the scratch is before a call.
 const BEFORE: f64 = 100.0;
@@ -54,7 +54,11 @@ fn scratch_after(scratch: &[f64]) -> u64 {
 }
 
 // Smooths the values of a case, with a scratch that is set before the call.
-fn smoothed(fields: &[u64; 160], values: &mut [f64], scratch: &mut [f64]) -> Applied
+fn smoothed(
+    fields: &[u64; 160],
+    values: &mut [f64],
+    scratch: &mut [f64],
+) -> Result<(), Cause>
     requires { length values.old ≤ 150 }
 {
     let n = dense_cases::counts_at(fields, 0);

@@ -1,20 +1,12 @@
 -- An answer as numbers: the cause of a refusal and 0 for none, 100 for a walk that is done, and what is left in place of `old` (rules C51,
 -- C54 and W10).
-use Rattle.std.specs.Prelude.{ℕ, List, [], ◌∷◌, Float}
+use Rattle.std.specs.Prelude.{ℕ, List, [], ◌∷◌, Option, Some, None, Result, Ok, Err, Float}
+use Rattle.causes.specs.declared.Cause.{Cause}
+use Rattle.causes.specs.Number.{number_of}
 use Rattle.geometry.specs.declared.Vec3.{Vec3}
 use Rattle.geometry.specs.declared.Vec3i.{Vec3i}
 use Rattle.geometry.specs.declared.BoundingBox.{BoundingBox}
-use Rattle.dense_field.specs.declared.Applied.{Applied}
-use Rattle.dense_field.specs.declared.Applied.TheVariants as outcome
-use Rattle.dense_field.specs.declared.PointCount.{PointCount}
-use Rattle.dense_field.specs.declared.PointCount.TheVariants as count
-use Rattle.dense_field.specs.declared.PointStep.{PointStep}
-use Rattle.dense_field.specs.declared.PointStep.TheVariants as point
-use Rattle.dense_field.specs.declared.CellStep.{CellStep}
-use Rattle.dense_field.specs.declared.CellStep.TheVariants as cell
-use Rattle.dense_field.specs.declared.OctetStep.{OctetStep}
-use Rattle.dense_field.specs.declared.OctetStep.TheVariants as octet
-use Rattle.dense_field.specs.declared.OctetWalk.{OctetWalk}
+use Rattle.dense_field.specs.declared.Step.{Step}
 use Rattle.grid.specs.declared.CornerList.{CornerList}
 use Rattle.grid.specs.declared.CornerList.TheVariants as corners
 use Rattle.listing.specs.declared.Listing.{Listing}
@@ -29,71 +21,31 @@ ends b = b.min.x ∷ b.min.y ∷ b.min.z ∷ b.max.x ∷ b.max.y ∷ b.max.z ∷
 abbrev pub index_list : Vec3i → List ℕ
 index_list c = c.i ∷ c.j ∷ c.k ∷ []
 
--- what a call on lent values answers
-unfoldable pub outcome_number : Applied → ℕ
-outcome_number outcome.Done = 0
-outcome_number (outcome.Refused number) = number
+-- a call that may be refused
+abbrev pub outcome_number : {A : Type 0} → Result A Cause → ℕ
+outcome_number (Ok value) = 0
+outcome_number (Err cause) = number_of cause
 
--- a point count
-unfoldable pub count_number : PointCount → ℕ
-count_number (count.Points n) = 0
-count_number (count.Refused number) = number
+-- the counts that a point count leaves, or the old ones on a refusal (rule C54)
+abbrev pub counts_left : List ℕ → Result Vec3i Cause → List ℕ
+counts_left old (Ok n) = index_list n
+counts_left old (Err cause) = old
 
--- the counts that it leaves, or the old ones on a refusal (rule C54)
-unfoldable pub counts_left : List ℕ → PointCount → List ℕ
-counts_left old (count.Points n) = index_list n
-counts_left old (count.Refused number) = old
+-- a step of a walk: its answer, its cursor and what it found, as numbers (rule W10)
+abbrev pub step_number : {A : Type 0} → Result (Option (Step A)) Cause → ℕ
+step_number (Ok (Some step)) = 0
+step_number (Ok None) = 100
+step_number (Err cause) = number_of cause
 
--- a walk over points: its answer, its cursor and the point (rule W10)
-unfoldable pub point_number : PointStep → ℕ
-point_number (point.Point p next) = 0
-point_number (point.Done c) = 100
-point_number (point.Refused number) = number
+abbrev pub step_cursor : {A : Type 0} → List ℕ → Result (Option (Step A)) Cause → List ℕ
+step_cursor old (Ok (Some step)) = index_list step.next
+step_cursor old (Ok None) = old
+step_cursor old (Err cause) = old
 
-unfoldable pub point_cursor : List ℕ → PointStep → List ℕ
-point_cursor old (point.Point p next) = index_list next
-point_cursor old (point.Done c) = old
-point_cursor old (point.Refused number) = old
-
-unfoldable pub point_left : List Float → PointStep → List Float
-point_left old (point.Point p next) = coordinates p
-point_left old (point.Done c) = old
-point_left old (point.Refused number) = old
-
--- the same of a walk over cells (rule W10)
-unfoldable pub cell_number : CellStep → ℕ
-cell_number (cell.Cell b next) = 0
-cell_number (cell.Done c) = 100
-cell_number (cell.Refused number) = number
-
-unfoldable pub cell_cursor : List ℕ → CellStep → List ℕ
-cell_cursor old (cell.Cell b next) = index_list next
-cell_cursor old (cell.Done c) = old
-cell_cursor old (cell.Refused number) = old
-
-unfoldable pub cell_left : List Float → CellStep → List Float
-cell_left old (cell.Cell b next) = ends b
-cell_left old (cell.Done c) = old
-cell_left old (cell.Refused number) = old
-
--- the same of a walk over octets (rule W10)
-unfoldable pub octet_number : OctetStep → ℕ
-octet_number (octet.Cell next) = 0
-octet_number (octet.Done c) = 100
-octet_number (octet.Refused number) = number
-
-unfoldable pub octet_cursor : List ℕ → OctetStep → List ℕ
-octet_cursor old (octet.Cell next) = index_list next
-octet_cursor old (octet.Done c) = old
-octet_cursor old (octet.Refused number) = old
-
-unfoldable pub values_left : List Float → OctetStep → List Float → List Float
-values_left old (octet.Cell next) values = values
-values_left old (octet.Done c) values = old
-values_left old (octet.Refused number) values = old
-
-abbrev pub octet_left : List Float → OctetWalk → List Float
-octet_left old w = values_left old w.step w.values
+abbrev pub step_left : {A : Type 0} → (A → List Float) → List Float → Result (Option (Step A)) Cause → List Float
+step_left numbers old (Ok (Some step)) = numbers step.found
+step_left numbers old (Ok None) = old
+step_left numbers old (Err cause) = old
 
 -- a corner list, and the count
 unfoldable pub corners_number : CornerList → ℕ

@@ -2,6 +2,7 @@
 // crate `field_host_c` exports each to C, and the header include/jisampode.h describes them.
 #![tactic(auto)]
 
+mod answers; // answers.rt: the number of an answer
 mod calls; // calls.rt: open, step and drop
 mod corners; // corners.rt: a node's needed corners
 mod dense; // dense.rt: the dense field's calls

@@ -3,26 +3,13 @@
 // done; and the number of the cause that refused it.
 ghost use Rattle.std.specs.Prelude.{◌≡◌};
 ghost use Rattle.geometry.specs.Values.{vec3i};
-ghost use Rattle.dense_field.specs.Walks.{point_step, cell_step};
-ghost use Rattle.dense_field.specs.Cells.{octet_walk_of};
+ghost use Rattle.dense_field.specs.Walks.{point_step, cell_step, octet_step};
 ghost use Rattle.field_host.specs.Given.{box_in, indices_in};
-ghost use Rattle.field_host.specs.Answers.{
-  coordinates,
-  ends,
-  index_list,
-  point_number,
-  point_cursor,
-  point_left,
-  cell_number,
-  cell_cursor,
-  cell_left,
-  octet_number,
-  octet_cursor,
-  octet_left,
-};
+ghost use Rattle.field_host.specs.Answers.{coordinates, ends, index_list, step_number, step_cursor, step_left};
 
 use crate::given::box_in;
-use dense_field::{CellStep, OctetStep, OctetWalk, PointStep};
+use causes::Cause;
+use dense_field::Step;
 use geometry::{BoundingBox, Vec3, Vec3i};
 
 // The cursor of three numbers.
@@ -58,20 +45,18 @@ pub fn put_box(b: BoundingBox, out: &mut [f64; 6])
     *out = [p.x, p.y, p.z, q.x, q.y, q.z];
 }
 
-// Writes the point and the next cursor of a step, where it has them, and answers its number.
-fn put_point_step(step: PointStep, cursor: &mut [usize; 3], point: &mut [f64; 3]) -> u32
-    ensures answer { result ≡ point_number step }
-    ensures cursor { cursor.new ≡ point_cursor cursor.old step }
-    ensures point { point.new ≡ point_left point.old step }
+// Writes the next cursor of a step, where it has one, and answers the step's number.
+fn put_next<T: Copy>(step: Result<Option<Step<T>>, Cause>, cursor: &mut [usize; 3]) -> u32
+    ensures answer { result ≡ step_number step }
+    ensures cursor { cursor.new ≡ step_cursor cursor.old step }
 {
     match step {
-        PointStep::Point(p, next) => {
-            put_point(p, point);
-            put_indices(next, cursor);
+        Ok(Some(at)) => {
+            put_indices(at.next, cursor);
             0
         }
-        PointStep::Done(_) => 100,
-        PointStep::Refused(cause) => cause,
+        Ok(None) => 100,
+        Err(cause) => cause.number(),
     }
 }
 
@@ -84,36 +69,18 @@ pub fn jisampode_point_step(
     cursor: &mut [usize; 3],
     point: &mut [f64; 3],
 ) -> u32
-    ensures answer { result ≡ point_number (point_step (box_in bounds.now) (vec3i nx ny nz) (indices_in cursor.old)) }
+    ensures answer { result ≡ step_number (point_step (box_in bounds.now) (vec3i nx ny nz) (indices_in cursor.old)) }
     ensures cursor { cursor.new
-        ≡ point_cursor cursor.old (point_step (box_in bounds.now) (vec3i nx ny nz) (indices_in cursor.old)) }
+        ≡ step_cursor cursor.old (point_step (box_in bounds.now) (vec3i nx ny nz) (indices_in cursor.old)) }
     ensures point { point.new
-        ≡ point_left point.old (point_step (box_in bounds.now) (vec3i nx ny nz) (indices_in cursor.old)) }
+        ≡ step_left coordinates point.old (point_step (box_in bounds.now) (vec3i nx ny nz) (indices_in cursor.old)) }
 {
-    let n = Vec3i {
-        i: nx,
-        j: ny,
-        k: nz,
-    };
+    let n = Vec3i::new(nx, ny, nz);
     let step = dense_field::point_step(box_in(bounds), n, indices_in(cursor));
-    put_point_step(step, cursor, point)
-}
-
-// Writes the cell and the next cursor of a step, where it has them, and answers its number.
-fn put_cell_step(step: CellStep, cursor: &mut [usize; 3], cell: &mut [f64; 6]) -> u32
-    ensures answer { result ≡ cell_number step }
-    ensures cursor { cursor.new ≡ cell_cursor cursor.old step }
-    ensures cell { cell.new ≡ cell_left cell.old step }
-{
-    match step {
-        CellStep::Cell(b, next) => {
-            put_box(b, cell);
-            put_indices(next, cursor);
-            0
-        }
-        CellStep::Done(_) => 100,
-        CellStep::Refused(cause) => cause,
+    if let Ok(Some(at)) = step {
+        put_point(at.found, point);
     }
+    put_next(step, cursor)
 }
 
 // The ends of the cell at the cursor of a walk over nx × ny × nz cells. Refused by 1, then 11.
@@ -125,38 +92,18 @@ pub fn jisampode_cell_step(
     cursor: &mut [usize; 3],
     cell: &mut [f64; 6],
 ) -> u32
-    ensures answer { result ≡ cell_number (cell_step (box_in bounds.now) (vec3i nx ny nz) (indices_in cursor.old)) }
+    ensures answer { result ≡ step_number (cell_step (box_in bounds.now) (vec3i nx ny nz) (indices_in cursor.old)) }
     ensures cursor { cursor.new
-        ≡ cell_cursor cursor.old (cell_step (box_in bounds.now) (vec3i nx ny nz) (indices_in cursor.old)) }
+        ≡ step_cursor cursor.old (cell_step (box_in bounds.now) (vec3i nx ny nz) (indices_in cursor.old)) }
     ensures cell { cell.new
-        ≡ cell_left cell.old (cell_step (box_in bounds.now) (vec3i nx ny nz) (indices_in cursor.old)) }
+        ≡ step_left ends cell.old (cell_step (box_in bounds.now) (vec3i nx ny nz) (indices_in cursor.old)) }
 {
-    let n = Vec3i {
-        i: nx,
-        j: ny,
-        k: nz,
-    };
+    let n = Vec3i::new(nx, ny, nz);
     let step = dense_field::cell_step(box_in(bounds), n, indices_in(cursor));
-    put_cell_step(step, cursor, cell)
-}
-
-// Writes the octet and the next cursor of a step, where it has them, and answers its number.
-fn put_octet_step(walk: OctetWalk, cursor: &mut [usize; 3], octet: &mut [f64; 8]) -> u32
-    ensures answer { result ≡ octet_number walk.step }
-    ensures cursor { cursor.new ≡ octet_cursor cursor.old walk.step }
-    ensures octet { octet.new ≡ octet_left octet.old walk }
-{
-    let step = walk.step;
-    let eight = walk.values;
-    match step {
-        OctetStep::Cell(next) => {
-            *octet = eight;
-            put_indices(next, cursor);
-            0
-        }
-        OctetStep::Done(_) => 100,
-        OctetStep::Refused(cause) => cause,
+    if let Ok(Some(at)) = step {
+        put_box(at.found, cell);
     }
+    put_next(step, cursor)
 }
 
 // The octet at the cursor of a walk over the cells of a field of nx × ny × nz values. Refused by 9,
@@ -169,17 +116,17 @@ pub fn jisampode_octet_step(
     cursor: &mut [usize; 3],
     octet: &mut [f64; 8],
 ) -> u32
-    ensures answer { result ≡ octet_number (octet_walk_of (vec3i nx ny nz) values.now (indices_in cursor.old)).step }
+    ensures answer { result ≡ step_number (octet_step (vec3i nx ny nz) values.now (indices_in cursor.old)) }
     ensures cursor { cursor.new
-        ≡ octet_cursor cursor.old (octet_walk_of (vec3i nx ny nz) values.now (indices_in cursor.old)).step }
+        ≡ step_cursor cursor.old (octet_step (vec3i nx ny nz) values.now (indices_in cursor.old)) }
     ensures octet { octet.new
-        ≡ octet_left octet.old (octet_walk_of (vec3i nx ny nz) values.now (indices_in cursor.old)) }
+        ≡ step_left (λ values. values) octet.old (octet_step (vec3i nx ny nz) values.now (indices_in cursor.old)) }
 {
-    let n = Vec3i {
-        i: nx,
-        j: ny,
-        k: nz,
-    };
-    let walk = dense_field::walk_octet(values, n, indices_in(cursor));
-    put_octet_step(walk, cursor, octet)
+    let n = Vec3i::new(nx, ny, nz);
+    let step = dense_field::walk_octet(values, n, indices_in(cursor));
+    if let Ok(Some(at)) = step {
+        let eight = at.found;
+        *octet = eight;
+    }
+    put_next(step, cursor)
 }

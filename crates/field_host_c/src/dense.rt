@@ -1,19 +1,18 @@
 // The dense field's calls. Each answers the number of the cause that refused it, and 0 for none.
-ghost use Rattle.std.specs.Prelude.{◌≡◌, cond, map, eqb, length, replicate};
+ghost use Rattle.std.specs.Prelude.{◌≡◌, cond, map, is_ok, length, replicate};
 ghost use Rattle.float.specs.Zero.{plus_zero};
 ghost use Rattle.geometry.specs.Values.{vec3, vec3i};
 ghost use Rattle.model.specs.Flat.{flat_in};
 ghost use Rattle.model.specs.Part.{part_in};
-ghost use Rattle.dense_field.specs.declared.Applied.TheVariants as outcome;
 ghost use Rattle.dense_field.specs.Field.{values_refused};
-ghost use Rattle.dense_field.specs.Outcomes.{outcome_of};
+ghost use Rattle.dense_field.specs.Outcomes.{outcome_of, smooth_outcome};
 ghost use Rattle.dense_field.specs.Points.{point_count_of};
-ghost use Rattle.dense_field.specs.Sampling.{sample_cause, sample_outcome};
+ghost use Rattle.dense_field.specs.Sampling.{sample_outcome};
 ghost use Rattle.dense_field.specs.Sampling.{sampled};
 ghost use Rattle.dense_field.specs.Padding.{padded};
 ghost use Rattle.dense_field.specs.Threshold.{thresholded};
 ghost use Rattle.dense_field.specs.Smoothing.{smooth_refused, smoothed};
-ghost use Rattle.field_host.specs.Answers.{outcome_number, count_number, counts_left};
+ghost use Rattle.field_host.specs.Answers.{outcome_number, counts_left};
 ghost use Rattle.field_host.specs.Given.{box_in, model_given};
 
 // How many points a field over bounds has along each axis. Refused as rule D3 says.
@@ -23,7 +22,7 @@ pub extern "C" fn jisampode_point_count(
     cell: f64,
     counts: &mut [usize; 3],
 ) -> u32
-    ensures answer { result ≡ count_number (point_count_of (box_in bounds.now) cell) }
+    ensures answer { result ≡ outcome_number (point_count_of (box_in bounds.now) cell) }
     ensures counts { counts.new ≡ counts_left counts.old (point_count_of (box_in bounds.now) cell) }
 {
     field_host::jisampode_point_count(bounds, cell, counts)
@@ -47,9 +46,9 @@ pub extern "C" fn jisampode_sample(
 ) -> u32
     ensures answer { result
         ≡ outcome_number
-        (sample_outcome (sample_cause (model_given (flat_in parts reals) count) (vec3 x y z) cell (vec3i nx ny nz) (length values.old))) }
+        (sample_outcome (model_given (flat_in parts reals) count) (vec3 x y z) cell (vec3i nx ny nz) (length values.old)) }
     ensures values { values.new
-        ≡ cond (eqb (sample_cause (model_given (flat_in parts reals) count) (vec3 x y z) cell (vec3i nx ny nz) (length values.old)) 0)
+        ≡ cond (is_ok (sample_outcome (model_given (flat_in parts reals) count) (vec3 x y z) cell (vec3i nx ny nz) (length values.old)))
         (sampled (map part_in (model_given (flat_in parts reals) count).parts) count (vec3 x y z) cell (vec3i nx ny nz)) values.old }
 {
     field_host::jisampode_sample(parts, reals, count, x, y, z, cell, nx, ny, nz, values)
@@ -100,8 +99,7 @@ pub extern "C" fn jisampode_smooth(
     scratch: &mut [f64],
 ) -> u32
     ensures answer { result
-        ≡ outcome_number
-        (cond (smooth_refused (vec3i nx ny nz) (length values.old) (length scratch.old)) (outcome.Refused 9) outcome.Done) }
+        ≡ outcome_number (smooth_outcome (vec3i nx ny nz) (length values.old) (length scratch.old)) }
     ensures values { values.new
         ≡ cond (smooth_refused (vec3i nx ny nz) (length values.old) (length scratch.old)) values.old
         (smoothed (vec3i nx ny nz) factor rounds values.old) }

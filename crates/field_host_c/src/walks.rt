@@ -3,10 +3,9 @@
 // done; and the number of the cause that refused it.
 ghost use Rattle.std.specs.Prelude.{◌≡◌};
 ghost use Rattle.geometry.specs.Values.{vec3i};
-ghost use Rattle.dense_field.specs.Walks.{point_step, cell_step};
-ghost use Rattle.dense_field.specs.Cells.{octet_walk_of};
+ghost use Rattle.dense_field.specs.Walks.{point_step, cell_step, octet_step};
 ghost use Rattle.field_host.specs.Given.{box_in, indices_in};
-ghost use Rattle.field_host.specs.Answers.{point_number, point_cursor, point_left, cell_number, cell_cursor, cell_left, octet_number, octet_cursor, octet_left};
+ghost use Rattle.field_host.specs.Answers.{coordinates, ends, step_number, step_cursor, step_left};
 
 // The point at the cursor of a walk over nx × ny × nz points. Refused by 1, then 11.
 #[unsafe(no_mangle)]
@@ -18,11 +17,11 @@ pub extern "C" fn jisampode_point_step(
     cursor: &mut [usize; 3],
     point: &mut [f64; 3],
 ) -> u32
-    ensures answer { result ≡ point_number (point_step (box_in bounds.now) (vec3i nx ny nz) (indices_in cursor.old)) }
+    ensures answer { result ≡ step_number (point_step (box_in bounds.now) (vec3i nx ny nz) (indices_in cursor.old)) }
     ensures cursor { cursor.new
-        ≡ point_cursor cursor.old (point_step (box_in bounds.now) (vec3i nx ny nz) (indices_in cursor.old)) }
+        ≡ step_cursor cursor.old (point_step (box_in bounds.now) (vec3i nx ny nz) (indices_in cursor.old)) }
     ensures point { point.new
-        ≡ point_left point.old (point_step (box_in bounds.now) (vec3i nx ny nz) (indices_in cursor.old)) }
+        ≡ step_left coordinates point.old (point_step (box_in bounds.now) (vec3i nx ny nz) (indices_in cursor.old)) }
 {
     field_host::jisampode_point_step(bounds, nx, ny, nz, cursor, point)
 }
@@ -37,11 +36,11 @@ pub extern "C" fn jisampode_cell_step(
     cursor: &mut [usize; 3],
     cell: &mut [f64; 6],
 ) -> u32
-    ensures answer { result ≡ cell_number (cell_step (box_in bounds.now) (vec3i nx ny nz) (indices_in cursor.old)) }
+    ensures answer { result ≡ step_number (cell_step (box_in bounds.now) (vec3i nx ny nz) (indices_in cursor.old)) }
     ensures cursor { cursor.new
-        ≡ cell_cursor cursor.old (cell_step (box_in bounds.now) (vec3i nx ny nz) (indices_in cursor.old)) }
+        ≡ step_cursor cursor.old (cell_step (box_in bounds.now) (vec3i nx ny nz) (indices_in cursor.old)) }
     ensures cell { cell.new
-        ≡ cell_left cell.old (cell_step (box_in bounds.now) (vec3i nx ny nz) (indices_in cursor.old)) }
+        ≡ step_left ends cell.old (cell_step (box_in bounds.now) (vec3i nx ny nz) (indices_in cursor.old)) }
 {
     field_host::jisampode_cell_step(bounds, nx, ny, nz, cursor, cell)
 }
@@ -57,11 +56,11 @@ pub extern "C" fn jisampode_octet_step(
     cursor: &mut [usize; 3],
     octet: &mut [f64; 8],
 ) -> u32
-    ensures answer { result ≡ octet_number (octet_walk_of (vec3i nx ny nz) values.now (indices_in cursor.old)).step }
+    ensures answer { result ≡ step_number (octet_step (vec3i nx ny nz) values.now (indices_in cursor.old)) }
     ensures cursor { cursor.new
-        ≡ octet_cursor cursor.old (octet_walk_of (vec3i nx ny nz) values.now (indices_in cursor.old)).step }
+        ≡ step_cursor cursor.old (octet_step (vec3i nx ny nz) values.now (indices_in cursor.old)) }
     ensures octet { octet.new
-        ≡ octet_left octet.old (octet_walk_of (vec3i nx ny nz) values.now (indices_in cursor.old)) }
+        ≡ step_left (λ values. values) octet.old (octet_step (vec3i nx ny nz) values.now (indices_in cursor.old)) }
 {
     field_host::jisampode_octet_step(nx, ny, nz, values, cursor, octet)
 }

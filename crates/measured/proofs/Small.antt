@@ -25,6 +25,7 @@ use Rattle.dense_field.specs.Smoothing.{neighbour_sum, blended, blended_at, smoo
 use Rattle.lists.specs.Sums.{sum_from}
 use Rattle.lists.specs.Tabulate.{tabulate}
 use Rattle.lists.specs.Ranges.{any_below, count_below, list_below, among}
+use Rattle.grid.specs.declared.Kind.TheVariants.{Active}
 use Rattle.grid.specs.declared.Verdict.TheVariants.{Constant, Leaf}
 use Rattle.grid.specs.Nodes.{node_size, nodes_along, node_counts, nodes_of}
 use Rattle.grid.specs.Counting.{active_in, active_of}
@@ -60,7 +61,7 @@ mean_of_minus_zeros = refl
 
 pub minus_zeros : (b : BoundingBox) (least most : Float)
     → pruned least most (lowest (replicate 8 minus_zero)) (highest (replicate 8 minus_zero)) (half_diagonal b) ≡ true
-    → verdict_of least most b (replicate 8 minus_zero) ≡ Constant 1 plus_zero
+    → verdict_of least most b (replicate 8 minus_zero) ≡ Constant Active plus_zero
 unfolding verdict_of
 minus_zeros b least most h = rw (h, mean_of_minus_zeros) refl
 

@@ -13,6 +13,7 @@ use Rattle.dense_field.specs.Padding.{padded}
 use Rattle.dense_field.specs.Threshold.{cut}
 use Rattle.dense_field.specs.Smoothing.{smoothed}
 use Rattle.grid.specs.declared.Grid.{Grid}
+use Rattle.grid.specs.declared.Kind.TheVariants.{Active}
 use Rattle.grid.specs.declared.Verdict.TheVariants.{Constant, Leaf}
 use Rattle.lists.specs.Ranges.{count_below}
 use Rattle.grid.specs.Blocks.{cube}
@@ -87,7 +88,7 @@ pub record Measured : Type 0 where
   pub nan_corners : (b : BoundingBox) (least most : Float) → verdict_of least most b (replicate 8 nan) ≡ Leaf
   -- a child with -0 at every corner, where it is pruned, is the constant +0 (rule G14)
   pub minus_zeros : (b : BoundingBox) (least most : Float) → let octet = replicate 8 minus_zero in
-      pruned least most (lowest octet) (highest octet) (half_diagonal b) ≡ true → verdict_of least most b octet ≡ Constant 1 plus_zero
+      pruned least most (lowest octet) (highest octet) (half_diagonal b) ≡ true → verdict_of least most b octet ≡ Constant Active plus_zero
   -- a 0 among sixes becomes 3 in one round with factor 0.5 (rules D7 and D8)
   pub sixes : (vs : List Float) → CentreOfSixes vs → get_or (smoothed (vec3i 3 3 3) half 1 vs) 13 plus_zero ≡ as_float 3
   -- with 2 points along an axis there is no interior, and smoothing leaves all values (rule D7)

@@ -27,3 +27,10 @@ pub record Run (n : Vec3i) (at len : ℕ) : Type 0 where
   pub area : n.i * n.j ≤ 16777216
   pub within : at + len ≤ 16777216
   pub short : len ≤ 64
+
+-- a cell whose far corner is a point of a field that cause 9 does not refuse
+pub record Found (n : Vec3i) (len : ℕ) (c : Vec3i) : Type 0 where
+  pub held : Lent n len
+  pub i_in : c.i + 1 < n.i
+  pub j_in : c.j + 1 < n.j
+  pub k_in : c.k + 1 < n.k

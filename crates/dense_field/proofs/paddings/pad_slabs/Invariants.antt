@@ -1,13 +1,10 @@
--- `paddings::pad_slabs` meets its contract: the slabs before k are padded.
-use Rattle.std.proofs.Common.{◌≡◌, ◌-◌, ◌*◌, ◌≤◌, length}
+-- At each turn the slabs before k are padded.
+use Rattle.std.proofs.Common.{◌≡◌, ◌*◌, length}
 use Rattle.lists.specs.Filled.{filled}
 use Rattle.dense_field.specs.Padding.{padded_at}
 use Rattle.dense_field.proofs.paddings.pad_slabs.Given as goal
 
 abbrev pub invariant-loop-k : goal.invariant-loop-k
 invariant-loop-k l =
-    (l.k ≤ l.n.k) × (length l.values ≡ length l.initial.values)
+    (length l.values ≡ length l.initial.values)
     × (l.values ≡ filled 0 (l.k * (l.n.i * l.n.j)) (padded_at l.n l.value l.initial.values) l.initial.values)
-
-abbrev pub decreases-loop-k : goal.decreases-loop-k
-decreases-loop-k l = l.n.k - l.k

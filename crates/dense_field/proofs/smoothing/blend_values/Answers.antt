@@ -1,4 +1,4 @@
--- `smoothing::blend_values` meets its contract: at each turn the first i values are blended.
+-- The code's constants are the definition's, and a store at each turn makes the stretch one longer.
 use Rattle.std.proofs.Common.{◌+◌, sym, ap, ◌∙◌, arith, rules}
 use lib.Ieee.{Float, binary64, sub}
 use Rattle.lists.proofs.Filling.{filled_none, filled_store_lem, filled_done}
@@ -6,15 +6,15 @@ use Rattle.dense_field.proofs.SmoothingLaws.{one_as_float, blended_read}
 use Rattle.dense_field.proofs.smoothing.blend_values.Goals as goal
 
 pub loop-i-init : goal.loop-i-init
-loop-i-init c = (search rules, search rules, ap (λ (x : Float). sub binary64 x c.args.factor) one_as_float, sym (filled_none _ _ _))
+loop-i-init c = (search rules, ap (λ (x : Float). sub binary64 x c.args.factor) one_as_float, sym (filled_none _ _ _))
 
 pub loop-i-preserved : goal.loop-i-preserved
 loop-i-preserved c =
     let a = c.args in
     let value =
     c.computed.ensures
-    ∙ blended_read a.n a.factor a.old.now (a.at + c.loop-i.i) (omega arith) c.loop-i.invariant.2 c.neighbour_sum-sum.ensures in
-    (search rules, search rules, search rules, filled_store_lem _ _ _ _ c.loop-i.invariant.3 value)
+    ∙ blended_read a.n a.factor a.old.now (a.at + c.loop-i.i) (omega arith) c.loop-i.invariant.1 c.neighbour_sum-sum.ensures in
+    (search rules, search rules, filled_store_lem _ _ _ _ c.loop-i.invariant.2 value)
 
 pub returns : goal.returns
-returns c = filled_done _ _ _ c.loop-i.invariant.3 (omega arith)
+returns c = filled_done _ _ _ c.loop-i.invariant.2 (omega arith)

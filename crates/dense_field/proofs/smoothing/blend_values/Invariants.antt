@@ -1,5 +1,5 @@
--- `smoothing::blend_values` meets its contract: at each turn the first i values are blended.
-use Rattle.std.proofs.Common.{◌≡◌, ◌-◌, ◌≤◌, length}
+-- At each turn the first i values are blended.
+use Rattle.std.proofs.Common.{◌≡◌, length}
 use lib.Ieee.{binary64, sub}
 use Rattle.lists.specs.Filled.{filled}
 use Rattle.geometry.specs.Axis.{as_float}
@@ -8,7 +8,5 @@ use Rattle.dense_field.proofs.smoothing.blend_values.Given as goal
 
 abbrev pub invariant-loop-i : goal.invariant-loop-i
 invariant-loop-i l =
-    (l.i ≤ l.count) × (length l.new ≡ length l.initial.new) × (l.keep ≡ sub binary64 (as_float 1) l.factor) × (l.new ≡ filled l.at l.i (offset_blend l.n l.factor l.old) l.initial.new)
-
-abbrev pub decreases-loop-i : goal.decreases-loop-i
-decreases-loop-i l = l.count - l.i
+    (length l.new ≡ length l.initial.new) × (l.keep ≡ sub binary64 (as_float 1) l.factor)
+    × (l.new ≡ filled l.at l.i (offset_blend l.n l.factor l.old) l.initial.new)

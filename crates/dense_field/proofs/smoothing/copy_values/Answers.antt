@@ -1,16 +1,16 @@
--- `smoothing::copy_values` meets its contract: the old values from `at` on are lent as a slice of their own.
-use Rattle.std.proofs.Common.{◌≡◌, ◌+◌, ◌-◌, length, get_or, ap, ◌∙◌, arith, rules}
-use lib.Ieee.{nan}
-use Rattle.lists.proofs.Lists.{get_d_any}
+-- The part that is copied is a stretch of stores.
+use Rattle.std.proofs.Common.{◌+◌, ◌-◌, take, drop, ◌∙◌, length-take-le, length-drop, arith}
+use lib.Seq.{get_or-take, get_or-drop}
+use Rattle.lists.proofs.LentPart.{lent_copy}
 use Rattle.float.specs.Zero.{plus_zero}
-use Rattle.slices.proofs.Copied.{copied_part}
+use Rattle.dense_field.specs.Smoothing.{value_of}
 use Rattle.dense_field.proofs.smoothing.copy_values.Goals as goal
 
 pub returns : goal.returns
 returns c =
     let a = c.args in
-    c.copy_floats.ensures
-    ∙ copied_part a.at a.count a.at (length a.old.now - a.at) _ a.old.now a.new.now nan (search rules)
-    (λ q behind below.
-    let same : a.at + (q - a.at) ≡ q = omega arith in
-    ap (λ k. get_or a.old.now k nan) same ∙ get_d_any a.old.now q nan plus_zero (omega (arith, c.requires)))
+    let m = a.at + a.count - a.at in
+    lent_copy a.at a.count a.new.now plus_zero (omega arith) (value_of a.old.now) (a.at + a.count) (take m (drop a.at a.old.now)) (omega arith)
+    c.copy_from_slice.ensures.after
+    (length-take-le m (drop a.at a.old.now) (omega (arith, length-drop a.at a.old.now)) ∙ omega arith)
+    (λ k h. get_or-take m (drop a.at a.old.now) k plus_zero (omega arith) ∙ get_or-drop a.at a.old.now k plus_zero)

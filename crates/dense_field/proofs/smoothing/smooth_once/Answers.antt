@@ -1,4 +1,4 @@
--- `smoothing::smooth_once` meets its contract: at each turn the first k slabs are smoothed.
+-- The slabs stand one behind another.
 use Rattle.std.proofs.Common.{◌≡◌, ℕ, ◌+◌, ◌*◌, length, sym, ap, ◌∙◌, arith, rules}
 use Rattle.lists.specs.Filled.{filled}
 use Rattle.lists.proofs.Filling.{filled_none, filled_length, filled_done, filled_more}
@@ -10,11 +10,11 @@ pub loop-k-init : goal.loop-k-init
 loop-k-init c =
     let a = c.args in
     let none : 0 ≡ 0 * (a.n.i * a.n.j) = omega arith in
-    (search rules, search rules, filled_done _ _ _ (sym (filled_none _ _ _)) none)
+    (search rules, filled_done _ _ _ (sym (filled_none _ _ _)) none)
 
 pub smooth_slab-requires : goal.smooth_slab-requires
 smooth_slab-requires c =
-    let p = c.requires in record { lent = (p.0, c.loop-k.invariant.1 ∙ p.1); inside = omega arith }
+    let p = c.requires in record { lent = (p.0, c.loop-k.invariant.0 ∙ p.1); inside = omega arith }
 
 pub loop-k-preserved : goal.loop-k-preserved
 loop-k-preserved c =
@@ -23,12 +23,11 @@ loop-k-preserved c =
     let more : c.loop-k.k * slab + slab ≡ (c.loop-k.k + 1) * slab = omega arith in
     let place : c.loop-k.k * slab ≡ 0 + c.loop-k.k * slab = omega arith in
     let done = c.smooth_slab.ensures in (
-      search rules,
-      ap length done ∙ filled_length _ _ _ _ ∙ c.loop-k.invariant.1,
-      filled_more _ _ _ _ _ c.loop-k.invariant.2 (done ∙ ap (λ (p : ℕ). filled p slab (smoothed_at a.n a.factor a.old.now) c.loop-k.new) place) more,
+      ap length done ∙ filled_length _ _ _ _ ∙ c.loop-k.invariant.0,
+      filled_more _ _ _ _ _ c.loop-k.invariant.1 (done ∙ ap (λ (p : ℕ). filled p slab (smoothed_at a.n a.factor a.old.now) c.loop-k.new) place) more,
     )
 
 pub returns : goal.returns
 returns c =
     let a = c.args in
-    all_slabs a.n a.factor a.old.now _ a.new.now (omega arith) (omega arith) c.loop-k.invariant.2
+    all_slabs a.n a.factor a.old.now _ a.new.now (omega arith) (omega arith) c.loop-k.invariant.1

@@ -1,0 +1,40 @@
+-- The first and the last slab stay, and the others are smoothed row by row.
+use Rattle.std.proofs.Common.{◌≡◌, ℕ, ◌+◌, ◌*◌, true, length, sym, ap, ◌∙◌, mul_comm, arith, rules}
+use Rattle.lists.proofs.Filling.{filled_none, filled_length, filled_done, filled_more}
+use Rattle.dense_field.specs.Field.{on_edge}
+use Rattle.dense_field.proofs.Edges.{edge_first, edge_last}
+use Rattle.dense_field.proofs.SmoothingLaws.{slab_stays}
+use Rattle.dense_field.proofs.smoothing.smooth_slab.Goals as goal
+use Rattle.dense_field.proofs.smoothing.smooth_slab.Goals.{then-k-eq0-via-then-k-eq0, then-k-eq0-via-else-k-eq0+then-k-n}
+
+pub returns-then-k-eq0 : goal.returns-then-k-eq0
+returns-then-k-eq0 c =
+    let a = c.args in
+    let edge : on_edge a.k a.n.k ≡ true =
+    elim c.then-k-eq0.branch [
+      | then-k-eq0-via-then-k-eq0 w ↦ edge_first _ _ (omega arith)
+      | then-k-eq0-via-else-k-eq0+then-k-n w ↦ edge_last _ _ (omega arith)
+    ] in
+    slab_stays a.n a.factor a.old.now a.k a.new.now edge c.copy_values.ensures
+
+pub loop-j-init : goal.loop-j-init
+loop-j-init c =
+    let none : 0 ≡ 0 * c.args.n.i = omega arith in
+    (search rules, filled_done _ _ _ (sym (filled_none _ _ _)) none)
+
+pub smooth_row-requires : goal.smooth_row-requires
+smooth_row-requires c =
+    let p = c.requires.lent in record { lent = (p.0, c.loop-j.invariant.0 ∙ p.1); inside = (omega arith, omega arith, omega arith) }
+
+pub loop-j-preserved : goal.loop-j-preserved
+loop-j-preserved c =
+    let a = c.args in
+    let more : c.loop-j.j * a.n.i + a.n.i ≡ (c.loop-j.j + 1) * a.n.i = omega arith in
+    let row = c.smooth_row.ensures in
+    (ap length row ∙ filled_length _ _ _ _ ∙ c.loop-j.invariant.0, filled_more _ _ _ _ _ c.loop-j.invariant.1 row more)
+
+pub returns : goal.returns
+returns c =
+    let n = c.args.n in
+    let last : c.loop-j.j ≡ n.j = omega arith in
+    filled_done _ _ _ c.loop-j.invariant.1 (ap (λ (m : ℕ). m * n.i) last ∙ mul_comm n.j n.i)

@@ -1,7 +1,0 @@
--- `dense::jisampode_threshold` meets its contract.
-use mathlib.Core.Path.{ap, ◌∙◌}
-use Rattle.field_host.specs.Answers.{outcome_number}
-use Rattle.field_host.proofs.dense.jisampode_threshold.Goals as goal
-
-pub returns : goal.returns
-returns c = record { answer = c.number.ensures ∙ ap outcome_number c.threshold.ensures.answer; values = c.threshold.ensures.values }
