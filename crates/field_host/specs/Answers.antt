@@ -1,6 +1,6 @@
 -- An answer as numbers: the cause of a refusal and 0 for none, 100 for a walk that is done, and what is left in place of `old` (rules C51,
 -- C54 and W10).
-use Rattle.std.specs.Prelude.{ℕ, List, [], ◌∷◌, Float}
+use Rattle.std.specs.Prelude.{ℕ, List, [], ◌∷◌, Float, Result, Ok, Err}
 use Rattle.geometry.specs.declared.Vec3.{Vec3}
 use Rattle.geometry.specs.declared.Vec3i.{Vec3i}
 use Rattle.geometry.specs.declared.BoundingBox.{BoundingBox}
@@ -17,8 +17,8 @@ use Rattle.dense_field.specs.declared.OctetStep.TheVariants as octet
 use Rattle.dense_field.specs.declared.OctetWalk.{OctetWalk}
 use Rattle.grid.specs.declared.CornerList.{CornerList}
 use Rattle.grid.specs.declared.CornerList.TheVariants as corners
-use Rattle.listing.specs.declared.Listing.{Listing}
-use Rattle.listing.specs.declared.Listing.TheVariants as listing
+use Rattle.listing.specs.declared.Unlisted.{Unlisted}
+use Rattle.listing.specs.Unlisted.{number_of}
 
 abbrev pub coordinates : Vec3 → List Float
 coordinates p = p.x ∷ p.y ∷ p.z ∷ []
@@ -105,13 +105,11 @@ unfoldable pub corners_count : List ℕ → CornerList → List ℕ
 corners_count old (corners.Count n) = n ∷ []
 corners_count old (corners.Refused number) = old
 
--- a listing, and its length. `list_job` never answers that a job is not printable
-unfoldable pub listing_number : Listing → ℕ
-listing_number (listing.Bytes n) = 0
-listing_number (listing.Refused number) = number
-listing_number listing.NotPrintable = 8
+-- a listing, and its length
+unfoldable pub listing_number : Result ℕ Unlisted → ℕ
+listing_number (Ok n) = 0
+listing_number (Err unlisted) = number_of unlisted
 
-unfoldable pub listing_length : List ℕ → Listing → List ℕ
-listing_length old (listing.Bytes n) = n ∷ []
-listing_length old (listing.Refused number) = old
-listing_length old listing.NotPrintable = old
+unfoldable pub listing_length : List ℕ → Result ℕ Unlisted → List ℕ
+listing_length old (Ok n) = n ∷ []
+listing_length old (Err unlisted) = old

@@ -7,10 +7,6 @@ use mathlib.Core.List.{List, [], ◌∷◌, ◌++◌}
 use lib.ListN.{length, set}
 use lib.Seq.{sets, set_comm}
 
-pub sets_append : (l : List ℕ) (i : ℕ) (vs ws : List ℕ) → sets (sets l i vs) (i + length vs) ws ≡ sets l i (vs ++ ws)
-sets_append l i [] ws = rw (add-zero i)
-sets_append l i (a ∷ vs) ws = rw (add-suc i (length vs), ← suc-add i (length vs)) (sets_append (set l i a) (suc i) vs ws)
-
 pub sets_last : (l : List ℕ) (i : ℕ) (vs : List ℕ) (b : ℕ) → sets l i (vs ++ (b ∷ [])) ≡ sets (set l (i + length vs) b) i vs
 sets_last l i [] b = rw (add-zero i)
 sets_last l i (a ∷ vs) b =
