@@ -71,9 +71,11 @@ impl<'a> Sink for Cursor<'a> {
     }
 
     fn put_digits(&mut self, x: u64, base: u64, count: usize) {
+        let at = self.at;
+        let out = &mut *self.out;
         let mut rest = x;
         for i in (0..count).rev() {
-            self.out[self.at + i] = digit_byte(rest % base);
+            out[at + i] = digit_byte(rest % base);
             rest /= base;
         }
         self.at += count;

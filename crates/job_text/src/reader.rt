@@ -45,7 +45,8 @@ fn band_of(band: [u64; 2]) -> Band
     }
 }
 
-// The part lines to the end of a text, with the grid and the band read before them.
+// The part lines to the end of a text, with the grid and the band read before them. Kept: the arrays
+// and their count are the model's own, in fixed memory; a `for` over the 64 places would end in two ways.
 fn read_model(text: &[u8], grid: Grid, band: Band) -> Result<Job, OffForm>
     ensures { result ≡ model_reading grid band (read_parts 64 5 text.now) }
 {

@@ -5,10 +5,7 @@ use Rattle.forms.specs.Digits.{digits}
 use Rattle.forms.proofs.sink.CursorSink.put_digits.Given as goal
 
 abbrev pub invariant-loop-i : goal.invariant-loop-i
-invariant-loop-i l =
-    let before = l.initial.self in record {
-      same : l.self.out.ghost_name ≡ before.out.ghost_name;
-      place : l.self.at ≡ before.at;
-      size : length l.self.out.now ≡ length before.out.now;
-      whole : sets l.self.out.now l.self.at (digits l.base l.i l.rest) ≡ sets before.out.now before.at (digits l.base l.count l.x);
-    }
+invariant-loop-i l = record {
+  size : length l.out ≡ length l.initial.out;
+  whole : sets l.out l.at (digits l.base l.i l.rest) ≡ sets l.initial.out l.at (digits l.base l.count l.x);
+}
