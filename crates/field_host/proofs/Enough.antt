@@ -2,7 +2,7 @@
 use mathlib.Core.Path.{◌≡◌}
 use native.Mathlib.Nat.{le_refl}
 use Rattle.grid.specs.declared.Grid.{Grid}
-use Rattle.input.specs.declared.Refusal.TheVariants.{None}
+use Rattle.std.specs.Prelude.{Ok}
 use Rattle.grid.specs.Limits.{children_of}
 use Rattle.input.specs.Causes.{refusal_of}
 use Rattle.input.proofs.Clear.{Long, clear, accepted}
@@ -14,7 +14,7 @@ exact : (g : Grid) → Long g (needed_lengths g)
 unfolding children_of
 exact g = record { kinds = le_refl _; numbers = le_refl _; places = le_refl _; corners = le_refl _; store = le_refl _ }
 
-pub enough : (i : Input) → any_refusal i ≡ None → refusal_of i (needed_lengths i.grid) ≡ None
+pub enough : (i : Input) → any_refusal i ≡ Ok tt → refusal_of i (needed_lengths i.grid) ≡ Ok tt
 enough i none =
     let c = clear i longest none in
     accepted i (needed_lengths i.grid)

@@ -15,7 +15,23 @@ use Rattle.model.proofs.Accepted.{count_le}
 use Rattle.schedule.specs.Memory.{Memory}
 use Rattle.input.specs.declared.Lengths.{Lengths}
 use Rattle.schedule.specs.Opened.{lengths_of, state_at}
-use Rattle.schedule.specs.Calls.{Reply, opens, steps, run}
+use Rattle.std.specs.Prelude.{Ok, Err}
+use Rattle.causes.specs.declared.Cause.{Cause}
+use Rattle.causes.specs.declared.Cause.TheVariants.{
+  Bounds,
+  BlockSize,
+  BandLimit,
+  Parts,
+  Nodes,
+  TooShort,
+  NoJob,
+  ImpossibleRecord,
+  Dimensions,
+  Outside,
+  Walk,
+}
+use Rattle.causes.specs.Number.{number_of}
+use Rattle.schedule.specs.Calls.{Answer, Reply, opens, steps, run}
 use Rattle.schedule.specs.Engine.{Engine, advanced, opened_engine, engine_call, engine_open}
 use Rattle.schedule.specs.Possible.{impossible}
 use Rattle.schedule.specs.Ledger.{no_entry, entry}
@@ -35,8 +51,10 @@ use Rattle.plans.proofs.OwnCorners.{own_corners, constant_not_leaf}
 use Rattle.sparse_field.proofs.CallLaws.{refused_by, accepted_with, step_none, step_impossible, step_accepted, drop_accepted}
 use Rattle.field_host.specs.Given.{input_given}
 use Rattle.field_host.specs.Carried.{Carried, input_in, fits, flagged, record_given, unread, decoded, encoded}
-use Rattle.field_host.specs.Hosted.{answer_number, left_by, carried_after, hosted}
-use Rattle.field_host.specs.Demand.{NoJob, record_after, HostDemandThree, HostDropLeavesZeros, HostEqualBudgets, HostFinishedField, HostLeavesNumbered}
+use Rattle.field_host.specs.Answers.{outcome_number}
+use Rattle.field_host.specs.Hosted.{left_by, carried_after, hosted}
+use Rattle.field_host.specs.Demand as demand
+use Rattle.field_host.specs.Demand.{record_after, HostDemandThree, HostDropLeavesZeros, HostEqualBudgets, HostFinishedField, HostLeavesNumbered}
 use Rattle.field_host.specs.HostLists.{HostCall, opens_with, steps_by, drops_all, call_of, Station, answer_of, on_station, engine_at}
 use Rattle.field_host.proofs.RecordBack.{record_back}
 use Rattle.field_host.proofs.Unread.{no_flag}
@@ -84,6 +102,20 @@ decoded_long c = by (fits c.words)
 no_record_codable : Codable no_record.job.input
 no_record_codable = record { inner = omega arith; leaf = omega arith; count = omega arith; long = none_long }
 
+-- a cause is that of its number
+cause_back : (cause : Cause) → answer_of (number_of cause) ≡ Err cause
+cause_back Bounds = refl
+cause_back BlockSize = refl
+cause_back BandLimit = refl
+cause_back Parts = refl
+cause_back Nodes = refl
+cause_back TooShort = refl
+cause_back NoJob = refl
+cause_back ImpossibleRecord = refl
+cause_back Dimensions = refl
+cause_back Outside = refl
+cause_back Walk = refl
+
 -- ---- one call
 
 module _ (s : Station) where
@@ -98,38 +130,38 @@ module _ (s : Station) where
 
   -- of what a call hands back: its number is its answer, and the arrays read as its record
   record HandedOn (h : Reply Engine) : Type 0 where
-    answer : answer_of (answer_number h.answer) ≡ h.answer
+    answer : answer_of (outcome_number h.answer) ≡ h.answer
     next : decoded (carried_after h.answer h.next.job_record old) ≡ h.next.job_record
 
-  refused_on : (n : ℕ) → HandedOn (refused_by (suc n) found m)
-  unfolding answer_number left_by
-  refused_on n = record { answer = refl; next = refl }
+  refused_on : (cause : Cause) → HandedOn (refused_by cause found m)
+  unfolding left_by
+  refused_on cause = record { answer = cause_back cause; next = refl }
 
   accepted_on : (e : Engine) → Codable e.job_record.job.input → HandedOn (accepted_with e)
-  unfolding answer_number left_by
+  unfolding left_by
   accepted_on e c = record { answer = refl; next = back e.job_record c }
 
   open_on : (i : Input) → length i.model.parts ≡ 64 → HandedOn (called (opens i) found m)
   unfolding engine_call engine_open advanced
   open_on i long = by (sparse.answer (lengths_of m) i) refl
     where
-      by : (n : ℕ) → sparse.answer (lengths_of m) i ≡ n → HandedOn (engine_open sparse i (engine_at s) n)
-      by zero none = accepted_on (opened_engine sparse i (lengths_of m)) (no_cause_codable i (lengths_of m) none long)
-      by (suc n) some = refused_on n
+      by : (a : Answer) → sparse.answer (lengths_of m) i ≡ a → HandedOn (engine_open sparse i (engine_at s) a)
+      by (Ok u) none = accepted_on (opened_engine sparse i (lengths_of m)) (no_cause_codable i (lengths_of m) none long)
+      by (Err cause) some = refused_on cause
 
   step_on : (n : ℕ) → HandedOn (called (steps n) found m)
   unfolding advanced
   step_on n = by found.opened refl
     where
       judged : (b : Bool) → found.opened ≡ true → impossible sparse found.job m ≡ b → HandedOn (called (steps n) found m)
-      judged true flag e = subst HandedOn (sym (step_impossible n found m flag e)) (refused_on 7)
+      judged true flag e = subst HandedOn (sym (step_impossible n found m flag e)) (refused_on ImpossibleRecord)
       judged false flag e =
           subst HandedOn (sym (step_accepted n found m flag e))
-          (accepted_on _ (no_cause_codable found.job.input (lengths_of m) (possible sparse found.job m e).no_cause (decoded_long old)))
+          (accepted_on _ (no_cause_codable found.job.input (lengths_of m) (possible sparse found.job m e).accepted (decoded_long old)))
 
       by : (b : Bool) → found.opened ≡ b → HandedOn (called (steps n) found m)
       by true flag = judged (impossible sparse found.job m) flag refl
-      by false flag = subst HandedOn (sym (step_none n found m flag)) (refused_on 6)
+      by false flag = subst HandedOn (sym (step_none n found m flag)) (refused_on NoJob)
 
   handed_on : (c : HostCall) → HandedOn (called (call_of c) found m)
   handed_on (opens_with settings inner leaf l count) =
@@ -153,7 +185,7 @@ pub host_dropped : HostDropLeavesZeros
 host_dropped cs s none =
     implements_drop sparse HostCall Station call_of engine_at on_station host_implemented sparse_laws s (no_flag s.carried none) cs drops_all refl
 
-elements : (cs : List HostCall) (s : Station) → NoJob s → (i : Input) (n : ℕ) → budget_sum sparse (lengths_of s.memory) (map call_of cs) no_entry ≡ entry i n
+elements : (cs : List HostCall) (s : Station) → demand.NoJob s → (i : Input) (n : ℕ) → budget_sum sparse (lengths_of s.memory) (map call_of cs) no_entry ≡ entry i n
     → (run on_station cs s).last.memory ≡ (state_at (plan_of i) (lengths_of s.memory) n).memory
 elements cs s none = implements_elements sparse HostCall Station call_of engine_at on_station host_implemented sparse_laws s (no_flag s.carried none) cs
 

@@ -29,7 +29,7 @@ use Rattle.sparse_field.proofs.Opening.{nothing}
 use Rattle.sparse_field.proofs.CallLaws.{step_none, step_impossible}
 use Rattle.field_host.specs.Given.{no_part, part_coded, part_given, component_given, model_given}
 use Rattle.field_host.specs.Carried.{Carried, input_in, fits, flagged, record_given, unread, decoded}
-use Rattle.field_host.specs.Hosted.{answer_number, left_by, hosted_by, hosted}
+use Rattle.field_host.specs.Hosted.{left_by, hosted_by, hosted}
 
 -- ---- a code that does not exist
 
@@ -63,7 +63,7 @@ no_flag c none = by (fits c.words)
 -- a step refuses them by 7, and changes nothing
 pub no_job_refused : (c : Carried) (m : Memory) → get_or c.words 0 0 ≡ 0 → (budget : ℕ)
     → hosted (steps budget) c m ≡ record { number = 7; carried = c; memory = m }
-unfolding hosted answer_number left_by
+unfolding hosted left_by
 no_job_refused c m none budget = ap (λ h. hosted_by h c) (step_none budget (decoded c) m (no_flag c none))
 
 -- ---- words that no record has
@@ -81,11 +81,11 @@ module _ (c : Carried) (m : Memory) (misfit : fits c.words ≡ false) (flag : fl
       by : (b : Bool) → impossible sparse (unread true).job m ≡ b → impossible sparse (unread true).job m ≡ true
       by true e = e
       by false e =
-          let block : true ≡ false = (nothing (unread true).job.input (lengths_of m) (possible sparse (unread true).job m e).no_cause).two in
+          let block : true ≡ false = (nothing (unread true).job.input (lengths_of m) (possible sparse (unread true).job m e).accepted).two in
           e ∙ sym block
 
   -- a step refuses it by 8, and changes nothing
   pub unread_refused : (budget : ℕ) → hosted (steps budget) c m ≡ record { number = 8; carried = c; memory = m }
-  unfolding hosted answer_number left_by
+  unfolding hosted left_by
   unread_refused budget =
       ap (λ r. hosted_by (called (steps budget) r m) c) reads ∙ ap (λ h. hosted_by h c) (step_impossible budget (unread true) m refl never)

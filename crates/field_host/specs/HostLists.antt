@@ -1,10 +1,22 @@
 -- Whole lists of calls as a host makes them, on a record's arrays and the lent memory.
-use Rattle.std.specs.Prelude.{ℕ, zero, suc, List, Float}
+use Rattle.std.specs.Prelude.{ℕ, zero, suc, List, [], ◌∷◌, get_or, Float, Ok, Err}
 use Rattle.model.specs.Flat.{Flat}
 use Rattle.schedule.specs.Memory.{Memory}
-use Rattle.schedule.specs.Calls.{Call, opens, steps, drops, Reply}
-use Rattle.schedule.specs.declared.Answer.{Answer}
-use Rattle.schedule.specs.declared.Answer.TheVariants.{Accepted, Refused}
+use Rattle.schedule.specs.Calls.{Call, opens, steps, drops, Answer, Reply}
+use Rattle.causes.specs.declared.Cause.{Cause}
+use Rattle.causes.specs.declared.Cause.TheVariants.{
+  Bounds,
+  BlockSize,
+  BandLimit,
+  Parts,
+  Nodes,
+  TooShort,
+  NoJob,
+  ImpossibleRecord,
+  Dimensions,
+  Outside,
+  Walk,
+}
 use Rattle.schedule.specs.Engine.{Engine}
 use Rattle.field_host.specs.Given.{input_given}
 use Rattle.field_host.specs.Carried.{Carried, decoded}
@@ -27,10 +39,14 @@ pub record Station : Type 0 where
   pub carried : Carried
   pub memory : Memory
 
+-- the causes, in the order of their numbers from 1 on
+abbrev pub causes : List Cause
+causes = Bounds ∷ BlockSize ∷ BandLimit ∷ Parts ∷ Nodes ∷ TooShort ∷ NoJob ∷ ImpossibleRecord ∷ Dimensions ∷ Outside ∷ Walk ∷ []
+
 -- the answer of a number: 0 is that the call was accepted
 abbrev pub answer_of : ℕ → Answer
-answer_of zero = Accepted
-answer_of (suc n) = Refused (suc n)
+answer_of zero = Ok tt
+answer_of (suc n) = Err (get_or causes n Walk)
 
 -- one call: what the contracts of the C functions say
 abbrev pub on_station : HostCall → Station → Reply Station

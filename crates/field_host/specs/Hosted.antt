@@ -1,24 +1,18 @@
 -- What open, step and drop answer and leave in a record's arrays and in the lent slices, for every contents of both.
-use Rattle.std.specs.Prelude.{ℕ, cond, List, [], ◌∷◌, eqb, get_or}
+use Rattle.std.specs.Prelude.{ℕ, cond, List, [], ◌∷◌, eqb, get_or, Ok, Err}
 use Rattle.schedule.specs.Memory.{Memory}
 use Rattle.schedule.specs.declared.Counts.{Counts}
-use Rattle.schedule.specs.declared.Answer.{Answer}
-use Rattle.schedule.specs.declared.Answer.TheVariants.{Accepted, Refused}
 use Rattle.schedule.specs.declared.Record.{Record}
-use Rattle.schedule.specs.Calls.{Call, Reply}
+use Rattle.schedule.specs.Calls.{Call, Answer, Reply}
 use Rattle.schedule.specs.Engine.{Engine}
 use Rattle.sparse_field.specs.Calls.{called}
+use Rattle.field_host.specs.Answers.{outcome_number}
 use Rattle.field_host.specs.Carried.{Carried, encoded, fits, decoded}
-
--- the number of an answer, 0 for an accepted call
-unfoldable pub answer_number : Answer → ℕ
-answer_number Accepted = 0
-answer_number (Refused number) = number
 
 -- the arrays after a call: an accepted one writes its record, a refused one leaves them as they were (rule R14)
 unfoldable pub left_by : Answer → (next old : Carried) → Carried
-left_by Accepted next old = next
-left_by (Refused number) next old = old
+left_by (Ok u) next old = next
+left_by (Err cause) next old = old
 
 abbrev pub carried_after : Answer → Record → Carried → Carried
 carried_after a r old = left_by a (encoded r) old
@@ -31,7 +25,7 @@ pub record Hosted : Type 0 where
 
 abbrev pub hosted_by : Reply Engine → Carried → Hosted
 hosted_by h old =
-    record { number = answer_number h.answer; carried = carried_after h.answer h.next.job_record old; memory = h.next.memory }
+    record { number = outcome_number h.answer; carried = carried_after h.answer h.next.job_record old; memory = h.next.memory }
 
 -- the engine's call on the record that the arrays read as (rule R15)
 unfoldable pub hosted : Call → Carried → Memory → Hosted

@@ -6,14 +6,15 @@ ghost use Rattle.schedule.specs.Calls.{opens, steps, drops};
 ghost use Rattle.schedule.specs.Lent.{memory_of};
 ghost use Rattle.field_host.specs.Given.{input_lent};
 ghost use Rattle.field_host.specs.Carried.{carried_of};
-ghost use Rattle.field_host.specs.Hosted.{answer_number, carried_after, hosted};
+ghost use Rattle.field_host.specs.Answers.{outcome_number};
+ghost use Rattle.field_host.specs.Hosted.{carried_after, hosted};
 
 use crate::given::input_given;
-use crate::record;
-use schedule::Answer;
+use crate::{answers, record};
 use sparse_field::Outcome;
 
 // Writes the record that an accepted call hands back, and answers the call's number.
+#[tactic(auto, unfolding(crate::specs::Hosted::left_by))]
 fn hand_back(
     outcome: Outcome,
     words: &mut [u64; 18],
@@ -21,23 +22,20 @@ fn hand_back(
     settings: &mut [f64; 9],
     reals: &mut [f64; 256],
 ) -> u32
-    ensures answer { result ≡ answer_number outcome.answer }
+    ensures answer { result ≡ outcome_number outcome.answer }
     ensures carried { carried_of words.new parts.new settings.new reals.new
         ≡ carried_after outcome.answer outcome.next
         (carried_of words.old parts.old settings.old reals.old) }
 {
-    let answer = outcome.answer;
-    match answer {
-        Answer::Accepted => {
-            record::encode(outcome.next, words, parts, settings, reals);
-            0
-        }
-        Answer::Refused(number) => number,
+    if outcome.answer.is_ok() {
+        record::encode(&outcome.next, words, parts, settings, reals);
     }
+    answers::number(outcome.answer)
 }
 
 // Opens a job, in place of the one that the record has. The settings are the bounds' least end and
 // their most, the cell's size, and the band.
+#[tactic(auto, unfolding(crate::specs::Hosted::hosted))]
 pub fn jisampode_open(
     settings: &[f64; 9],
     inner: u32,
@@ -81,6 +79,7 @@ pub fn jisampode_open(
 }
 
 // Makes as many evaluations as the budget allows and the job has left.
+#[tactic(auto, unfolding(crate::specs::Hosted::hosted))]
 pub fn jisampode_step(
     budget: u64,
     record_words: &mut [u64; 18],
@@ -118,6 +117,7 @@ pub fn jisampode_step(
 }
 
 // Ends the job, if there is one, and zeroes all five slices.
+#[tactic(auto, unfolding(crate::specs::Hosted::hosted))]
 pub fn jisampode_drop(
     record_words: &mut [u64; 18],
     record_parts: &mut [u32; 192],

@@ -1,23 +1,9 @@
 // The corners that a node's active children need.
 ghost use Rattle.std.specs.Prelude.{◌≡◌, length};
 ghost use Rattle.grid.specs.CornerList.{corner_list_of, HoldsCorners};
-ghost use Rattle.field_host.specs.Answers.{corners_number, corners_count};
+ghost use Rattle.field_host.specs.Answers.{outcome_number, corners_count};
 
-use grid::CornerList;
-
-// Writes the count of an answer, where it has one, and answers its number.
-fn put_count(answer: CornerList, count: &mut [usize; 1]) -> u32
-    ensures answer { result ≡ corners_number answer }
-    ensures count { count.new ≡ corners_count count.old answer }
-{
-    match answer {
-        CornerList::Count(n) => {
-            *count = [n];
-            0
-        }
-        CornerList::Refused(cause) => cause,
-    }
-}
+use crate::answers;
 
 // Writes each needed corner of a node once, in no promised order, zeroes the rest of the list, and
 // counts them. A kind that is not 0 is an active child. Refused by 2, then 6.
@@ -27,10 +13,14 @@ pub fn jisampode_corner_list(
     list: &mut [u32],
     count: &mut [usize; 1],
 ) -> u32
-    ensures answer { result ≡ corners_number (corner_list_of inner kinds.now (length list.old)) }
+    ensures answer { result ≡ outcome_number (corner_list_of inner kinds.now (length list.old)) }
     ensures list { HoldsCorners (corner_list_of inner kinds.now (length list.old)) inner kinds.now
         list.old list.new }
     ensures count { count.new ≡ corners_count count.old (corner_list_of inner kinds.now (length list.old)) }
 {
-    put_count(grid::corner_list(inner, kinds, list), count)
+    let listed = grid::corner_list(inner, kinds, list);
+    if let Ok(corners) = listed {
+        *count = [corners];
+    }
+    answers::number(listed)
 }

@@ -84,10 +84,8 @@ pub fn model_given(parts: &[u32; 192], reals: &[f64; 256], count: u32) -> Implic
         part: Part::Constant(0.0),
     };
     let mut all = [none; 64];
-    let mut p: usize = 0;
-    while p < 64 {
+    for p in 0..64 {
         all[p] = component_given(parts, reals, p);
-        p += 1;
     }
     ImplicitModel { parts: all, count }
 }

@@ -2,14 +2,15 @@
 ghost use Rattle.std.specs.Prelude.{◌≡◌};
 ghost use Rattle.field_host.specs.Given.{input_lent};
 ghost use Rattle.field_host.specs.Needed.{any_refusal, lengths_left};
-ghost use Rattle.input.specs.Causes.{number_of};
+ghost use Rattle.field_host.specs.Answers.{outcome_number};
 
 use crate::given::input_given;
-use input::{Input, Lengths, Refusal};
+use causes::Cause;
+use input::{Input, Lengths};
 
 // The cause that an open of the input meets on the longest slices.
-fn any_refusal(input: Input) -> Refusal
-    ensures { result ≡ any_refusal input }
+fn any_refusal(input: &Input) -> Result<(), Cause>
+    ensures { result ≡ any_refusal input.now }
 {
     let most = 18446744073709551615;
     let longest = Lengths {
@@ -24,6 +25,7 @@ fn any_refusal(input: Input) -> Refusal
 
 // Writes the lengths of kinds, numbers, places, store and corners that an open of this input needs.
 // Refused by the causes 1 to 5 of an open.
+#[tactic(auto, unfolding(crate::specs::Needed::lengths_left))]
 pub fn jisampode_lengths(
     settings: &[f64; 9],
     inner: u32,
@@ -33,15 +35,14 @@ pub fn jisampode_lengths(
     count: u32,
     lengths: &mut [usize; 5],
 ) -> u32
-    ensures answer { result ≡ number_of (any_refusal (input_lent settings inner leaf parts reals count)) }
+    ensures answer { result ≡ outcome_number (any_refusal (input_lent settings inner leaf parts reals count)) }
     ensures lengths { lengths.new
         ≡ lengths_left lengths.old (any_refusal (input_lent settings inner leaf parts reals count))
         (input_lent settings inner leaf parts reals count).grid }
 {
     let input = input_given(settings, inner, leaf, parts, reals, count);
-    let refusal = any_refusal(input);
-    if let Refusal::By(number) = refusal {
-        return number;
+    if let Err(cause) = any_refusal(&input) {
+        return cause.number();
     }
     let l = input::needed_lengths(input.grid);
     *lengths = [l.kinds, l.numbers, l.places, l.store, l.corners];

@@ -13,22 +13,15 @@ use schedule::{Counts, Cursor, Job, Record};
 
 // Whether the words are those of some record: a flag of 0 or 1, block sizes and a count of 32 bits, one
 // of three cursors.
+#[tactic(auto, unfolding(crate::specs::Carried::fits))]
 pub fn words_fit(words: &[u64; 18]) -> bool
     ensures { result ≡ fits words.now }
 {
-    if words[0] > 1 {
-        return false;
-    }
-    if words[1] > 4294967295 {
-        return false;
-    }
-    if words[2] > 4294967295 {
-        return false;
-    }
-    if words[3] > 4294967295 {
-        return false;
-    }
-    words[14] < 3
+    words[0] < 2
+        && words[1] < 4294967296
+        && words[2] < 4294967296
+        && words[3] < 4294967296
+        && words[14] < 3
 }
 
 // The slice lengths in the words.
@@ -164,6 +157,7 @@ pub fn cursor_words(cursor: Cursor) -> CursorWords
     }
 }
 
+#[tactic(auto, unfolding(crate::specs::Carried::flag_word))]
 fn flag_word(opened: bool) -> u64
     ensures { result ≡ flag_word opened }
 {
@@ -219,17 +213,16 @@ fn put_settings(input: Input, settings: &mut [f64; 9])
 
 // Writes a record.
 pub fn encode(
-    r: Record,
+    r: &Record,
     words: &mut [u64; 18],
     parts: &mut [u32; 192],
     settings: &mut [f64; 9],
     reals: &mut [f64; 256],
 )
-    ensures { carried_of words.new parts.new settings.new reals.new ≡ encoded r }
+    ensures { carried_of words.new parts.new settings.new reals.new ≡ encoded r.now }
 {
-    let job = r.job;
-    let input = job.input;
-    put_words(r, words);
+    let input = r.job.input;
+    put_words(*r, words);
     put_settings(input, settings);
-    model::lay_out(input.model, parts, reals);
+    model::lay_out(&input.model, parts, reals);
 }

@@ -1,7 +1,5 @@
--- `given::model_given` meets its contract: the places passed so far hold their parts.
-use mathlib.Core.Path.{◌≡◌}
-use Prim.Native.Nat.{◌-◌, ◌≤◌}
-use lib.ListN.{replicate}
+-- The places passed so far hold their parts.
+use Rattle.std.proofs.Common.{◌≡◌, replicate}
 use Rattle.lists.specs.Filled.{filled}
 use Rattle.float.specs.Zero.{plus_zero}
 use Rattle.model.specs.declared.ModelComponent.{ModelComponent}
@@ -15,8 +13,4 @@ abbrev pub none : ModelComponent
 none = record { part = Constant plus_zero }
 
 abbrev pub invariant-loop-p : goal.invariant-loop-p
-invariant-loop-p l =
-    (l.p ≤ 64) × (l.all ≡ filled 0 l.p (component_given (flat_of l.parts l.reals)) (replicate 64 none))
-
-abbrev pub decreases-loop-p : goal.decreases-loop-p
-decreases-loop-p l = 64 - l.p
+invariant-loop-p l = l.all ≡ filled 0 l.p (component_given (flat_of l.parts l.reals)) (replicate 64 none)
