@@ -91,6 +91,8 @@ fn walk_cell(bounds: BoundingBox, n: Vec3i, cursor: Vec3i) -> BoundingBox
 
 // The point at the cursor and the next cursor, or none past the last point. There are n.i by n.j by
 // n.k points.
+// Kept: `cell_step` differs in its least count and in what stands at a cursor, and each says both in
+// its one line.
 pub fn point_step(bounds: BoundingBox, n: Vec3i, cursor: Vec3i) -> Result<Option<Step<Vec3>>, Cause>
     ensures { result ≡ point_step bounds n cursor }
 {
