@@ -1,7 +1,7 @@
 -- A cursor that cause 11 does not refuse stands in the grid, which has so many places at least.
 use Rattle.std.proofs.Common.{sym, ◌∙◌, arith}
 use Rattle.dense_field.proofs.WalkLaws.{walk_passed}
-use Rattle.dense_field.proofs.walks.next_place.Goals as goal
+use Rattle.dense_field.proofs.walks.Walk.next_place.Goals as goal
 
 pub next_indices-requires : goal.next_indices-requires
 next_indices-requires c =
