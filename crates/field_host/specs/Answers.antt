@@ -7,10 +7,8 @@ use Rattle.geometry.specs.declared.Vec3.{Vec3}
 use Rattle.geometry.specs.declared.Vec3i.{Vec3i}
 use Rattle.geometry.specs.declared.BoundingBox.{BoundingBox}
 use Rattle.dense_field.specs.declared.Step.{Step}
-use Rattle.grid.specs.declared.CornerList.{CornerList}
-use Rattle.grid.specs.declared.CornerList.TheVariants as corners
-use Rattle.listing.specs.declared.Listing.{Listing}
-use Rattle.listing.specs.declared.Listing.TheVariants as listing
+use Rattle.listing.specs.declared.Unlisted.{Unlisted}
+use Rattle.listing.specs.Unlisted as unlisted
 
 abbrev pub coordinates : Vec3 → List Float
 coordinates p = p.x ∷ p.y ∷ p.z ∷ []
@@ -47,23 +45,16 @@ step_left numbers old (Ok (Some step)) = numbers step.found
 step_left numbers old (Ok None) = old
 step_left numbers old (Err cause) = old
 
--- a corner list, and the count
-unfoldable pub corners_number : CornerList → ℕ
-corners_number (corners.Count n) = 0
-corners_number (corners.Refused number) = number
+-- the count that a corner list leaves, or the old one on a refusal (rule C54)
+abbrev pub corners_count : List ℕ → Result ℕ Cause → List ℕ
+corners_count old (Ok n) = n ∷ []
+corners_count old (Err cause) = old
 
--- the count that it leaves, or the old one on a refusal (rule C54)
-unfoldable pub corners_count : List ℕ → CornerList → List ℕ
-corners_count old (corners.Count n) = n ∷ []
-corners_count old (corners.Refused number) = old
+-- a listing, and its length
+unfoldable pub listing_number : Result ℕ Unlisted → ℕ
+listing_number (Ok n) = 0
+listing_number (Err why) = unlisted.number_of why
 
--- a listing, and its length. `list_job` never answers that a job is not printable
-unfoldable pub listing_number : Listing → ℕ
-listing_number (listing.Bytes n) = 0
-listing_number (listing.Refused number) = number
-listing_number listing.NotPrintable = 8
-
-unfoldable pub listing_length : List ℕ → Listing → List ℕ
-listing_length old (listing.Bytes n) = n ∷ []
-listing_length old (listing.Refused number) = old
-listing_length old listing.NotPrintable = old
+unfoldable pub listing_length : List ℕ → Result ℕ Unlisted → List ℕ
+listing_length old (Ok n) = n ∷ []
+listing_length old (Err why) = old

@@ -4,20 +4,20 @@ ghost use Rattle.listing.specs.Listed.{listed};
 ghost use Rattle.listing.specs.Written.{put_answer, put_bytes};
 ghost use Rattle.field_host.specs.Answers.{listing_number, listing_length};
 
-use listing::Listing;
+use listing::Unlisted;
 
 // Writes the length of a listing, where there is one, and answers its number.
-fn put_length(answer: Listing, written: &mut [usize; 1]) -> u32
+#[tactic(auto, unfolding(crate::specs::Answers::listing_number, crate::specs::Answers::listing_length))]
+fn put_length(answer: Result<usize, Unlisted>, written: &mut [usize; 1]) -> u32
     ensures answer { result ≡ listing_number answer }
     ensures written { written.new ≡ listing_length written.old answer }
 {
     match answer {
-        Listing::Bytes(end) => {
+        Ok(end) => {
             *written = [end];
             0
         }
-        Listing::Refused(cause) => cause,
-        Listing::NotPrintable => 8,
+        Err(unlisted) => unlisted.into(),
     }
 }
 

@@ -8,12 +8,12 @@ use arrayvec::ArrayString;
 use std::fmt::Write;
 use std::io::{self, Print};
 
-// Room for a text: its first 5,148 bytes decide.
+// Room for a text: its first 5,148 bytes decide. Kept: the program's memory is fixed.
 fn text_room() -> [u8; 5148] {
     [0; 5148]
 }
 
-// Room for every listing.
+// Room for every listing. Kept: the program's memory is fixed.
 fn listing_room() -> [u8; 88176] {
     [0; 88176]
 }

@@ -7,29 +7,29 @@ use native.Mathlib.Omega.{arith}
 use mathlib.Core.List.{[], ◌∷◌, ◌++◌}
 use borrow.Author.Tests.{lt-ltb, le-ltb, le-leb, lt-leb}
 use lib.ListN.{length, length-append}
-use Rattle.forms.specs.Digits.{digit_byte, digit_of, digits, decimal_count, decimal_of}
+use Rattle.forms.specs.Digits.{digit_byte, digit_value, digit_of, digits, decimal_count, decimal_of}
 use Rattle.forms.proofs.Cases.{below_or}
 
 -- ---- a digit and its byte
 
 pub digit_below : (b : ℕ) → b < 48 → digit_of b ≡ 16
-unfolding digit_of
+unfolding digit_of digit_value
 digit_below b low = simp (lt-leb 48 b low, lt-leb 97 b (omega arith))
 
 pub digit_number : (b : ℕ) → 48 ≤ b → b ≤ 57 → digit_of b ≡ b - 48
-unfolding digit_of
+unfolding digit_of digit_value
 digit_number b low high = simp (le-leb 48 b low, le-leb b 57 high)
 
 pub digit_between : (b : ℕ) → 57 < b → b < 97 → digit_of b ≡ 16
-unfolding digit_of
+unfolding digit_of digit_value
 digit_between b low high = simp (le-leb 48 b (omega arith), lt-leb b 57 low, lt-leb 97 b high)
 
 pub digit_letter : (b : ℕ) → 97 ≤ b → b ≤ 102 → digit_of b ≡ b - 87
-unfolding digit_of
+unfolding digit_of digit_value
 digit_letter b low high = simp (le-leb 48 b (omega arith), lt-leb b 57 (omega arith), le-leb 97 b low, le-leb b 102 high)
 
 pub digit_above : (b : ℕ) → 102 < b → digit_of b ≡ 16
-unfolding digit_of
+unfolding digit_of digit_value
 digit_above b low = simp (le-leb 48 b (omega arith), lt-leb b 57 (omega arith), le-leb 97 b (omega arith), lt-leb b 102 low)
 
 pub byte_number : (d : ℕ) → d < 10 → digit_byte d ≡ 48 + d

@@ -1,19 +1,23 @@
 -- One turn of each loop over a form: what is left after it gives what was left before it.
 use mathlib.Core.Path.{◌≡◌, refl, sym, ap, ◌∙◌}
-use Prim.Native.Nat.{ℕ, zero, suc, ◌+◌, ◌-◌, ◌≤◌, ◌<◌}
+use Prim.Native.Nat.{ℕ, zero, suc, ◌+◌, ◌-◌, ◌*◌, ◌≤◌, ◌<◌}
 use native.Mathlib.Nat.{add-zero}
 use native.Mathlib.Numerals.{add-one}
 use native.Mathlib.Omega.{arith}
-use mathlib.Core.Bool.{Bool, true, false, cond}
+use mathlib.Core.Bool.{true, false, cond}
 use mathlib.Core.List.{List, [], ◌∷◌, ◌++◌, map, append_assoc, append-nil}
-use lib.ListN.{length, get_or, take, drop, set, replicate, length-append, length-set}
-use lib.Seq.{sets, get_or-drop, drop-drop, take-suc-set, drop-set-lt}
+use lib.ListN.{length, get_or, take, drop, set, replicate, length-append, length-set, length-replicate}
+use lib.Seq.{drop-cons, drop-length, drop-drop, take-suc-set, drop-set-lt}
+use Rattle.std.specs.Prelude.{unwrap_or, slice_get}
 use Rattle.forms.specs.Fronts as fronts
 use Rattle.forms.specs.Forms.{Piece, piece_of, is_field, spell_piece, after, spell, fields, Line, off, line, read_piece, with_number, on_front, read_form}
-use Rattle.forms.specs.declared.End.TheVariants.{At}
-use Rattle.forms.specs.Inner.Places.{ReadsTo}
-use Rattle.forms.proofs.Stores.{sets_append}
-use Rattle.forms.proofs.Turns.{drop_here, drop_end}
+use Rattle.forms.proofs.Pieces.{piece_widest}
+
+pub drop_here : (text : List ℕ) (place : ℕ) → place < length text → drop place text ≡ get_or text place 0 ∷ drop (place + 1) text
+drop_here text place inside = rw (add-one place) (drop-cons text place 0 inside)
+
+pub drop_end : (text : List ℕ) (place : ℕ) → place ≤ length text → length text ≤ place → drop place text ≡ []
+drop_end text place within past = let all : place ≡ length text = omega arith in rw all (drop-length text)
 
 -- the pieces of a form from a place on
 abbrev pub pieces_from : List ℕ → ℕ → List Piece
@@ -27,55 +31,32 @@ pieces_done form i within past = ap (map piece_of) (drop_end form i within past)
 
 -- ---- writing
 
--- the bytes of a form from a place on, with the numbers from a place on
-abbrev pub spell_from : (form numbers : List ℕ) → (i count : ℕ) → List ℕ
-spell_from form numbers i count = spell (pieces_from form i) (drop count numbers)
-
-after_drop :
-    (b : Bool) (numbers : List ℕ) (count next : ℕ) → next ≡ cond b (count + 1) count
-    → cond b (drop 1 (drop count numbers)) (drop count numbers) ≡ drop next numbers
-after_drop true numbers count next is = rw is (drop-drop 1 count numbers)
-after_drop false numbers count next is = rw is
-
-spell_turn :
-    (form numbers : List ℕ) (i count next x : ℕ) → i < length form → x ≡ get_or numbers count 0
-    → next ≡ cond (is_field (piece_of (get_or form i 0))) (count + 1) count
-    → spell_from form numbers i count ≡ spell_piece (piece_of (get_or form i 0)) x ++ spell_from form numbers (i + 1) next
-unfolding spell after
-spell_turn form numbers i count next x more is goes =
-    let first : get_or (drop count numbers) 0 0 ≡ x = get_or-drop count numbers 0 0 ∙ ap (λ (n : ℕ). get_or numbers n 0) (add-zero count) ∙ sym is in
-    rw (pieces_turn form i more, first, after_drop (is_field (piece_of (get_or form i 0))) numbers count next goes)
-
-module _ (form numbers : List ℕ) (i count x : ℕ) (more : i < length form) (is : x ≡ get_or numbers count 0) where
-  pub length_turn : (next : ℕ) → next ≡ cond (is_field (piece_of (get_or form i 0))) (count + 1) count
-      → length (spell_from form numbers i count) ≡ length (spell_piece (piece_of (get_or form i 0)) x) + length (spell_from form numbers (i + 1) next)
-  length_turn next goes =
-      ap length (spell_turn form numbers i count next x more is goes)
-      ∙ length-append (spell_piece (piece_of (get_or form i 0)) x) (spell_from form numbers (i + 1) next)
-
-  pub piece_within : length (spell_piece (piece_of (get_or form i 0)) x) ≤ length (spell_from form numbers i count)
-  piece_within = omega (arith, length_turn (cond (is_field (piece_of (get_or form i 0))) (count + 1) count) refl)
-
-  pub stores_turn : (next : ℕ) → next ≡ cond (is_field (piece_of (get_or form i 0))) (count + 1) count
-      → (out out' : List ℕ) (place place' : ℕ)
-      → out' ≡ sets out place (spell_piece (piece_of (get_or form i 0)) x)
-      → place' ≡ place + length (spell_piece (piece_of (get_or form i 0)) x)
-      → sets out' place' (spell_from form numbers (i + 1) next) ≡ sets out place (spell_from form numbers i count)
-  stores_turn next goes out out' place place' stored ended =
-      rw (stored, ended, spell_turn form numbers i count next x more is goes)
-      (sets_append out place (spell_piece (piece_of (get_or form i 0)) x) (spell_from form numbers (i + 1) next))
-
--- there are no more numbers than pieces
-pub count_goes : (piece count next i : ℕ) → next ≡ cond (is_field (piece_of piece)) (count + 1) count → count ≤ i → next ≤ i + 1
-count_goes piece count next i goes most = by (is_field (piece_of piece)) goes
-  where
-    by : (b : Bool) → next ≡ cond b (count + 1) count → next ≤ i + 1
-    by true goes = omega arith
-    by false goes = omega arith
-
-pub spell_done : (form numbers : List ℕ) (i count : ℕ) → i ≤ length form → length form ≤ i → spell_from form numbers i count ≡ []
+pub spell_turn :
+    (form xs : List ℕ) (i : ℕ) → i < length form → (p : Piece) → p ≡ piece_of (get_or form i 0) → (x : ℕ) → x ≡ get_or xs 0 0
+    → (ys : List ℕ) → ys ≡ after p xs
+    → spell (pieces_from form i) xs ≡ spell_piece p x ++ spell (pieces_from form (i + 1)) ys
 unfolding spell
-spell_done form numbers i count within past = rw (pieces_done form i within past)
+spell_turn form xs i more p piece x number ys left = rw (pieces_turn form i more, number, left, piece)
+
+pub spell_done : (form xs : List ℕ) (i : ℕ) → i ≤ length form → length form ≤ i → spell (pieces_from form i) xs ≡ []
+unfolding spell
+spell_done form xs i within past = rw (pieces_done form i within past)
+
+pub first_number : (xs : List ℕ) → unwrap_or (slice_get xs 0) 0 ≡ get_or xs 0 0
+first_number [] = refl
+first_number (x ∷ xs) = refl
+
+-- a piece has at most 20 bytes
+pub spell_most : (form : List Piece) (xs : List ℕ) → length (spell form xs) ≤ 20 * length form
+unfolding spell
+spell_most [] xs = omega arith
+spell_most (p ∷ form) xs =
+    omega (
+      arith,
+      length-append (spell_piece p (get_or xs 0 0)) (spell form (after p xs)),
+      piece_widest p (get_or xs 0 0),
+      spell_most form (after p xs),
+    )
 
 -- ---- reading
 
@@ -100,98 +81,83 @@ without x off = refl
 without x (line xs t) = refl
 
 -- with the numbers kept so far, what is left to read gives what the whole gives
-pub record Kept (limit : ℕ) (text form : List ℕ) (at place i count : ℕ) (values : List ℕ) : Type 0 where
-  pub whole : with_numbers (take count values) (read_form limit (pieces_from form i) (drop place text)) ≡ read_form limit (map piece_of form) (drop at text)
+pub record Kept (n limit : ℕ) (text form rest : List ℕ) (i count : ℕ) (numbers : List ℕ) : Type 0 where
+  pub whole : with_numbers (take count numbers) (read_form limit (pieces_from form i) rest) ≡ read_form limit (map piece_of form) text
   pub count_left : count + fields (pieces_from form i) ≡ fields (map piece_of form)
-  pub zeros : drop count values ≡ replicate (6 - count) 0
-  pub six : length values ≡ 6
-  pub within : place ≤ length text
-  pub inside : i ≤ length form
+  pub zeros : drop count numbers ≡ replicate (n - count) 0
+  pub size : length numbers ≡ n
 
-pub kept_first : (limit : ℕ) (text form : List ℕ) (at : ℕ) → at ≤ length text → Kept limit text form at at 0 0 (replicate 6 0)
-kept_first limit text form at within =
-    record {
-      whole = with_none (read_form limit (map piece_of form) (drop at text));
-      count_left = omega arith;
-      zeros = refl;
-      six = refl;
-      within = within;
-      inside = omega arith;
-    }
+pub kept_first : (n limit : ℕ) (text form : List ℕ) → Kept n limit text form text 0 0 (replicate n 0)
+kept_first n limit text form =
+    let all : n - 0 ≡ n = omega arith in
+    record { whole = with_none (read_form limit (map piece_of form) text); count_left = omega arith; zeros = rw all; size = length-replicate n 0 }
 
 drop_zeros : (n : ℕ) → drop {A = ℕ} 1 (replicate n 0) ≡ replicate (n - 1) 0
 drop_zeros zero = refl
 drop_zeros (suc n) = let less : suc n - 1 ≡ n = omega arith in rw less
 
--- a piece with a number takes one of those that are left
-fields_turn :
-    (form : List ℕ) (i : ℕ) → i < length form
-    → fields (pieces_from form i)
-    ≡ cond (is_field (piece_of (get_or form i 0))) (1 + fields (pieces_from form (i + 1))) (fields (pieces_from form (i + 1)))
-unfolding fields
-fields_turn form i more = rw (pieces_turn form i more)
+module _
+    {n limit : ℕ} {text form rest : List ℕ} {i count : ℕ} {numbers : List ℕ} (more : i < length form) (p : Piece) (piece : p ≡ piece_of (get_or form i 0))
+    (k : Kept n limit text form rest i count numbers) where
+  here : pieces_from form i ≡ p ∷ pieces_from form (i + 1)
+  here = rw piece (pieces_turn form i more)
+
+  -- a piece with a number takes one of those that are left
+  fields_turn : fields (pieces_from form i) ≡ cond (is_field p) (1 + fields (pieces_from form (i + 1))) (fields (pieces_from form (i + 1)))
+  unfolding fields
+  fields_turn = rw here
+
+  pub kept_room : fields (map piece_of form) ≤ n → is_field p ≡ true → count < n
+  kept_room few is = omega (arith, k.count_left, rw is at fields_turn)
+
+  pub kept_off : read_piece limit p rest ≡ fronts.off → off ≡ read_form limit (map piece_of form) text
+  unfolding read_form on_front with_numbers
+  kept_off none = rw (here, none) at k.whole
+
+  module _ (x : ℕ) (next : List ℕ) (read : read_piece limit p rest ≡ fronts.number x next) where
+    read_turn : read_form limit (pieces_from form i) rest ≡ with_number (is_field p) x (read_form limit (pieces_from form (i + 1)) next)
+    unfolding read_form on_front
+    read_turn = rw (here, read)
+
+    pub kept_number :
+        fields (map piece_of form) ≤ n → is_field p ≡ true
+        → Kept n limit text form next (i + 1) (count + 1) (set numbers count x)
+    kept_number few is =
+        let room : count < length numbers = omega (arith, kept_room few is, k.size) in
+        let first : take (count + 1) (set numbers count x) ≡ take count numbers ++ (x ∷ []) = rw (add-one count) (take-suc-set numbers count x room) in
+        let less : n - (count + 1) ≡ n - count - 1 = omega arith in
+        let left : Line = read_form limit (pieces_from form (i + 1)) next in
+        record {
+          whole = rw (first, with_last (take count numbers) x left) (ap (with_numbers (take count numbers)) (sym (rw is at read_turn)) ∙ k.whole);
+          count_left = omega (arith, k.count_left, rw is at fields_turn);
+          zeros = rw (drop-set-lt (count + 1) numbers count x (omega arith), less, ← drop-drop 1 count numbers, k.zeros) (drop_zeros (n - count));
+          size = length-set numbers count x ∙ k.size;
+        }
+
+    pub kept_byte : is_field p ≡ false → Kept n limit text form next (i + 1) count numbers
+    kept_byte is =
+        let left : Line = read_form limit (pieces_from form (i + 1)) next in
+        record {
+          whole = ap (with_numbers (take count numbers)) (sym (without x left) ∙ sym (rw is at read_turn)) ∙ k.whole;
+          count_left = omega (arith, k.count_left, rw is at fields_turn);
+          zeros = k.zeros;
+          size = k.size;
+        }
 
 module _
-    (limit : ℕ) (text form : List ℕ) (at place i count : ℕ) (values : List ℕ) (more : i < length form)
-    (k : Kept limit text form at place i count values) where
-  pub kept_room : fields (map piece_of form) ≤ 6 → is_field (piece_of (get_or form i 0)) ≡ true → count < 6
-  kept_room few is = omega (arith, k.count_left, rw is at (fields_turn form i more))
+    {n limit : ℕ} {text form rest : List ℕ} {i count : ℕ} {numbers : List ℕ} (within : i ≤ length form) (past : length form ≤ i)
+    (k : Kept n limit text form rest i count numbers) where
+  kept_all : fields (map piece_of form) ≡ count
+  unfolding fields
+  kept_all =
+      let none : pieces_from form i ≡ [] = pieces_done form i within past in
+      sym (rw none at k.count_left) ∙ add-zero count
 
-  pub kept_off : read_piece limit (piece_of (get_or form i 0)) (drop place text) ≡ fronts.off → read_form limit (map piece_of form) (drop at text) ≡ off
-  unfolding read_form on_front with_numbers
-  kept_off none = sym k.whole ∙ rw (pieces_turn form i more, none)
+  pub kept_line : line (take (fields (map piece_of form)) numbers) rest ≡ read_form limit (map piece_of form) text
+  unfolding read_form with_numbers
+  kept_line =
+      let none : pieces_from form i ≡ [] = pieces_done form i within past in
+      rw kept_all (rw (none, append-nil (take count numbers)) at k.whole)
 
-  module _ (x next : ℕ) (read : read_piece limit (piece_of (get_or form i 0)) (drop place text) ≡ fronts.number x (drop next text)) where
-    read_turn :
-        read_form limit (pieces_from form i) (drop place text)
-        ≡ with_number (is_field (piece_of (get_or form i 0))) x (read_form limit (pieces_from form (i + 1)) (drop next text))
-    unfolding read_form on_front
-    read_turn = rw (pieces_turn form i more, read)
-
-    module _ (few : fields (map piece_of form) ≤ 6) (within : next ≤ length text) where
-      kept_number : is_field (piece_of (get_or form i 0)) ≡ true → Kept limit text form at next (i + 1) (count + 1) (set values count x)
-      kept_number is =
-          let room : count < length values = omega (arith, kept_room few is, k.six) in
-          let first : take (count + 1) (set values count x) ≡ take count values ++ (x ∷ []) = rw (add-one count) (take-suc-set values count x room) in
-          let less : 6 - (count + 1) ≡ 6 - count - 1 = omega arith in
-          let rest : Line = read_form limit (pieces_from form (i + 1)) (drop next text) in
-          record {
-            whole = rw (first, with_last (take count values) x rest) (ap (with_numbers (take count values)) (sym (rw is at read_turn)) ∙ k.whole);
-            count_left = omega (arith, k.count_left, rw is at (fields_turn form i more));
-            zeros = rw (drop-set-lt (count + 1) values count x (omega arith), less, ← drop-drop 1 count values, k.zeros) (drop_zeros (6 - count));
-            six = length-set values count x ∙ k.six;
-            within = within;
-            inside = omega arith;
-          }
-
-      kept_byte : is_field (piece_of (get_or form i 0)) ≡ false → Kept limit text form at next (i + 1) count values
-      kept_byte is =
-          let rest : Line = read_form limit (pieces_from form (i + 1)) (drop next text) in
-          record {
-            whole = ap (with_numbers (take count values)) (sym (without x rest) ∙ sym (rw is at read_turn)) ∙ k.whole;
-            count_left = omega (arith, k.count_left, rw is at (fields_turn form i more));
-            zeros = k.zeros;
-            six = k.six;
-            within = within;
-            inside = omega arith;
-          }
-
-      pub kept_turn : (count' : ℕ) (values' : List ℕ)
-          → values' ≡ cond (is_field (piece_of (get_or form i 0))) (set values count x) values
-          → count' ≡ cond (is_field (piece_of (get_or form i 0))) (count + 1) count
-          → Kept limit text form at next (i + 1) count' values'
-      kept_turn count' values' stored goes = rw (stored, goes) (by (is_field (piece_of (get_or form i 0))) refl)
-        where
-          by :
-              (b : Bool) → is_field (piece_of (get_or form i 0)) ≡ b
-              → Kept limit text form at next (i + 1) (cond b (count + 1) count) (cond b (set values count x) values)
-          by true is = kept_number is
-          by false is = kept_byte is
-
-pub kept_done : (limit : ℕ) (text form : List ℕ) (at place i count : ℕ) (values : List ℕ) → length form ≤ i → Kept limit text form at place i count values
-    → ReadsTo text (fields (map piece_of form)) (read_form limit (map piece_of form) (drop at text)) values (At place)
-unfolding ReadsTo read_form fields with_numbers
-kept_done limit text form at place i count values past k =
-    let none : pieces_from form i ≡ [] = pieces_done form i k.inside past in
-    let all : fields (map piece_of form) ≡ count = sym (rw none at k.count_left) ∙ add-zero count in
-    rw all (sym (rw (none, append-nil (take count values)) at k.whole), k.zeros, k.within, k.six)
+  pub kept_zeros : drop (fields (map piece_of form)) numbers ≡ replicate (n - fields (map piece_of form)) 0
+  kept_zeros = rw kept_all k.zeros

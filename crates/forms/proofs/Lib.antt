@@ -5,7 +5,7 @@ pub mod NumberLaws
 pub mod Pieces
 pub mod FormLaws
 pub mod CutLaws
-pub mod AnswerLaws
+pub mod SinkSteps
 pub mod Turns
 pub mod FormTurns
 pub mod Worked

@@ -10,7 +10,7 @@ use Rattle.forms.specs.Digits.{digit_byte, digit_of, digits, hex_of, decimal_cou
 use Rattle.forms.specs.Fronts.{off, number, hex_after, hex_front, decimal_after, decimal_front}
 use Rattle.forms.specs.Inner.Cuts.{ends_number}
 use Rattle.forms.proofs.Cases.{below_or, equal_or}
-use Rattle.forms.proofs.DigitLaws.{digit_of_byte, byte_of_digit, digits_more, count_one, count_next, tenth_below, zero_decimal}
+use Rattle.forms.proofs.DigitLaws.{digit_number, digit_of_byte, byte_of_digit, digits_more, count_one, count_next, tenth_below, zero_decimal}
 use Rattle.forms.proofs.DigitLaws.{decimal_one, decimal_more, byte_number}
 
 pub off_number : {A : Type 0} {x : ℕ} {t : List ℕ} → off ≡ number x t → A
@@ -58,9 +58,9 @@ module _ (b : ℕ) (t : List ℕ) where
   decimal_nought limit is = rw (eq-eqb b 48 is)
 
   pub decimal_none : (limit : ℕ) → 10 ≤ digit_of b → decimal_front limit (b ∷ t) ≡ off
-  unfolding decimal_front digit_of
+  unfolding decimal_front
   decimal_none limit large =
-      let other : b ≡ 48 → ⊥ = λ same. let zero : digit_of b ≡ 0 = rw same in omega arith in
+      let other : b ≡ 48 → ⊥ = λ same. omega (arith, digit_number b (omega arith) (omega arith)) in
       rw (ne_eqb b 48 other, le-ltb (digit_of b) 10 large)
 
 -- a digit other than 0

@@ -1,4 +1,4 @@
--- Bytes put one after another: two runs of stores are one run, and the last of a run may be stored first.
+-- Bytes put one after another: the last of a run may be stored first.
 use mathlib.Core.Path.{◌≡◌}
 use Prim.Native.Nat.{ℕ, suc, ◌+◌}
 use native.Mathlib.Nat.{add-zero, add-suc, suc-add}
@@ -7,14 +7,7 @@ use mathlib.Core.List.{List, [], ◌∷◌, ◌++◌}
 use lib.ListN.{length, set}
 use lib.Seq.{sets, set_comm}
 
-pub sets_append : (l : List ℕ) (i : ℕ) (vs ws : List ℕ) → sets (sets l i vs) (i + length vs) ws ≡ sets l i (vs ++ ws)
-sets_append l i [] ws = rw (add-zero i)
-sets_append l i (a ∷ vs) ws = rw (add-suc i (length vs), ← suc-add i (length vs)) (sets_append (set l i a) (suc i) vs ws)
-
 pub sets_last : (l : List ℕ) (i : ℕ) (vs : List ℕ) (b : ℕ) → sets l i (vs ++ (b ∷ [])) ≡ sets (set l (i + length vs) b) i vs
 sets_last l i [] b = rw (add-zero i)
 sets_last l i (a ∷ vs) b =
     rw (sets_last (set l i a) (suc i) vs b, add-suc i (length vs), suc-add i (length vs), set_comm l i (suc (i + length vs)) a b (omega arith))
-
-pub sets_same : (l : List ℕ) (i : ℕ) {vs ws : List ℕ} → vs ≡ ws → sets l i ws ≡ sets l i vs
-sets_same l i same = rw same

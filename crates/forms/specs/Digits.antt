@@ -1,13 +1,21 @@
 -- Numbers as bytes: hexadecimal for floats (rule T1), decimal for all others (rule T2).
-use Rattle.std.specs.Prelude.{ℕ, zero, suc, ◌+◌, ◌-◌, ◌/◌, ◌%◌, ◌&&◌, cond, List, [], ◌∷◌, ◌++◌, ltb, leb}
+use Rattle.std.specs.Prelude.{ℕ, zero, suc, ◌+◌, ◌-◌, ◌/◌, ◌%◌, ◌&&◌, cond, List, [], ◌∷◌, ◌++◌, ltb, leb, Option, Some, None, unwrap_or}
 
 -- the byte of a digit: 0 to 9, then a to f
 unfoldable pub digit_byte : ℕ → ℕ
 digit_byte d = cond (ltb d 10) (48 + d) (87 + d)
 
--- what a byte counts as a digit, and 16 if it is none
+-- what a byte counts as a digit, if it is one
+unfoldable pub digit_value : ℕ → Option ℕ
+digit_value b = cond (leb 48 b && leb b 57) (Some (b - 48)) (cond (leb 97 b && leb b 102) (Some (b - 87)) None)
+
+-- the same, and 16 if it is none
 unfoldable pub digit_of : ℕ → ℕ
-digit_of b = cond (leb 48 b && leb b 57) (b - 48) (cond (leb 97 b && leb b 102) (b - 87) 16)
+digit_of b = unwrap_or (digit_value b) 16
+
+-- what it counts as a decimal digit, if it is one
+unfoldable pub decimal_value : ℕ → Option ℕ
+decimal_value b = cond (ltb (digit_of b) 10) (Some (digit_of b)) None
 
 -- the last k digits of x in a base
 unfoldable pub digits : (base k x : ℕ) → List ℕ

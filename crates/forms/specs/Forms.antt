@@ -2,13 +2,9 @@
 -- a line has an upper-case letter.
 use Rattle.std.specs.Prelude.{ℕ, ◌+◌, Bool, true, false, cond, List, [], ◌∷◌, ◌++◌, eqb, get_or, drop}
 use Rattle.forms.specs.Digits.{hex_of, decimal_of}
+pub use Rattle.forms.specs.declared.piece.Piece.{Piece}
+pub use Rattle.forms.specs.declared.piece.Piece.TheVariants.{Hex as hex, Decimal as decimal, Byte as byte}
 use Rattle.forms.specs.Fronts.{Front, number, hex_front, decimal_front}
-
--- a piece of a form: a float's bits, a decimal number, or a byte that stands for itself
-pub data Piece : Type 0 where
-  hex : Piece
-  decimal : Piece
-  byte : ℕ → Piece
 
 -- the piece that a byte of a quoted form stands for: 72 is H, 68 is D
 unfoldable pub piece_of : ℕ → Piece

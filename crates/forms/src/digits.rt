@@ -1,31 +1,25 @@
 // A digit and its byte.
 ghost use Rattle.std.specs.Prelude.{◌≡◌, ◌<◌};
-ghost use Rattle.forms.specs.Digits.{digit_byte, digit_of, decimal_count};
+ghost use Rattle.forms.specs.Digits.{digit_byte, digit_value, decimal_value, decimal_count};
 
-fn wide(b: u8) -> u64
-    ensures { result ≡ b }
+// What a byte counts as a digit, if it is one.
+#[tactic(auto, unfolding(crate::specs::Digits::digit_value))]
+pub fn digit_of(b: u8) -> Option<u8>
+    ensures { result ≡ digit_value b }
 {
-    b as u64
+    match b {
+        b'0'..=b'9' => Some(b - b'0'),
+        b'a'..=b'f' => Some(b - b'a' + 10),
+        _ => None,
+    }
 }
 
-// What a byte counts as a digit, and 16 if it is none.
-pub fn digit_of(b: u8) -> u64
-    ensures { result ≡ digit_of b }
+// What a byte counts as a decimal digit, if it is one.
+#[tactic(auto, unfolding(crate::specs::Digits::digit_of, crate::specs::Digits::decimal_value))]
+pub fn decimal_digit(b: u8) -> Option<u8>
+    ensures { result ≡ decimal_value b }
 {
-    let w = wide(b);
-    if w < 48 {
-        return 16;
-    }
-    if w <= 57 {
-        return w - 48;
-    }
-    if w < 97 {
-        return 16;
-    }
-    if w <= 102 {
-        return w - 87;
-    }
-    16
+    digit_of(b).filter(|d| *d < 10)
 }
 
 // The byte of a digit.
@@ -41,7 +35,7 @@ pub fn decimal_count(x: u64) -> usize
     ensures { result ≡ decimal_count 19 x }
 {
     let mut rest = x;
-    let mut count: usize = 1;
+    let mut count = 1;
     while rest >= 10 {
         rest /= 10;
         count += 1;

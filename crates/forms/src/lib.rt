@@ -3,29 +3,12 @@
 #![tactic(auto)]
 
 mod digits; // digits.rt: a digit and its byte
-mod reading; // reading.rt: what a text has at a place
-mod writing; // writing.rt: bytes put into a lent slice
+mod piece; // piece.rt: what a byte of a form stands for
+mod reading; // reading.rt: what a text has at its front
+mod sink; // sink.rt: what bytes are put into
+mod writing; // writing.rt: a line put into a sink
 
-pub use reading::read_form;
+pub use piece::Piece;
+pub use reading::{Line, read_form};
+pub use sink::{Count, Cursor, Sink};
 pub use writing::{form_length, put_form, put_hex};
-
-// A number that stands at a place, and where the text goes on.
-#[derive(Clone, Copy)]
-pub enum Found {
-    Number(u64, usize),
-    NoNumber,
-}
-
-// Where the text goes on after a line, if a line stands at a place.
-#[derive(Clone, Copy)]
-pub enum End {
-    At(usize),
-    Off,
-}
-
-// A line's numbers, with 0 after them, and its end.
-#[derive(Clone, Copy)]
-pub struct Read {
-    pub values: [u64; 6],
-    pub end: End,
-}

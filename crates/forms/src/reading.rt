@@ -1,157 +1,122 @@
-// What a text has at a place: a number, a piece of a line, a whole line.
-ghost use Rattle.std.specs.Prelude.{◌≡◌, true, cond, ◌+◌, ◌<◌, ◌≤◌, map, length, drop, set};
-ghost use Rattle.forms.specs.Inner.Places.{Finds, Reads};
-ghost use Rattle.forms.specs.Forms.{byte, piece_of, is_field, fields, read_piece, read_form};
+// What a text has at its front: a number, a piece of a line, a whole line.
+ghost use Rattle.std.specs.Prelude.{◌≡◌, ◌-◌, ◌<◌, ◌≤◌, ◌^◌, map, drop, replicate, IfSome};
+ghost use Rattle.forms.specs.Answers.{front_in, line_in};
+ghost use Rattle.forms.specs.Forms.{byte, piece_of, fields, read_piece, read_form};
 ghost use Rattle.forms.specs.Fronts.{hex_front, decimal_after, decimal_front};
 
-use crate::digits::digit_of;
-use crate::{End, Found, Read};
+use crate::Piece;
+use crate::digits::{decimal_digit, digit_of};
 
-// 16 hexadecimal digits.
-fn read_hex(text: &[u8], at: usize) -> Found
-    requires { at ≤ length text.now }
-    ensures { Finds text.now (hex_front (drop at text.now)) result }
-{
-    let mut value: u64 = 0;
-    let mut place = at;
-    let mut left: u64 = 16;
-    while left > 0 {
-        if place >= text.len() {
-            return Found::NoNumber;
-        }
-        let d = digit_of(text[place]);
-        if d > 15 {
-            return Found::NoNumber;
-        }
-        value = value * 16 + d;
-        place += 1;
-        left -= 1;
-    }
-    Found::Number(value, place)
+// A number at the front of a text, and the text after it.
+#[derive(Clone, Copy)]
+struct Front<'a> {
+    value: u64,
+    rest: &'a [u8],
 }
 
-// The decimal digits from a place on, after those that make `first`.
-fn digits_after(text: &[u8], at: usize, first: u64, limit: u64) -> Found
-    requires { (at ≤ length text.now) × (first ≤ limit) × (limit < 1152921504606846976) }
-    ensures { Finds text.now (decimal_after limit first (drop at text.now)) result }
+// A line's numbers, with 0 after them, and the text after the line.
+#[derive(Clone, Copy)]
+pub struct Line<'a, const N: usize> {
+    pub numbers: [u64; N],
+    pub rest: &'a [u8],
+}
+
+// 16 hexadecimal digits.
+fn read_hex(text: &[u8]) -> Option<Front<'_>>
+    ensures { front_in result ≡ hex_front text.now }
+{
+    let (digits, rest) = text.split_at_checked(16)?;
+    let mut value = 0;
+    for b in digits {
+        value = value * 16 + u64::from(digit_of(*b)?);
+    }
+    Some(Front { value, rest })
+}
+
+// The decimal digits at the front, after those that make `first`.
+fn digits_after(text: &[u8], first: u64, limit: u64) -> Option<Front<'_>>
+    requires within { first ≤ limit }
+    requires small { limit < 2 ^ 60 }
+    ensures { front_in result ≡ decimal_after limit first text.now }
 {
     let mut value = first;
-    let mut place = at;
-    while place < text.len() {
-        let d = digit_of(text[place]);
-        if d > 9 {
-            return Found::Number(value, place);
-        }
-        let more = value * 10 + d;
+    let mut rest = text;
+    while let Some((b, after)) = rest.split_first() {
+        let Some(d) = decimal_digit(*b) else {
+            break;
+        };
+        let more = value * 10 + u64::from(d);
         if more > limit {
-            return Found::NoNumber;
+            return None;
         }
         value = more;
-        place += 1;
+        rest = after;
     }
-    Found::Number(value, place)
+    Some(Front { value, rest })
 }
 
 // A decimal number without leading zeros, not above a limit.
-fn read_decimal(text: &[u8], at: usize, limit: u64) -> Found
-    requires { (at ≤ length text.now) × (limit < 1152921504606846976) }
-    ensures { Finds text.now (decimal_front limit (drop at text.now)) result }
+fn read_decimal(text: &[u8], limit: u64) -> Option<Front<'_>>
+    requires { limit < 2 ^ 60 }
+    ensures { front_in result ≡ decimal_front limit text.now }
 {
-    if at >= text.len() {
-        return Found::NoNumber;
+    let (b, rest) = text.split_first()?;
+    if *b == b'0' {
+        return Some(Front { value: 0, rest });
     }
-    let b = text[at];
-    if b == 48 {
-        return Found::Number(0, at + 1);
-    }
-    let d = digit_of(b);
-    if d > 9 {
-        return Found::NoNumber;
-    }
+    let d = u64::from(decimal_digit(*b)?);
     if d > limit {
-        return Found::NoNumber;
+        return None;
     }
-    digits_after(text, at + 1, d, limit)
+    digits_after(rest, d, limit)
 }
 
 // A byte of a line, which counts as 0.
-fn read_byte(text: &[u8], at: usize, b: u8) -> Found
-    requires { at ≤ length text.now }
-    ensures { Finds text.now (read_piece 0 (byte b) (drop at text.now)) result }
+#[tactic(auto, unfolding(crate::specs::Forms::read_piece))]
+fn read_byte(text: &[u8], b: u8) -> Option<Front<'_>>
+    ensures { front_in result ≡ read_piece 0 (byte b) text.now }
 {
-    if at >= text.len() {
-        return Found::NoNumber;
-    }
-    if text[at] != b {
-        return Found::NoNumber;
-    }
-    Found::Number(0, at + 1)
-}
-
-// The piece that a byte of a form stands for.
-fn read_piece(text: &[u8], at: usize, piece: u8, limit: u64) -> Found
-    requires { (at ≤ length text.now) × (limit < 1152921504606846976) }
-    ensures { Finds text.now (read_piece limit (piece_of piece) (drop at text.now)) result }
-{
-    if piece == 72 {
-        return read_hex(text, at);
-    }
-    if piece == 68 {
-        return read_decimal(text, at, limit);
-    }
-    read_byte(text, at, piece)
-}
-
-// Whether the byte of a form stands for a number.
-pub fn is_field(piece: u8) -> bool
-    ensures { result ≡ is_field (piece_of piece) }
-{
-    piece == 72 || piece == 68
-}
-
-// How many numbers there are after a piece, where there are `count` before it.
-pub fn next_field(piece: u8, count: usize) -> usize
-    requires { count < 18446744073709551615 }
-    ensures { result ≡ cond (is_field (piece_of piece)) (count + 1) count }
-{
-    if is_field(piece) { count + 1 } else { count }
-}
-
-// Keeps a piece's number at a place, if it has one.
-fn keep(piece: u8, x: u64, count: usize, values: &mut [u64; 6])
-    requires { is_field (piece_of piece) ≡ true → count < 6 }
-    ensures { values.new ≡ cond (is_field (piece_of piece)) (set values.old count x) values.old }
-{
-    if is_field(piece) {
-        values[count] = x;
+    let (first, rest) = text.split_first()?;
+    if *first == b {
+        Some(Front { value: 0, rest })
+    } else {
+        None
     }
 }
 
-// A line of a form with at most six numbers, none of its decimal ones above a limit.
-pub fn read_form(text: &[u8], at: usize, form: &[u8], limit: u64) -> Read
-    requires { (at ≤ length text.now) × (fields (map piece_of form.now) ≤ 6) × (limit < 1152921504606846976) }
-    ensures { Reads text.now (fields (map piece_of form.now))
-        (read_form limit (map piece_of form.now) (drop at text.now)) result }
+// A piece of a line.
+#[tactic(auto, unfolding(crate::specs::Forms::read_piece))]
+fn read_piece(text: &[u8], piece: Piece, limit: u64) -> Option<Front<'_>>
+    requires { limit < 2 ^ 60 }
+    ensures { front_in result ≡ read_piece limit piece text.now }
 {
-    let mut values = [0u64; 6];
-    let mut count: usize = 0;
-    let mut place = at;
-    let mut i = 0;
-    while i < form.len() {
-        let piece = form[i];
-        let Found::Number(x, next) = read_piece(text, place, piece, limit) else {
-            return Read {
-                values: [0u64; 6],
-                end: End::Off,
-            };
-        };
-        keep(piece, x, count, &mut values);
-        count = next_field(piece, count);
-        place = next;
-        i += 1;
+    match piece {
+        Piece::Hex => read_hex(text),
+        Piece::Decimal => read_decimal(text, limit),
+        Piece::Byte(b) => read_byte(text, b),
     }
-    Read {
-        values,
-        end: End::At(place),
+}
+
+// A line of a form with at most N numbers, none of its decimal ones above a limit.
+pub fn read_form<'a, const N: usize>(text: &'a [u8], form: &[u8], limit: u64) -> Option<Line<'a, N>>
+    requires few { fields (map piece_of form.now) ≤ N }
+    requires small { limit < 2 ^ 60 }
+    ensures line { let count = fields (map piece_of form.now) in
+        line_in count result ≡ read_form limit (map piece_of form.now) text.now }
+    ensures zeros { let count = fields (map piece_of form.now) in
+        IfSome result (λ line. drop count line.numbers ≡ replicate (N - count) 0) }
+{
+    let mut numbers = [0; N];
+    let mut count = 0;
+    let mut rest = text;
+    for b in form {
+        let piece = Piece::from(*b);
+        let front = read_piece(rest, piece, limit)?;
+        if piece.is_field() {
+            numbers[count] = front.value;
+            count += 1;
+        }
+        rest = front.rest;
     }
+    Some(Line { numbers, rest })
 }

@@ -1,74 +1,41 @@
-// Lines put into a lent slice of bytes.
-ghost use Rattle.std.specs.Prelude.{◌≡◌, map, ◌+◌, ◌<◌, ◌≤◌, length, get_or};
-ghost use Rattle.std.proofs.lemmas.List.Edits.{sets};
-ghost use Rattle.forms.specs.Digits.{hex_of, digits};
+// A line put into a sink.
+ghost use Rattle.std.specs.Prelude.{◌≡◌, map, ◌≤◌, length};
+ghost use Rattle.forms.specs.Digits.{hex_of};
 ghost use Rattle.forms.specs.Forms.{piece_of, spell_piece, spell};
 
-use crate::digits::{decimal_count, digit_byte};
-use crate::reading::next_field;
+use crate::digits::decimal_count;
+use crate::{Count, Piece, Sink};
 
-// Puts so many digits of a number in a base at a place.
-fn put_digits(x: u64, base: u64, count: usize, at: usize, out: &mut [u8])
-    requires { (0 < base) × (base ≤ 16) × (at + count ≤ length out.old) }
-    ensures { out.new ≡ sets out.old at (digits base count x) }
+// Puts a number's 16 hexadecimal digits.
+pub fn put_hex<S: Sink>(x: u64, sink: &mut S)
+    requires { S.room sink.old 16 }
+    ensures { S.puts sink.old (hex_of x) sink.new }
 {
-    let mut rest = x;
-    let mut left = count;
-    while left > 0 {
-        left -= 1;
-        out[at + left] = digit_byte(rest % base);
-        rest /= base;
+    sink.put_digits(x, 16, 16);
+}
+
+// Puts a piece of a form, with its number if it has one.
+fn put_piece<S: Sink>(piece: Piece, x: u64, sink: &mut S)
+    requires { S.room sink.old (length (spell_piece piece x)) }
+    ensures { S.puts sink.old (spell_piece piece x) sink.new }
+{
+    match piece {
+        Piece::Hex => put_hex(x, sink),
+        Piece::Decimal => sink.put_digits(x, 10, decimal_count(x)),
+        Piece::Byte(b) => sink.put_byte(b),
     }
 }
 
-// Puts a number's 16 hexadecimal digits at a place.
-pub fn put_hex(x: u64, at: usize, out: &mut [u8])
-    requires { at + 16 ≤ length out.old }
-    ensures { out.new ≡ sets out.old at (hex_of x) }
+// Puts a line: a form with its numbers, and 0 for those that it lacks.
+pub fn put_form<S: Sink>(form: &[u8], numbers: &[u64], sink: &mut S)
+    requires { S.room sink.old (length (spell (map piece_of form.now) numbers.now)) }
+    ensures { S.puts sink.old (spell (map piece_of form.now) numbers.now) sink.new }
 {
-    put_digits(x, 16, 16, at, out);
-}
-
-// How many bytes the piece of a form has, with its number if it has one.
-fn piece_length(piece: u8, x: u64) -> usize
-    ensures { result ≡ length (spell_piece (piece_of piece) x) }
-{
-    if piece == 72 {
-        return 16;
-    }
-    if piece == 68 {
-        return decimal_count(x);
-    }
-    1
-}
-
-// Puts a piece of a form at a place, and answers where it ends.
-fn put_piece(piece: u8, x: u64, at: usize, out: &mut [u8]) -> usize
-    requires { at + length (spell_piece (piece_of piece) x) ≤ length out.old }
-    ensures answer { result ≡ at + length (spell_piece (piece_of piece) x) }
-    ensures out { out.new ≡ sets out.old at (spell_piece (piece_of piece) x) }
-{
-    if piece == 72 {
-        put_hex(x, at, out);
-        return at + 16;
-    }
-    if piece == 68 {
-        let count = decimal_count(x);
-        put_digits(x, 10, count, at, out);
-        return at + count;
-    }
-    out[at] = piece;
-    at + 1
-}
-
-// The number at a place, and 0 past the last.
-fn number_at(numbers: &[u64], count: usize) -> u64
-    ensures { result ≡ get_or numbers.now count 0 }
-{
-    if count < numbers.len() {
-        numbers[count]
-    } else {
-        0
+    let mut left = numbers;
+    for b in form {
+        let piece = Piece::from(*b);
+        put_piece(piece, left.first().copied().unwrap_or(0), sink);
+        left = piece.after(left);
     }
 }
 
@@ -77,32 +44,7 @@ pub fn form_length(form: &[u8], numbers: &[u64]) -> usize
     requires { length form.now ≤ 4096 }
     ensures { result ≡ length (spell (map piece_of form.now) numbers.now) }
 {
-    let mut total: usize = 0;
-    let mut count: usize = 0;
-    let mut i = 0;
-    while i < form.len() {
-        let piece = form[i];
-        total += piece_length(piece, number_at(numbers, count));
-        count = next_field(piece, count);
-        i += 1;
-    }
-    total
-}
-
-// Puts a line at a place, and answers where it ends.
-pub fn put_form(form: &[u8], numbers: &[u64], at: usize, out: &mut [u8]) -> usize
-    requires { at + length (spell (map piece_of form.now) numbers.now) ≤ length out.old }
-    ensures answer { result ≡ at + length (spell (map piece_of form.now) numbers.now) }
-    ensures out { out.new ≡ sets out.old at (spell (map piece_of form.now) numbers.now) }
-{
-    let mut place = at;
-    let mut count: usize = 0;
-    let mut i = 0;
-    while i < form.len() {
-        let piece = form[i];
-        place = put_piece(piece, number_at(numbers, count), place, out);
-        count = next_field(piece, count);
-        i += 1;
-    }
-    place
+    let mut count = Count { bytes: 0 };
+    put_form(form, numbers, &mut count);
+    count.bytes
 }

@@ -5,10 +5,10 @@
 use grid::Grid;
 use model::ImplicitModel;
 
-mod causes; // causes.rt: the causes of open
+mod refusals; // refusals.rt: the causes of open
 mod needed; // needed.rt: how long the slices have to be
 
-pub use causes::open_refusal;
+pub use refusals::open_refusal;
 pub use needed::needed_lengths;
 
 // What a job is made from.

@@ -1,11 +1,12 @@
 -- READING IS COMPLETE: the text of a job is read as the job.
-use mathlib.Core.Path.{◌≡◌, ap, ◌∙◌}
+use mathlib.Core.Path.{refl, ◌≡◌, ap, ◌∙◌}
 use Prim.Native.Nat.{ℕ, zero, suc, ◌≤◌}
 use native.Mathlib.Omega.{arith}
 use mathlib.Core.Bool.{true}
 use mathlib.Core.List.{List, [], ◌∷◌, ◌++◌}
 use lib.ListN.{length}
-use Rattle.forms.specs.Forms.{Piece, spell, line, read_form}
+use Rattle.forms.specs.Forms.{spell, line, read_form}
+use Rattle.forms.specs.declared.Piece.{Piece}
 use Rattle.forms.specs.Inner.Cuts.{separated}
 use Rattle.forms.proofs.FormLaws.{form_spelled}
 use Rattle.job_text.specs.Lines.{limit, bounds_form, cell_form, blocks_form, band_form, part_form}
@@ -19,7 +20,7 @@ use Rattle.job_text.proofs.TextLines.{written_with, then_parts}
 
 pub parts_complete : (ss : List Spelt) (r n : ℕ) → OnParts ss → length ss ≤ r → read_parts r n (parts_text ss) ≡ parts ss
 unfolding parts_text OnParts on_part with_part
-parts_complete [] r n on most = parts_end r n
+parts_complete [] r n on most = parts_end r n [] refl
 parts_complete (s ∷ ss) zero n on most = absurd (omega arith)
 parts_complete (s ∷ ss) (suc r) n on most =
     let t : List ℕ = parts_text ss in

@@ -5,7 +5,7 @@ use native.Mathlib.Omega.{arith}
 use mathlib.Core.Bool.{true}
 use mathlib.Core.List.{List, [], ◌∷◌, ◌++◌}
 use lib.ListN.{length}
-use Rattle.forms.specs.Digits.{digit_of}
+use Rattle.forms.specs.Digits.{digit_value, digit_of}
 use Rattle.forms.specs.Forms.{piece_of, is_field, after, spell_piece, spell, Line, read_piece, with_number, on_front, read_form}
 use Rattle.forms.specs.Fitting.{most_piece, most_of, most}
 use Rattle.forms.specs.Inner.Cuts.{ends_decimal, separated}
@@ -23,7 +23,7 @@ unfolding separated piece_of
 cell_apart = refl
 
 pub blocks_apart : separated blocks_form ≡ true
-unfolding separated ends_decimal digit_of piece_of
+unfolding separated ends_decimal digit_of digit_value piece_of
 blocks_apart = refl
 
 pub band_apart : separated band_form ≡ true
@@ -31,7 +31,7 @@ unfolding separated piece_of
 band_apart = refl
 
 pub part_apart : (k : PartKind) → separated (part_form k) ≡ true
-unfolding separated ends_decimal digit_of piece_of
+unfolding separated ends_decimal digit_of digit_value piece_of
 part_apart const = refl
 part_apart sphere = refl
 part_apart plane = refl

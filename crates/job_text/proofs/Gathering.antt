@@ -3,17 +3,16 @@ use mathlib.Core.Path.{◌≡◌, refl, sym, ap, ◌∙◌}
 use Prim.Native.Nat.{ℕ, zero, suc, ◌+◌, ◌-◌, ◌≤◌, ◌<◌}
 use native.Mathlib.Omega.{arith}
 use mathlib.Core.List.{List, [], ◌∷◌, ◌++◌, map, append-nil}
-use lib.ListN.{length, drop, set, replicate, length-append, length-drop}
-use Rattle.forms.proofs.Turns.{drop_end}
+use lib.ListN.{length, set, replicate, length-append}
 use Rattle.input.specs.declared.Band.{Band}
 use Rattle.grid.specs.declared.Grid.{Grid}
 use Rattle.model.specs.declared.ModelComponent.{ModelComponent}
 use Rattle.model.specs.declared.Part.{Part}
 use Rattle.float.specs.Zero.{plus_zero}
 use Rattle.model.specs.declared.Part.TheVariants.{Constant}
-use Rattle.job_text.specs.Parts.{pattern_from, Spelt, PartLine, none, read_part}
+use Rattle.job_text.specs.Parts.{part_from, pattern_from, Spelt, none, part, read_part}
 use Rattle.job_text.specs.Reading.{Parts, off_at, parts, with_part, on_part, read_parts, component_of, components_of, patterns_of, off_reading, read_job}
-use Rattle.job_text.specs.Inner.TextAnswers.{IsPart, model_reading}
+use Rattle.job_text.specs.Inner.TextAnswers.{model_reading}
 
 -- ---- an array that holds a list's values at its front
 
@@ -63,91 +62,83 @@ unfolding read_parts
 parts_full n [] more = absurd (omega arith)
 parts_full n (b ∷ t) more = refl
 
-pub parts_end : (r n : ℕ) → read_parts r n [] ≡ parts []
+pub parts_end : (r n : ℕ) (t : List ℕ) → length t ≡ 0 → read_parts r n t ≡ parts []
 unfolding read_parts
-parts_end zero n = refl
-parts_end (suc r) n = refl
+parts_end zero n [] empty = refl
+parts_end (suc r) n [] empty = refl
+parts_end zero n (b ∷ t) empty = absurd (omega arith)
+parts_end (suc r) n (b ∷ t) empty = absurd (omega arith)
 
--- the part lines before a place are in the arrays, and with those from there on they are the text's
-pub record Gathered (text : List ℕ) (at : ℕ) (components : List ModelComponent) (patterns : List ℕ) (place count : ℕ) : Type 0 where
+-- the part lines that are passed are in the arrays, and with those that are left they are the text's
+pub record Gathered (text : List ℕ) (components : List ModelComponent) (patterns rest : List ℕ) (count : ℕ) : Type 0 where
   pub spelts : List Spelt
   pub number : length spelts ≡ count
   pub most : count ≤ 64
   pub parts : components ≡ components_of spelts
   pub bits : patterns ≡ patterns_of spelts
-  pub within : place ≤ length text
-  pub left : read_parts 64 5 (drop at text) ≡ with_parts spelts (read_parts (64 - count) (5 + count) (drop place text))
+  pub left : read_parts 64 5 text ≡ with_parts spelts (read_parts (64 - count) (5 + count) rest)
 
-pub gathered_first : (text : List ℕ) (at : ℕ) → at ≤ length text
-    → Gathered text at (replicate 64 (record { part = Constant plus_zero })) (replicate 64 0) at 0
+pub gathered_first : (text : List ℕ) → Gathered text (replicate 64 (record { part = Constant plus_zero })) (replicate 64 0) text 0
 unfolding with_parts
-gathered_first text at within = record { spelts = []; number = refl; most = omega arith; parts = refl; bits = refl; within = within; left = refl }
+gathered_first text = record { spelts = []; number = refl; most = omega arith; parts = refl; bits = refl; left = refl }
 
 module _
-    (text : List ℕ) (at : ℕ) (components : List ModelComponent) (patterns : List ℕ) (place count : ℕ)
-    (g : Gathered text at components patterns place count) where
+    {text : List ℕ} {components : List ModelComponent} {patterns rest : List ℕ} {count : ℕ}
+    (g : Gathered text components patterns rest count) where
   -- the text ends here
-  pub gathered_done : (grid : Grid) (band : Band) → length text ≤ place
-      → model_reading grid band (read_parts 64 5 (drop at text)) ≡ read_job (record {
+  pub gathered_done : (grid : Grid) (band : Band) → length rest ≡ 0
+      → read_job (record {
         input = record { grid = grid; band = band; model = record { parts = components; count = count } };
         patterns = patterns;
-      })
+      }) ≡ model_reading grid band (read_parts 64 5 text)
   unfolding model_reading
-  gathered_done grid band past =
-      let ended : drop place text ≡ [] = drop_end text place g.within past in
-      let whole : read_parts 64 5 (drop at text) ≡ parts g.spelts =
+  gathered_done grid band ended =
+      let whole : read_parts 64 5 text ≡ parts g.spelts =
       g.left
-      ∙ ap (with_parts g.spelts) (ap (read_parts (64 - count) (5 + count)) ended ∙ parts_end (64 - count) (5 + count))
+      ∙ ap (with_parts g.spelts) (parts_end (64 - count) (5 + count) rest ended)
       ∙ with_all g.spelts []
       ∙ ap parts (append-nil g.spelts) in
       rw (whole, g.parts, g.bits, ← g.number)
 
-  module _ (more : place < length text) where
-    more_left : 0 < length (drop place text)
-    more_left = omega (arith, length-drop place text)
+  -- line n is off its form
+  gathered_off : (n : ℕ) → read_parts (64 - count) (5 + count) rest ≡ off_at n → (grid : Grid) (band : Band)
+      → off_reading n ≡ model_reading grid band (read_parts 64 5 text)
+  unfolding model_reading
+  gathered_off n is grid band =
+      let whole : read_parts 64 5 text ≡ off_at n = g.left ∙ ap (with_parts g.spelts) is ∙ with_off g.spelts n in
+      rw whole
 
-    -- line n is off its form
-    pub gathered_off : (n : ℕ) → read_parts (64 - count) (5 + count) (drop place text) ≡ off_at n → (grid : Grid) (band : Band)
-        → model_reading grid band (read_parts 64 5 (drop at text)) ≡ off_reading n
-    unfolding model_reading
-    gathered_off n is grid band =
-        let whole : read_parts 64 5 (drop at text) ≡ off_at n = g.left ∙ ap (with_parts g.spelts) is ∙ with_off g.spelts n in
-        rw whole
-
-    pub left_full : 64 ≤ count → read_parts (64 - count) (5 + count) (drop place text) ≡ off_at 69
+  module _ (more : 0 < length rest) where
+    pub left_full : 64 ≤ count → (grid : Grid) (band : Band) → off_reading 69 ≡ model_reading grid band (read_parts 64 5 text)
     left_full all =
-        let none : 64 - count ≡ 0 = omega arith in
+        let full : 64 - count ≡ 0 = omega arith in
         let line : 5 + count ≡ 69 = omega (arith, g.most) in
-        rw (none, line) (parts_full 69 (drop place text) more_left)
+        gathered_off 69 (rw (full, line) (parts_full 69 rest more))
 
     module _ (room : count < 64) where
-      left_turn :
-          read_parts (64 - count) (5 + count) (drop place text)
-          ≡ on_part (5 + count) (read_part (drop place text)) (read_parts (64 - (count + 1)) (5 + (count + 1)))
+      left_turn : read_parts (64 - count) (5 + count) rest ≡ on_part (5 + count) (read_part rest) (read_parts (64 - (count + 1)) (5 + (count + 1)))
       left_turn =
           let one : 64 - count ≡ suc (64 - (count + 1)) = omega arith in
           let next : 5 + (count + 1) ≡ suc (5 + count) = omega arith in
-          rw (one, next) (parts_turn (64 - (count + 1)) (5 + count) (drop place text) more_left)
+          rw (one, next) (parts_turn (64 - (count + 1)) (5 + count) rest more)
 
-      pub left_off : read_part (drop place text) ≡ none → read_parts (64 - count) (5 + count) (drop place text) ≡ off_at (5 + count)
+      pub left_off : none ≡ read_part rest → (grid : Grid) (band : Band) → off_reading (5 + count) ≡ model_reading grid band (read_parts 64 5 text)
       unfolding on_part
-      left_off is = left_turn ∙ ap (λ (l : PartLine). on_part (5 + count) l (read_parts (64 - (count + 1)) (5 + (count + 1)))) is
+      left_off is = gathered_off (5 + count) (rw (← is) at left_turn)
 
-      pub gathered_turn : (p : Part) (pattern next : ℕ) → IsPart text (read_part (drop place text)) p pattern next
-          → Gathered text at (set components count (record { part = p })) (set patterns count pattern) next (count + 1)
+      pub gathered_turn : (s : Spelt) (next : List ℕ) → part s next ≡ read_part rest → (p : Part) → p ≡ part_from s.kind s.numbers
+          → (pattern : ℕ) → pattern ≡ pattern_from s.kind s.numbers
+          → Gathered text (set components count (record { part = p })) (set patterns count pattern) next (count + 1)
       unfolding on_part
-      gathered_turn p pattern next is =
+      gathered_turn s next is p made pattern bits =
           let ss = g.spelts in
-          let s = is.spelt in
           let below : length ss < 64 = omega (arith, g.number) in
-          let turned : read_parts (64 - count) (5 + count) (drop place text) ≡ with_part s (read_parts (64 - (count + 1)) (5 + (count + 1)) (drop next text)) =
-          left_turn ∙ ap (λ (l : PartLine). on_part (5 + count) l (read_parts (64 - (count + 1)) (5 + (count + 1)))) is.line in
+          let turned : read_parts (64 - count) (5 + count) rest ≡ with_part s (read_parts (64 - (count + 1)) (5 + (count + 1)) next) = rw (← is) at left_turn in
           record {
             spelts = ss ++ (s ∷ []);
             number = omega (arith, length-append ss (s ∷ []), g.number);
             most = omega arith;
-            parts = rw (g.parts, is.made, ← g.number) (padded_more component_of (record { part = Constant plus_zero }) ss s 64 below);
-            bits = rw (g.bits, is.bits, ← g.number) (padded_more (λ (s : Spelt). pattern_from s.kind s.numbers) 0 ss s 64 below);
-            within = is.within;
-            left = g.left ∙ ap (with_parts ss) turned ∙ sym (with_more ss s (read_parts (64 - (count + 1)) (5 + (count + 1)) (drop next text)));
+            parts = rw (g.parts, made, ← g.number) (padded_more component_of (record { part = Constant plus_zero }) ss s 64 below);
+            bits = rw (g.bits, bits, ← g.number) (padded_more (λ (s : Spelt). pattern_from s.kind s.numbers) 0 ss s 64 below);
+            left = g.left ∙ ap (with_parts ss) turned ∙ sym (with_more ss s (read_parts (64 - (count + 1)) (5 + (count + 1)) next));
           }

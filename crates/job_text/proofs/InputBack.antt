@@ -7,7 +7,9 @@ use lib.ListN.{length, take, length-map, length-take, take-append-drop}
 use lib.Ieee.{Float, binary64, fits, of_bits, to_bits}
 use lib.Ieee.Bits.{of_bits-to_bits, to_bits-lt}
 use Rattle.forms.specs.Bytes.{bytes}
-use Rattle.forms.specs.Forms.{Piece, hex, decimal, byte, piece_of, is_field, after, fields}
+use Rattle.forms.specs.Forms.{piece_of, is_field, after, fields}
+use Rattle.forms.specs.declared.Piece.{Piece}
+use Rattle.forms.specs.declared.Piece.TheVariants.{Hex as hex, Decimal as decimal, Byte as byte}
 use Rattle.forms.specs.Fitting.{FitsPiece, Fits}
 use Rattle.model.specs.declared.ModelComponent.{ModelComponent}
 use Rattle.model.specs.declared.Part.{Part}

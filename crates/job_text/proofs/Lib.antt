@@ -1,4 +1,5 @@
 -- Laws of reading a text, and of NaN bits.
+pub mod OrOff
 pub mod PartLaws
 pub mod PartTurns
 pub mod Gathering

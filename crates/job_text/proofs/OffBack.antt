@@ -5,7 +5,8 @@ use native.Mathlib.Omega.{arith}
 use mathlib.Core.Bool.{true}
 use mathlib.Core.List.{List, [], ◌∷◌, ◌++◌}
 use lib.ListN.{length}
-use Rattle.forms.specs.Forms.{Piece, Line, off, line, read_form}
+use Rattle.forms.specs.Forms.{Line, off, line, read_form}
+use Rattle.forms.specs.declared.Piece.{Piece}
 use Rattle.forms.specs.Inner.Cuts.{separated}
 use Rattle.forms.proofs.Cases.{below_or}
 use Rattle.forms.proofs.FormLaws.{form_spelled}

@@ -4,7 +4,8 @@ use Prim.Native.Nat.{ℕ, zero, suc, ◌+◌, ◌<◌}
 use native.Mathlib.Omega.{arith}
 use mathlib.Core.Bool.{true}
 use mathlib.Core.List.{List, [], ◌∷◌}
-use Rattle.forms.specs.Forms.{Piece, Line, off, line, read_form}
+use Rattle.forms.specs.Forms.{Line, off, line, read_form}
+use Rattle.forms.specs.declared.Piece.{Piece}
 use Rattle.forms.specs.Inner.Cuts.{separated}
 use Rattle.forms.proofs.FormLaws.{form_sound, form_spelled, off_line}
 use Rattle.job_text.specs.Lines.{limit, bounds_form, cell_form, blocks_form, band_form}

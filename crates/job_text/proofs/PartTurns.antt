@@ -1,25 +1,21 @@
 -- The part line at a place, kind after kind; its numbers fit.
-use mathlib.Core.Path.{◌≡◌, sym, ap, ◌∙◌}
-use Prim.Native.Nat.{ℕ, zero, suc, ◌+◌, ◌-◌, ◌≤◌, ◌<◌}
+use mathlib.Core.Path.{◌≡◌, sym, ap}
+use Prim.Native.Nat.{ℕ, ◌+◌, ◌≤◌, ◌<◌}
 use native.Mathlib.Numerals.{add-one}
 use native.Mathlib.Omega.{arith}
 use mathlib.Core.List.{List, [], ◌∷◌, ◌++◌, map}
-use lib.ListN.{get_or, take, drop, replicate}
-use lib.Seq.{drop-cons, get_or-take, get_or-drop}
+use lib.ListN.{length, get_or, take, drop}
+use lib.Seq.{drop-cons, drop-length, get_or-take, get_or-drop}
 use Rattle.forms.specs.Bytes.{bytes}
-use Rattle.forms.specs.Forms.{Piece, decimal, byte, piece_of, is_field, after, fields, Line, off, line, read_form}
+use Rattle.forms.specs.Forms.{piece_of, is_field, after, fields, off, line, read_form}
+use Rattle.forms.specs.declared.Piece.{Piece}
+use Rattle.forms.specs.declared.Piece.TheVariants.{Decimal as decimal, Byte as byte}
 use Rattle.forms.specs.Fitting.{FitsPiece, Fits}
-use Rattle.forms.specs.Inner.Places.{ReadsTo}
-use Rattle.forms.specs.declared.End.{End}
-use Rattle.forms.specs.declared.End.TheVariants.{At, Off}
-use Rattle.forms.proofs.AnswerLaws.{reads_line}
 use Rattle.forms.proofs.FormLaws.{form_sound}
-use Rattle.model.specs.declared.Part.{Part}
-use Rattle.job_text.specs.Lines.{limit, PartKind, neg, part_form, part_kinds, blocks_form}
-use Rattle.job_text.specs.Inner.Kinds.{kind_of}
-use Rattle.job_text.specs.Parts.{word, part_from, pattern_from, PartLine, none, part, or_part, part_among, read_part}
-use Rattle.job_text.specs.Inner.TextAnswers.{FitsWords, IsPart, ReadsPartTo}
-use Rattle.job_text.proofs.PartLaws.{part_own, pattern_own}
+use Rattle.job_text.specs.Lines.{limit, PartKind, const, sphere, plane, min, max, add, sub, neg, part_form, blocks_form}
+use Rattle.job_text.specs.Parts.{word, none, part, or_part, part_among, read_part}
+use Rattle.job_text.specs.Inner.TextAnswers.{FitsWords}
+use Rattle.job_text.proofs.Sound.{part_sound}
 
 -- ---- numbers of 32 bits
 
@@ -38,89 +34,56 @@ two_fit bs xs fits =
     let second : get_or (drop 1 (take 2 xs)) 0 0 ≤ limit = past.1.1.0 in
     (rw (get_or-take 2 xs 0 0 (omega arith)) at past.0, rw (get_or-drop 1 (take 2 xs) 0 0, get_or-take 2 xs 1 0 (omega arith)) at second)
 
-one_fits : (bs xs : List ℕ) → drop 1 xs ≡ replicate 5 0 → Fits limit (map byte bs ++ (decimal ∷ byte 41 ∷ byte 10 ∷ [])) (take 1 xs)
-    → (word xs 0 ≤ limit) × (word xs 1 ≤ limit)
+one_fits : (bs xs : List ℕ) → Fits limit (map byte bs ++ (decimal ∷ byte 41 ∷ byte 10 ∷ [])) (take 1 xs) → word xs 0 ≤ limit
 unfolding Fits FitsPiece after is_field
-one_fits bs xs rest fits =
+one_fits bs xs fits =
     let past : Fits limit (decimal ∷ byte 41 ∷ byte 10 ∷ []) (take 1 xs) = fits_past bs _ _ fits in
-    let none : word xs 1 ≡ 0 = sym (get_or-drop 1 xs 0 0) ∙ ap (λ (l : List ℕ). get_or l 0 0) rest in
-    (rw (get_or-take 1 xs 0 0 (omega arith)) at past.0, omega arith)
+    rw (get_or-take 1 xs 0 0 (omega arith)) at past.0
 
 -- the block sizes that are read
-pub blocks_read_fit : (text t xs : List ℕ) (e : End) → ReadsTo text (fields blocks_form) (read_form limit blocks_form t) xs e → (next : ℕ) → e ≡ At next
+pub blocks_fit : (t xs rest : List ℕ) → line (take (fields blocks_form) xs) rest ≡ read_form limit blocks_form t
     → (word xs 0 ≤ limit) × (word xs 1 ≤ limit)
 unfolding fields is_field piece_of
-blocks_read_fit text t xs e reads next is =
-    let found = reads_line text _ _ xs e reads next is in
-    two_fit (bytes "(blocks ") xs (form_sound limit blocks_form t _ _ (omega arith) found.0).fits
+blocks_fit t xs rest is = two_fit (bytes "(blocks ") xs (form_sound limit blocks_form t _ _ (omega arith) (sym is)).fits
 
 -- the inputs of an operation
-pub words_fit : (k : ℕ) (xs : List ℕ) → drop (fields (part_form (kind_of k))) xs ≡ replicate (6 - fields (part_form (kind_of k))) 0
-    → Fits limit (part_form (kind_of k)) (take (fields (part_form (kind_of k))) xs) → FitsWords k xs
-unfolding fields is_field piece_of
-words_fit zero xs rest fits = λ more. absurd (omega arith)
-words_fit (suc zero) xs rest fits = λ more. absurd (omega arith)
-words_fit (suc (suc zero)) xs rest fits = λ more. absurd (omega arith)
-words_fit (suc (suc (suc zero))) xs rest fits = λ more. two_fit (bytes "(min ") xs fits
-words_fit (suc (suc (suc (suc zero)))) xs rest fits = λ more. two_fit (bytes "(max ") xs fits
-words_fit (suc (suc (suc (suc (suc zero))))) xs rest fits = λ more. two_fit (bytes "(add ") xs fits
-words_fit (suc (suc (suc (suc (suc (suc zero)))))) xs rest fits = λ more. two_fit (bytes "(sub ") xs fits
-words_fit (suc (suc (suc (suc (suc (suc (suc zero))))))) xs rest fits = λ more. one_fits (bytes "(neg ") xs rest fits
-words_fit (suc (suc (suc (suc (suc (suc (suc (suc k)))))))) xs rest fits = λ more. one_fits (bytes "(neg ") xs rest fits
+words_fit : (k : PartKind) (xs : List ℕ) → Fits limit (part_form k) (take (fields (part_form k)) xs) → FitsWords k xs
+unfolding fields is_field piece_of FitsWords
+words_fit const xs fits = tt
+words_fit sphere xs fits = tt
+words_fit plane xs fits = tt
+words_fit min xs fits = two_fit (bytes "(min ") xs fits
+words_fit max xs fits = two_fit (bytes "(max ") xs fits
+words_fit add xs fits = two_fit (bytes "(add ") xs fits
+words_fit sub xs fits = two_fit (bytes "(sub ") xs fits
+words_fit neg xs fits = one_fits (bytes "(neg ") xs fits
+
+-- of a part line that is read
+pub line_fits : (t : List ℕ) (k : PartKind) (xs rest : List ℕ) → part (record { kind = k; numbers = take (fields (part_form k)) xs }) rest ≡ read_part t
+    → FitsWords k xs
+line_fits t k xs rest is = words_fit k xs (part_sound t _ _ (sym is)).fits
 
 -- ---- kind after kind
 
-kind_turn : (k : ℕ) (t : List ℕ) → k < 8
-    → part_among (drop k part_kinds) t ≡ or_part (kind_of k) (read_form limit (part_form (kind_of k)) t) (part_among (drop (k + 1) part_kinds) t)
-unfolding part_among
-kind_turn k t more =
-    let front : drop k part_kinds ≡ kind_of k ∷ drop (k + 1) part_kinds = rw (add-one k) (drop-cons part_kinds k neg more) in
-    ap (λ (ks : List PartKind). part_among ks t) front
+module _ (kinds : List PartKind) (i : ℕ) (t : List ℕ) (more : i < length kinds) where
+  kind_turn :
+      part_among (drop i kinds) t
+      ≡ or_part (get_or kinds i const) (read_form limit (part_form (get_or kinds i const)) t) (part_among (drop (i + 1) kinds) t)
+  unfolding part_among
+  kind_turn =
+      let front : drop i kinds ≡ get_or kinds i const ∷ drop (i + 1) kinds = rw (add-one i) (drop-cons kinds i const more) in
+      ap (λ (ks : List PartKind). part_among ks t) front
 
--- of the kinds before this one the text has none
-abbrev pub Among : (k : ℕ) → List ℕ → Type 0
-Among k t = read_part t ≡ part_among (drop k part_kinds) t
-
-module _ (k : ℕ) (t : List ℕ) (more : k < 8) (among : Among k t) where
-  pub among_off : read_form limit (part_form (kind_of k)) t ≡ off → Among (k + 1) t
+  pub among_off : off ≡ read_form limit (part_form (get_or kinds i const)) t → part_among (drop (i + 1) kinds) t ≡ part_among (drop i kinds) t
   unfolding or_part
-  among_off is =
-      among ∙ kind_turn k t more ∙ ap (λ (l : Line). or_part (kind_of k) l (part_among (drop (k + 1) part_kinds) t)) is
+  among_off is_off = sym (rw (← is_off) at kind_turn)
 
-  among_found : (xs rest : List ℕ) → read_form limit (part_form (kind_of k)) t ≡ line xs rest → read_part t ≡ part (record { kind = kind_of k; numbers = xs }) rest
+  pub among_found :
+      (xs rest : List ℕ) → line xs rest ≡ read_form limit (part_form (get_or kinds i const)) t
+      → part (record { kind = get_or kinds i const; numbers = xs }) rest ≡ part_among (drop i kinds) t
   unfolding or_part
-  among_found xs rest is =
-      among ∙ kind_turn k t more ∙ ap (λ (l : Line). or_part (kind_of k) l (part_among (drop (k + 1) part_kinds) t)) is
+  among_found xs rest found = sym (rw (← found) at kind_turn)
 
-pub among_none : (k : ℕ) (t : List ℕ) → k ≤ 8 → 8 ≤ k → Among k t → read_part t ≡ none
+pub among_none : (kinds : List PartKind) (i : ℕ) (t : List ℕ) → i ≤ length kinds → length kinds ≤ i → none ≡ part_among (drop i kinds) t
 unfolding part_among
-among_none k t most least among = let all : k ≡ 8 = omega arith in rw all at among
-
-module _ (text xs : List ℕ) (at k next : ℕ) (e : End)
-    (reads : ReadsTo text (fields (part_form (kind_of k))) (read_form limit (part_form (kind_of k)) (drop at text)) xs e) (is : e ≡ At next) where
-  pub found_fits : FitsWords k xs
-  found_fits =
-      let found = reads_line text _ _ xs e reads next is in
-      words_fit k xs found.1 (form_sound limit (part_form (kind_of k)) (drop at text) _ _ (omega arith) found.0).fits
-
-  pub found_part : k < 8 → Among k (drop at text) → IsPart text (read_part (drop at text)) (part_from (kind_of k) xs) (pattern_from (kind_of k) xs) next
-  found_part more among =
-      let found = reads_line text _ _ xs e reads next is in
-      record {
-        spelt = record { kind = kind_of k; numbers = take (fields (part_form (kind_of k))) xs };
-        line = among_found k (drop at text) more among _ _ found.0;
-        made = sym (part_own (kind_of k) xs);
-        bits = sym (pattern_own (kind_of k) xs);
-        within = found.2;
-      }
-
--- ---- a part line by its end
-
-module _ (text : List ℕ) (l : PartLine) (p : Part) (pattern : ℕ) (e : End) (reads : ReadsPartTo text l p pattern e) where
-  pub part_off : e ≡ Off → l ≡ none
-  unfolding ReadsPartTo
-  part_off is = rw is at reads
-
-  pub part_at : (next : ℕ) → e ≡ At next → IsPart text l p pattern next
-  unfolding ReadsPartTo
-  part_at next is = rw is at reads
+among_none kinds i t most least = let all : i ≡ length kinds = omega arith in rw (all, drop-length kinds)

@@ -4,7 +4,8 @@ use Prim.Native.Nat.{ℕ, zero, suc, ◌≤◌}
 use native.Mathlib.Omega.{arith}
 use mathlib.Core.List.{List, [], ◌∷◌, ◌++◌}
 use lib.ListN.{length}
-use Rattle.forms.specs.Forms.{Piece, spell, Line, off, line, read_form}
+use Rattle.forms.specs.Forms.{spell, Line, off, line, read_form}
+use Rattle.forms.specs.declared.Piece.{Piece}
 use Rattle.forms.specs.Fitting.{Spells}
 use Rattle.forms.proofs.FormLaws.{form_sound}
 use Rattle.job_text.specs.Lines.{limit, bounds_form, cell_form, blocks_form, band_form, PartKind, part_form, part_kinds}

@@ -11,7 +11,9 @@ use Rattle.forms.specs.Forms.{off, line, read_form}
 use Rattle.job_text.specs.Lines.{limit, bounds_form, cell_form, blocks_form, band_form}
 use Rattle.job_text.specs.Parts.{Spelt}
 use Rattle.job_text.specs.Reading.{Written, Read, Parts, parts, read_parts, on_line, on_parts, read_text, grid_of, band_of, reading_of}
-use Rattle.job_text.specs.declared.Reading.{Reading}
+use Rattle.std.proofs.Common.{Result}
+use Rattle.job_text.specs.declared.Job.{Job}
+use Rattle.job_text.specs.declared.OffForm.{OffForm}
 use Rattle.job_text.specs.Inner.TextAnswers.{model_reading}
 
 -- a job as it is written, from its lines' numbers
@@ -67,7 +69,7 @@ module _ (text : List ℕ) where
         unfolding read_text on_line
         then_parts band t4 four = rw (one, two, three, four)
 
-pub model_same : (p : Parts) {r : Reading} {g h : Grid} {b c : Band} → r ≡ model_reading g b p → g ≡ h → b ≡ c → r ≡ model_reading h c p
+pub model_same : (p : Parts) {r : Result Job OffForm} {g h : Grid} {b c : Band} → r ≡ model_reading g b p → g ≡ h → b ≡ c → r ≡ model_reading h c p
 model_same p is grid band = rw (← grid, ← band) is
 
 -- a text whose four lines are read, and then its parts

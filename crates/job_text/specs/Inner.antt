@@ -1,4 +1,3 @@
 -- What the inner functions and the laws of this crate state. No promise of a public call names these.
 pub mod TextAnswers
-pub mod Kinds
 pub mod Inputs

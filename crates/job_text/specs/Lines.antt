@@ -2,7 +2,11 @@
 use Rattle.std.specs.Prelude.{ℕ, List, [], ◌∷◌, map}
 use Prim.Native.String.{String}
 use Rattle.forms.specs.Bytes.{bytes}
-use Rattle.forms.specs.Forms.{Piece, piece_of}
+use Rattle.forms.specs.Forms.{piece_of}
+use Rattle.forms.specs.declared.Piece.{Piece}
+pub use Rattle.job_text.specs.declared.parts.PartKind.{PartKind}
+pub use Rattle.job_text.specs.declared.parts.PartKind.TheVariants.{Const as const, Sphere as sphere, Plane as plane, Min as min, Max as max}
+pub use Rattle.job_text.specs.declared.parts.PartKind.TheVariants.{Add as add, Sub as sub, Neg as neg}
 
 -- a form as a quoted text, with its single spaces and the byte 10 at its end (rule T3)
 abbrev pub form : String → List Piece
@@ -30,17 +34,6 @@ blocks_form = form "(blocks D D)\n"
 abbrev pub band_form : List Piece
 band_form = form "(band H H)\n"
 
--- the kinds of part lines (rule T5)
-pub data PartKind : Type 0 where
-  const : PartKind
-  sphere : PartKind
-  plane : PartKind
-  min : PartKind
-  max : PartKind
-  add : PartKind
-  sub : PartKind
-  neg : PartKind
-
 -- the line of each kind: numbers of a shape, or its inputs (rule T5)
 abbrev pub part_form : PartKind → List Piece
 part_form const = form "(const H)\n"
@@ -52,6 +45,6 @@ part_form add = form "(add D D)\n"
 part_form sub = form "(sub D D)\n"
 part_form neg = form "(neg D)\n"
 
--- in the order of their numbers in the code
+-- in the order in which a line is held against their forms
 abbrev pub part_kinds : List PartKind
 part_kinds = const ∷ sphere ∷ plane ∷ min ∷ max ∷ add ∷ sub ∷ neg ∷ []

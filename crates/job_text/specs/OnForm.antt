@@ -1,6 +1,7 @@
 -- What is on its form: numbers of a line, a job as it is written, the first lines of a text; and the first line that is not.
 use Rattle.std.specs.Prelude.{ℕ, zero, suc, ◌≤◌, ◌<◌, ◌≡◌, List, [], ◌∷◌, length}
-use Rattle.forms.specs.Forms.{Piece, fields}
+use Rattle.forms.specs.Forms.{fields}
+use Rattle.forms.specs.declared.Piece.{Piece}
 use Rattle.forms.specs.Fitting.{Fits, Spells}
 use Rattle.job_text.specs.Lines.{limit, bounds_form, cell_form, blocks_form, band_form, part_form}
 use Rattle.job_text.specs.Parts.{Spelt}

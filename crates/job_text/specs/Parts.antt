@@ -12,8 +12,11 @@ use Rattle.job_text.specs.Lines.{limit, PartKind, const, sphere, plane, min, max
 abbrev pub word : List ℕ → ℕ → ℕ
 word xs i = get_or xs i 0
 
+abbrev pub float_of : ℕ → Float
+float_of b = of_bits binary64 b
+
 abbrev pub real : List ℕ → ℕ → Float
-real xs i = of_bits binary64 (word xs i)
+real xs i = float_of (word xs i)
 
 -- the part of a kind with a line's numbers; inputs are the numbers of part lines (rule T5)
 unfoldable pub part_from : PartKind → List ℕ → Part

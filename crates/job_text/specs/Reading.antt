@@ -1,5 +1,5 @@
 -- What a text is read as: the input that it spells with the bits of its constants (rule T8), or 12 with a line (rules T7 and C12).
-use Rattle.std.specs.Prelude.{ℕ, zero, suc, ◌+◌, ◌-◌, List, [], ◌∷◌, ◌++◌, map, length, replicate}
+use Rattle.std.specs.Prelude.{ℕ, zero, suc, ◌+◌, ◌-◌, List, [], ◌∷◌, ◌++◌, map, length, replicate, Result, Ok, Err}
 use Rattle.float.specs.Zero.{plus_zero}
 use Rattle.geometry.specs.declared.Vec3.{Vec3}
 use Rattle.geometry.specs.Values.{vec3, box}
@@ -10,8 +10,7 @@ use Rattle.model.specs.declared.Part.TheVariants.{Constant}
 use Rattle.input.specs.declared.Input.{Input}
 use Rattle.forms.specs.Forms.{Line, off, line, read_form}
 use Rattle.job_text.specs.declared.Job.{Job}
-use Rattle.job_text.specs.declared.Judgement.TheVariants as judgement
-use Rattle.job_text.specs.declared.Reading.{Reading}
+use Rattle.job_text.specs.declared.OffForm.{OffForm}
 use Rattle.job_text.specs.Lines.{limit, bounds_form, cell_form, blocks_form, band_form}
 use Rattle.job_text.specs.Parts.{word, real, part_from, pattern_from, Spelt, PartLine, none, part, read_part}
 
@@ -106,17 +105,13 @@ job_with g b ss = record { input = input_with g b ss; patterns = patterns_of ss 
 abbrev pub job_of : Written → Job
 job_of w = job_with (grid_of w.bounds w.cell w.blocks) (band_of w.band) w.parts
 
--- a job with nothing written
-abbrev pub no_job : Job
-no_job = job_of (record { bounds = []; cell = []; blocks = []; band = []; parts = [] })
+abbrev pub read_job : Job → Result Job OffForm
+read_job j = Ok j
 
-abbrev pub read_job : Job → Reading
-read_job j = record { judgement = judgement.OnForm; job = j }
-
-abbrev pub off_reading : ℕ → Reading
-off_reading n = record { judgement = judgement.OffAt n; job = no_job }
+abbrev pub off_reading : ℕ → Result Job OffForm
+off_reading n = Err (record { line = n })
 
 -- the code's answer: 12 comes before every cause of an input, as there is none yet (rules T8 and C52)
-unfoldable pub reading_of : Read → Reading
+unfoldable pub reading_of : Read → Result Job OffForm
 reading_of (Read.off_at n) = off_reading n
 reading_of (written w) = read_job (job_of w)

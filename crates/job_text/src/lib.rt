@@ -1,9 +1,9 @@
 // The text of a job, read into an input with the bits of its constants.
 #![tactic(auto)]
 
-use forms::End;
 use input::Input;
-use model::Part;
+use std::error::Error;
+use std::fmt;
 
 mod nan; // nan.rt: the bits of a NaN leaf value
 mod parts; // parts.rt: a part line
@@ -22,24 +22,16 @@ pub struct Job {
     pub patterns: [u64; 64],
 }
 
-// Whether a text is on its form, or the first line that is off it.
-#[derive(Clone, Copy)]
-pub enum Judgement {
-    OnForm,
-    OffAt(u32),
+// A text that is off its form, and the first line that is.
+#[derive(Clone, Copy, Debug, PartialEq, Eq)]
+pub struct OffForm {
+    pub line: u32,
 }
 
-// What a text is read as: a job, which is empty where the text is off its form.
-#[derive(Clone, Copy)]
-pub struct Reading {
-    pub judgement: Judgement,
-    pub job: Job,
+impl fmt::Display for OffForm {
+    fn fmt<W: fmt::Write>(&self, f: &mut fmt::Formatter<W>) -> fmt::Result {
+        write!(f, "line {} is off its form", self.line)
+    }
 }
 
-// A part line: the part that it spells, its bits where it is a constant, and where the text goes on.
-#[derive(Clone, Copy)]
-pub struct PartLine {
-    pub part: Part,
-    pub pattern: u64,
-    pub end: End,
-}
+impl Error for OffForm {}

@@ -16,7 +16,8 @@ use Rattle.grid.specs.declared.Grid.{Grid}
 use Rattle.grid.specs.Blocks.{cube}
 use Rattle.grid.specs.Nodes.{nodes_of}
 use Rattle.grid.specs.Boxes.{active}
-use Rattle.grid.specs.Counting.{counts_of, same_grid}
+use Rattle.grid.specs.Counting.{counts_of}
+use Rattle.grid.specs.declared.GridCounts.{GridCounts}
 use Rattle.schedule.specs.Plan.{Plan}
 use Rattle.schedule.specs.declared.Cursor.{Cursor}
 use Rattle.lists.specs.Sums.{sum_from, sum_below, bit}
@@ -109,6 +110,10 @@ module _ (l : List ℕ) (i : ℕ) {n m : ℕ} (e : n ≡ sum_below (λ p. bit (n
 and_yes : (a : Bool) → (a && true) ≡ a
 and_yes true = refl
 and_yes false = refl
+
+-- whether a grid's counts are the same
+abbrev pub same_grid : GridCounts → GridCounts → Bool
+same_grid a b = eqb a.nodes b.nodes && eqb a.active b.active
 
 module _ (g : Grid) (c : Counts) where
   abbrev counted : Bool

@@ -3,6 +3,7 @@ pub mod NanValues
 pub mod NanRead
 pub mod LineLaws
 pub mod ListingLaws
+pub mod SheetLaws
 pub mod WrittenLaws
 pub mod PlanListing
 pub mod ListingFits

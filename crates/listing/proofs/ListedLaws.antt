@@ -33,10 +33,8 @@ use Rattle.sparse_field.proofs.WholeJob.{record_after, job_opened, job_finished,
 use Rattle.grid.proofs.LimitLaws.{bound_fits}
 use Rattle.forms.specs.Forms.{spell}
 use Rattle.job_text.specs.declared.Job.{Job}
-use Rattle.listing.specs.declared.Listing.{Listing}
-use Rattle.listing.specs.declared.Listing.TheVariants as listing
-use Rattle.job_text.specs.declared.Reading.{Reading}
-use Rattle.job_text.specs.declared.Judgement.TheVariants.{OnForm, OffAt}
+use Rattle.std.proofs.Common.{Result, Ok, Err}
+use Rattle.job_text.specs.declared.OffForm.{OffForm}
 use Rattle.listing.specs.Lines.{refused_form, off_form}
 use Rattle.job_text.specs.Reading.{Read, off_at, written, read_text, job_of, reading_of}
 use Rattle.job_text.specs.NanBits.{job_nan}
@@ -87,24 +85,24 @@ accepted_none i r m e = accepted_zero (sparse.answer (lengths_of m) i) (sym (ope
 
 -- ---- what is printed, by what a text is read as
 
-pub off_listed : (r : Read) (n : ℕ) → (reading_of r).judgement ≡ OffAt n → read_listed r ≡ spell off_form (n ∷ [])
+pub off_listed : (r : Read) (e : OffForm) → reading_of r ≡ Err e → read_listed r ≡ spell off_form (e.line ∷ [])
 unfolding reading_of read_listed
-off_listed (off_at k) n e = let same : k ≡ n = cc in ap (λ x. spell off_form (x ∷ [])) same
-off_listed (written w) n e = let z : ◌≡◌ {A = ℕ} 0 1 = cc in absurd (omega arith)
+off_listed (off_at k) e is = let same : record { line = k } ≡ e = cc in ap (λ x. spell off_form (x.line ∷ [])) same
+off_listed (written w) e is = let z : ◌≡◌ {A = ℕ} 0 1 = cc in absurd (omega arith)
 
-pub on_listed : (r : Read) → (reading_of r).judgement ≡ OnForm → read_listed r ≡ job_listed (reading_of r).job
+pub on_listed : (r : Read) (j : Job) → reading_of r ≡ Ok j → read_listed r ≡ job_listed j
 unfolding reading_of read_listed
-on_listed (off_at k) e = let z : ◌≡◌ {A = ℕ} 0 1 = cc in absurd (omega arith)
-on_listed (written w) e = refl
+on_listed (off_at k) j is = let z : ◌≡◌ {A = ℕ} 0 1 = cc in absurd (omega arith)
+on_listed (written w) j is = let same : job_of w ≡ j = cc in ap job_listed same
 
 -- the same of what the code reads
-pub off_here : (text : List ℕ) (n : ℕ) (x : Reading) → x ≡ reading_of (read_text text) → x.judgement ≡ OffAt n → spell off_form (n ∷ []) ≡ listed text
+pub off_here : (text : List ℕ) (e : OffForm) → Err e ≡ reading_of (read_text text) → spell off_form (e.line ∷ []) ≡ listed text
 unfolding listed
-off_here text n x is off = sym (off_listed (read_text text) n (sym (ap (λ y. y.judgement) is) ∙ off))
+off_here text e is = sym (off_listed (read_text text) e (sym is))
 
-pub on_here : (text : List ℕ) (x : Reading) → x ≡ reading_of (read_text text) → x.judgement ≡ OnForm → job_listed x.job ≡ listed text
+pub on_here : (text : List ℕ) (j : Job) → Ok j ≡ reading_of (read_text text) → job_listed j ≡ listed text
 unfolding listed
-on_here text x is on = ap (λ y. job_listed y.job) is ∙ sym (on_listed (read_text text) (sym (ap (λ y. y.judgement) is) ∙ on))
+on_here text j is = sym (on_listed (read_text text) j (sym is))
 
 -- ---- a budget that covers every job
 
@@ -204,23 +202,9 @@ unfolding listed
 listed_fits text = read_fits (read_text text)
 
 -- so it is not refused where so many are lent
-module _ (text out : List ℕ) (enough : 88176 ≤ length out) {x : Listing} (answer : x ≡ put_answer (listed text) out) where
-  whole : put_answer (listed text) out ≡ listing.Bytes (length (listed text))
-  unfolding put_answer
-  whole = rw (le-leb (length (listed text)) (length out) (omega (arith, listed_fits text)))
+pub whole : (text out : List ℕ) → 88176 ≤ length out → put_answer (listed text) out ≡ Ok (length (listed text))
+unfolding put_answer
+whole text out enough = rw (le-leb (length (listed text)) (length out) (omega (arith, listed_fits text)))
 
-  pub whole_end : (n : ℕ) → x ≡ listing.Bytes n → (n ≡ length (listed text)) × (n ≤ 88176)
-  whole_end n is =
-      let here : listing.Bytes (length (listed text)) ≡ listing.Bytes n = sym whole ∙ sym answer ∙ is in
-      let same : length (listed text) ≡ n = cc in
-      (sym same, omega (arith, listed_fits text))
-
-  pub whole_unrefused : {A : Type 0} (k : ℕ) → x ≡ listing.Refused k → A
-  whole_unrefused k is =
-      let here : listing.Bytes (length (listed text)) ≡ listing.Refused k = sym whole ∙ sym answer ∙ is in
-      let none : ◌≡◌ {A = ℕ} 0 1 = cc in absurd (omega arith)
-
-  pub whole_printed : {A : Type 0} → x ≡ listing.NotPrintable → A
-  whole_printed is =
-      let here : listing.Bytes (length (listed text)) ≡ listing.NotPrintable = sym whole ∙ sym answer ∙ is in
-      let none : ◌≡◌ {A = ℕ} 0 1 = cc in absurd (omega arith)
+pub ok_same : {E : Type 0} {x y : ℕ} → ◌≡◌ {A = Result ℕ E} (Ok x) (Ok y) → x ≡ y
+ok_same same = cc

@@ -2,7 +2,7 @@
 use Prim.Native.Nat.{ℕ, zero, suc, ◌+◌, ◌/◌, ◌%◌, ◌≤◌, ◌<◌, ◌-◌}
 use mathlib.Core.Path.{◌≡◌, refl, sym, ap, ap₂, ◌∙◌}
 use mathlib.Core.Bool.{Bool, true, false, ◌&&◌}
-use mathlib.Core.List.{List, [], ◌∷◌, ◌++◌, append_assoc, append-nil}
+use mathlib.Core.List.{List, [], ◌∷◌, ◌++◌}
 use native.Mathlib.Nat.{zero-add, add-zero, add-suc, suc-add}
 use native.Mathlib.Numerals.{add-one}
 use native.Mathlib.Omega.{arith}
@@ -19,8 +19,8 @@ use Rattle.schedule.specs.declared.Counts.{Counts}
 use Rattle.lists.proofs.Sums.{sum_from_most}
 use Rattle.forms.specs.Digits.{decimal_of}
 use Rattle.forms.specs.Forms.{spell, spell_piece, piece_of, is_field, after}
-use Rattle.listing.specs.declared.Listing.TheVariants.{Bytes, Refused}
-use Rattle.listing.specs.Lines.{done_form}
+use Rattle.std.proofs.Common.{Ok, Err}
+use Rattle.listing.specs.declared.unlisted.Unlisted.TheVariants.{Refused}
 use Rattle.listing.specs.Listing.{done_line, lines_from, kind_line, line_at, listing_to}
 use Rattle.listing.specs.Inner.Lengths.{length_at, Sizes}
 use Rattle.listing.specs.Written.{placed, all_placed, put_bytes, put_answer}
@@ -71,41 +71,22 @@ module _ (points size : ℕ) (kinds places : List ℕ) where
 -- ---- lines, one after the other
 
 module _ (f : ℕ → List ℕ) where
-  lines_last : (r j : ℕ) → lines_from f (suc r) j ≡ lines_from f r j ++ f (j + r)
+  -- the line at place j, then the others
+  pub lines_turn : (total j : ℕ) → j < total → lines_from f (total - j) j ≡ f j ++ lines_from f (total - (j + 1)) (j + 1)
   unfolding lines_from
-  lines_last zero j = rw (add-zero j) (append-nil (f j))
-  lines_last (suc r) j =
-      ap (λ t. f j ++ t) (lines_last r (suc j))
-      ∙ sym (append_assoc (f j) (lines_from f r (suc j)) (f (suc j + r)))
-      ∙ ap (λ k. lines_from f (suc r) j ++ f k) (suc-add j r ∙ sym (add-suc j r))
+  lines_turn total j below =
+      let left : total - j ≡ suc (total - (j + 1)) = omega arith in
+      rw (left, add-one j)
 
-  -- one line more, at the end
-  pub lines_next : (r : ℕ) → lines_from f (r + 1) 0 ≡ lines_from f r 0 ++ f r
-  lines_next r = ap (λ n. lines_from f n 0) (add-one r) ∙ lines_last r 0 ∙ ap (λ k. lines_from f r 0 ++ f k) (zero-add r)
+  pub lines_done : (total j : ℕ) → total ≤ j → lines_from f (total - j) j ≡ []
+  unfolding lines_from
+  lines_done total j past = let none : total - j ≡ 0 = omega arith in rw none
 
   pub lines_measured : (g : ℕ → ℕ) → ((i : ℕ) → length (f i) ≡ g i) → (r j : ℕ) → length (lines_from f r j) ≡ sum_from g r j
   unfolding lines_from sum_from
   lines_measured g each zero j = refl
   lines_measured g each (suc r) j =
       length-append (f j) (lines_from f r (suc j)) ∙ ap₂ (λ a b. a + b) (each j) (lines_measured g each r (suc j))
-
-  lines_more : (r s : ℕ) → length (lines_from f r 0) ≤ length (lines_from f (r + s) 0)
-  lines_more r zero = rw (add-zero r) (omega arith)
-  lines_more r (suc s) =
-      let next : r + suc s ≡ r + s + 1 = omega arith in
-      rw (next, lines_next (r + s)) (omega (arith, length-append (lines_from f (r + s) 0) (f (r + s)), lines_more r s))
-
-  -- the line at place j ends within the lines
-  pub line_within : (total j : ℕ) → j < total → length (lines_from f j 0) + length (f j) ≤ length (lines_from f total 0)
-  line_within total j below =
-      let all : j + 1 + (total - (j + 1)) ≡ total = omega arith in
-      omega (
-        arith,
-        length-append (lines_from f j 0) (f j),
-        ap length (lines_next j),
-        lines_more (j + 1) (total - (j + 1)),
-        ap (λ n. length (lines_from f n 0)) all,
-      )
 
 pub lines_cong : (f g : ℕ → List ℕ) (r j : ℕ) → ((i : ℕ) → i < j + r → f i ≡ g i) → lines_from f r j ≡ lines_from g r j
 unfolding lines_from
@@ -147,17 +128,6 @@ listing_measured total children points nan k m =
     (lines_measured (line_at children points nan m) (length_at children points m.kinds)
     (line_length children points nan m) total 0)
 
--- the first line, from its counts
-pub done_spelling : (k : Counts) {xs : List ℕ} → xs ≡ k.grid.nodes ∷ k.grid.active ∷ k.leaves ∷ k.sampled ∷ k.evaluations ∷ []
-    → spell done_form xs ≡ done_line k
-unfolding done_line
-done_spelling k numbers = ap (spell done_form) numbers
-
-pub done_length :
-    (k : Counts) {xs : List ℕ} → xs ≡ k.grid.nodes ∷ k.grid.active ∷ k.leaves ∷ k.sampled ∷ k.evaluations ∷ []
-    → length (spell done_form xs) ≡ length (done_line k)
-done_length k numbers = ap length (done_spelling k numbers)
-
 number_most : (x n : ℕ) (t : List ℕ) → length t ≤ n → length (decimal_of x ++ t) ≤ 20 + n
 number_most x n t few = omega (arith, length-append (decimal_of x) t, decimal_length x)
 
@@ -175,10 +145,16 @@ done_most k =
     let second = number_most k.grid.active 65 from_third (omega (arith, third)) in
     omega (arith, number_most k.grid.nodes 86 from_second (omega (arith, second)))
 
+pub listing_most :
+    (total children points nan : ℕ) (k : Counts) (m : Memory) → Sizes total children points
+    → length (listing_to total children points nan k m) < 18446744073709551616
+listing_most total children points nan k m sizes =
+    omega (arith, listing_measured total children points nan k m, lengths_most total children points m.kinds sizes, done_most k)
+
 -- ---- bytes with 0 after them
 
 module _ (bs out : List ℕ) where
-  pub refused_answer : length out < length bs → Refused 6 ≡ put_answer bs out
+  pub refused_answer : length out < length bs → Err (Refused 6) ≡ put_answer bs out
   unfolding put_answer
   refused_answer short = rw (lt-leb (length bs) (length out) short)
 
@@ -186,9 +162,9 @@ module _ (bs out : List ℕ) where
   unfolding put_bytes
   refused_bytes short = rw (lt-leb (length bs) (length out) short)
 
-  pub accepted_answer : {n : ℕ} → n ≡ length bs → length bs ≤ length out → Bytes n ≡ put_answer bs out
+  pub accepted_answer : {n : ℕ} → n ≡ length bs → length bs ≤ length out → Ok n ≡ put_answer bs out
   unfolding put_answer
-  accepted_answer is fits = rw (le-leb (length bs) (length out) fits) (ap Bytes is)
+  accepted_answer is fits = rw (le-leb (length bs) (length out) fits) (ap Ok is)
 
   pub accepted_bytes : {l₁ l₂ : List ℕ} {n : ℕ} → length bs ≤ length out → n ≡ length bs → l₁ ≡ sets out 0 bs
       → l₂ ≡ take n l₁ ++ replicate (length l₁ - n) 0 → l₂ ≡ put_bytes bs out

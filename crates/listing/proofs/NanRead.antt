@@ -6,7 +6,8 @@ use mathlib.Core.List.{List, [], ◌∷◌, ◌++◌, map}
 use lib.ListN.{length, get_or, replicate}
 use lib.Ieee.{Float}
 use Rattle.forms.specs.Bytes.{bytes}
-use Rattle.forms.specs.Forms.{hex, byte, piece_of}
+use Rattle.forms.specs.Forms.{piece_of}
+use Rattle.forms.specs.declared.Piece.TheVariants.{Hex as hex, Byte as byte}
 use Rattle.forms.specs.Fitting.{FitsPiece, Fits}
 use Rattle.float.specs.Zero.{plus_zero}
 use Rattle.model.specs.declared.ModelComponent.{ModelComponent}
@@ -14,7 +15,10 @@ use Rattle.model.specs.declared.Part.{Part}
 use Rattle.model.specs.declared.Part.TheVariants.{Constant}
 use Rattle.model.specs.Model.{part_of, model_value}
 use Rattle.model.specs.Part.{part_in}
-use Rattle.job_text.specs.Lines.{limit, PartKind, const, sphere, plane, min, max, add, sub, neg, part_form}
+use Rattle.job_text.specs.declared.parts.PartKind.{PartKind}
+use Rattle.job_text.specs.declared.parts.PartKind.TheVariants.{Const as const, Sphere as sphere, Plane as plane, Min as min, Max as max}
+use Rattle.job_text.specs.declared.parts.PartKind.TheVariants.{Add as add, Sub as sub, Neg as neg}
+use Rattle.job_text.specs.Lines.{limit, part_form}
 use Rattle.job_text.specs.Parts.{part_from, pattern_from, Spelt}
 use Rattle.job_text.specs.Reading.{Written, written, component_of, components_of, patterns_of, job_of, read_text}
 use Rattle.job_text.specs.NanBits.{job_nan}

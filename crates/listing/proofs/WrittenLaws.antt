@@ -1,6 +1,6 @@
 -- What writing a record's listing answers, case by case, and the sizes that a possible record gives.
 use Prim.Native.Nat.{ℕ, ◌*◌, ◌≤◌}
-use mathlib.Core.Path.{◌≡◌, sym, ap, ◌∙◌}
+use mathlib.Core.Path.{◌≡◌, refl, sym, ap, ◌∙◌}
 use mathlib.Core.Bool.{true, false}
 use mathlib.Core.List.{List, []}
 use native.Mathlib.Omega.{arith}
@@ -15,13 +15,15 @@ use Rattle.schedule.specs.Memory.{Memory}
 use Rattle.schedule.specs.Opened.{lengths_of}
 use Rattle.schedule.specs.Possible.{impossible}
 use Rattle.schedule.proofs.Possible.{possible}
+use Rattle.schedule.specs.declared.Cursor.{Cursor}
+use Rattle.schedule.specs.declared.Cursor.TheVariants.{End, Corner, Point}
 use Rattle.schedule.specs.declared.Job.{Job}
 use Rattle.schedule.specs.declared.Record.{Record}
 use Rattle.schedule.specs.Lent.{memory_of}
 use Rattle.plans.specs.Plan.{plan_with}
 use Rattle.plans.specs.Sparse.{sparse}
 use Rattle.input.proofs.Clear.{no_cause_lem}
-use Rattle.listing.specs.declared.Listing.TheVariants.{Refused, NotPrintable}
+use Rattle.listing.specs.declared.unlisted.Unlisted.TheVariants.{Refused, NotPrintable}
 use Rattle.listing.specs.Inner.Lengths.{Sizes}
 use Rattle.listing.specs.Listing.{line_at, listing_to, listing}
 use Rattle.listing.specs.Written.{at_end, all_placed, printable, record_listing, refused_put, put_listing, possible_written, written}
@@ -58,7 +60,20 @@ ready j m judged =
       enough_places = none.lent.places;
     }
 
+-- the same of the sizes that the code reads of the grid
+pub sizes_read : {g : Grid} {kinds numbers places : ℕ} → Ready g kinds numbers places → {nodes children points : ℕ}
+    → nodes ≡ nodes_of g → children ≡ cube g.inner → points ≡ cube g.leaf → Sizes (nodes * children) children points
+sizes_read r nodes children points = rw (nodes, children, points) r.sizes
+
 -- ---- a possible record
+
+pub not_ended : (k : Cursor) → (k ≡ End → ⊥) → at_end k ≡ false
+not_ended End other = absurd (other refl)
+not_ended (Corner v i) other = refl
+not_ended (Point v c p) other = refl
+
+pub ended : (k : Cursor) → k ≡ End → at_end k ≡ true
+ended k is = rw is
 
 module _ (j : Job) (nan : ℕ) (m : Memory) (out : List ℕ) where
   abbrev g : Grid

@@ -1,3 +1,4 @@
 -- What the inner functions and the laws of this crate state. No promise of a public call names these.
 pub mod Lengths
 pub mod Sheets
+pub mod Texts

@@ -1,7 +1,7 @@
 -- The lines of a listing (rules T10 to T13). H stands for a float's bits, D for a decimal number.
 use Rattle.std.specs.Prelude.{ℕ, List}
 use Rattle.forms.specs.Bytes.{bytes}
-use Rattle.forms.specs.Forms.{Piece}
+use Rattle.forms.specs.declared.Piece.{Piece}
 use Rattle.job_text.specs.Lines.{form}
 
 -- the five counts (rule T10)

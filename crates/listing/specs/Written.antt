@@ -1,7 +1,7 @@
 -- What writing a job's listing answers and leaves in the lent bytes (rules T15 and T16): 7 without a job, 8 for an impossible record, "not
 -- printable" for an unfinished job or a leaf's place outside the store, then 6 where the bytes are too few. A refusal writes nothing; what
 -- lies past a listing is 0.
-use Rattle.std.specs.Prelude.{ℕ, zero, suc, ◌+◌, ◌-◌, ◌*◌, Bool, true, false, cond, ◌&&◌, ◌||◌, not, List, ◌++◌, eqb, leb, length, get_or, replicate}
+use Rattle.std.specs.Prelude.{ℕ, zero, suc, ◌+◌, ◌-◌, ◌*◌, Bool, true, false, cond, ◌&&◌, ◌||◌, not, List, ◌++◌, eqb, leb, length, get_or, replicate, Result, Ok, Err}
 use Rattle.schedule.specs.Memory.{Memory}
 use Rattle.schedule.specs.Possible.{impossible}
 use Rattle.schedule.specs.declared.Job.{Job}
@@ -10,8 +10,8 @@ use Rattle.schedule.specs.declared.Cursor.{Cursor}
 use Rattle.schedule.specs.declared.Cursor.TheVariants.{End, Corner, Point}
 use Rattle.plans.specs.Sparse.{sparse}
 use Rattle.plans.specs.Plan.{plan_of}
-use Rattle.listing.specs.declared.Listing as answers
-use Rattle.listing.specs.declared.Listing.TheVariants as answer
+use Rattle.listing.specs.declared.unlisted.Unlisted.{Unlisted}
+use Rattle.listing.specs.declared.unlisted.Unlisted.TheVariants.{Refused, NotPrintable}
 use Rattle.listing.specs.Listing.{listing}
 
 -- ---- lent bytes
@@ -21,8 +21,8 @@ unfoldable pub put_bytes : List ℕ → List ℕ → List ℕ
 put_bytes bs out = cond (leb (length bs) (length out)) (bs ++ replicate (length out - length bs) 0) out
 
 -- the answer: how many bytes, or 6 (rule T15)
-unfoldable pub put_answer : List ℕ → List ℕ → answers.Listing
-put_answer bs out = cond (leb (length bs) (length out)) (answer.Bytes (length bs)) (answer.Refused 6)
+unfoldable pub put_answer : List ℕ → List ℕ → Result ℕ Unlisted
+put_answer bs out = cond (leb (length bs) (length out)) (Ok (length bs)) (Err (Refused 6))
 
 -- ---- a record's listing
 
@@ -54,11 +54,11 @@ record_listing j nan m =
 
 -- what writing does with a listing: an answer, and the bytes after it
 pub record Put : Type 0 where
-  pub answer : answers.Listing
+  pub answer : Result ℕ Unlisted
   pub bytes : List ℕ
 
-abbrev pub refused_put : answers.Listing → List ℕ → Put
-refused_put a out = record { answer = a; bytes = out }
+abbrev pub refused_put : Unlisted → List ℕ → Put
+refused_put a out = record { answer = Err a; bytes = out }
 
 abbrev pub put_listing : List ℕ → List ℕ → Put
 put_listing bs out = record { answer = put_answer bs out; bytes = put_bytes bs out }
@@ -66,10 +66,10 @@ put_listing bs out = record { answer = put_answer bs out; bytes = put_bytes bs o
 -- of a record that is not impossible
 unfoldable pub possible_written : Job → ℕ → Memory → List ℕ → Put
 possible_written j nan m out =
-    cond (not (printable j m)) (refused_put answer.NotPrintable out) (put_listing (record_listing j nan m) out)
+    cond (not (printable j m)) (refused_put NotPrintable out) (put_listing (record_listing j nan m) out)
 
 -- of any record (rule T16)
 unfoldable pub written : Record → ℕ → Memory → List ℕ → Put
 written r nan m out =
-    cond (not r.opened) (refused_put (answer.Refused 7) out)
-    (cond (impossible sparse r.job m) (refused_put (answer.Refused 8) out) (possible_written r.job nan m out))
+    cond (not r.opened) (refused_put (Refused 7) out)
+    (cond (impossible sparse r.job m) (refused_put (Refused 8) out) (possible_written r.job nan m out))

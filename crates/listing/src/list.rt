@@ -3,15 +3,15 @@ ghost use Rattle.std.specs.Prelude.{◌≡◌, ◌≤◌, length};
 ghost use Rattle.listing.specs.Listed.{job_listed, listed};
 ghost use Rattle.listing.specs.Written.{put_answer, put_bytes};
 
-use crate::{Listing, writing};
-use job_text::{Job, Judgement};
+use crate::{Unlisted, writing};
+use job_text::Job;
 use schedule::Answer;
 
 // More evaluations than any job has.
 const ALL: u64 = 18446744073709551615;
 
 // The listing of a job, on memory of its own (rule T9).
-fn list_read(job: Job, out: &mut [u8]) -> Listing
+fn list_read(job: Job, out: &mut [u8]) -> Result<usize, Unlisted>
     ensures answer { result ≡ put_answer (job_listed job) out.old }
     ensures out { out.new ≡ put_bytes (job_listed job) out.old }
 {
@@ -56,16 +56,14 @@ fn list_read(job: Job, out: &mut [u8]) -> Listing
 
 // Puts what `fieldlist` prints for a text at the front of the lent bytes, and 0 after it. The answer is
 // how many bytes that is, or 6 where they do not fit.
-pub fn list_job(text: &[u8], out: &mut [u8]) -> Listing
+pub fn list_job(text: &[u8], out: &mut [u8]) -> Result<usize, Unlisted>
     ensures answer { result ≡ put_answer (listed text.now) out.old }
     ensures out { out.new ≡ put_bytes (listed text.now) out.old }
 {
-    let reading = job_text::read_job(text);
-    let judgement = reading.judgement;
-    if let Judgement::OffAt(line) = judgement {
-        return writing::write_off(line, out);
+    match job_text::read_job(text) {
+        Ok(job) => list_read(job, out),
+        Err(off) => writing::write_off(off.line, out),
     }
-    list_read(reading.job, out)
 }
 
 // The same into bytes that hold every listing: it cannot be refused.
@@ -74,9 +72,5 @@ pub fn list_whole(text: &[u8], out: &mut [u8]) -> usize
     ensures answer { (result ≡ length (listed text.now)) × (result ≤ 88176) }
     ensures out { out.new ≡ put_bytes (listed text.now) out.old }
 {
-    match list_job(text, out) {
-        Listing::Bytes(end) => end,
-        Listing::Refused(_) => 0,
-        Listing::NotPrintable => 0,
-    }
+    list_job(text, out).unwrap()
 }

@@ -12,8 +12,10 @@ use Rattle.lists.specs.Flags.{agrees_from}
 use Rattle.lists.proofs.Flags.{agrees_each}
 use Rattle.input.specs.declared.Input.{Input}
 use Rattle.input.specs.declared.Lengths.{Lengths}
-use Rattle.input.specs.Causes.{refusal_of, number_of}
-use Rattle.input.proofs.Clear.{Clear, no_cause_lem}
+use Rattle.std.specs.Prelude.{is_err}
+use Rattle.input.specs.Causes.{refusal_of}
+use Rattle.input.proofs.Clear.{Clear, clear}
+use Rattle.schedule.proofs.Possible.{accepted_answer}
 use Rattle.schedule.specs.declared.Counts.{Counts}
 use Rattle.schedule.specs.declared.Job.{Job}
 use Rattle.schedule.specs.declared.Cursor.{Cursor}
@@ -55,7 +57,7 @@ module _ (j : Job) (ks : List ℕ) (ns : List Float) (ps : List ℕ) (st cs : Li
   lent_now = record { kinds = length ks; numbers = length ns; places = length ps; store = length st; corners = length cs }
 
   abbrev meets_cause : Bool
-  meets_cause = not (eqb (number_of (refusal_of j.input lent_now)) 0)
+  meets_cause = is_err (refusal_of j.input lent_now)
 
   abbrev other_lengths : Bool
   other_lengths = not (same_lengths j.lengths lent_now)
@@ -87,7 +89,7 @@ module _ (j : Job) (ks : List ℕ) (ns : List Float) (ps : List ℕ) (st cs : Li
 
   module _ (a : meets_cause ≡ false) where
     pub possible_input : Clear j.input lent_now
-    possible_input = no_cause_lem j.input lent_now (eqb-true _ 0 (not-false _ a))
+    possible_input = clear j.input lent_now (accepted_answer _ a)
 
     pub impossible_lengths : other_lengths ≡ true → true ≡ is_impossible
     unfolding impossible

@@ -4,13 +4,14 @@ use mathlib.Core.Path.{◌≡◌, sym, ap, subst, ◌∙◌}
 use mathlib.Core.List.{[]}
 use native.Mathlib.Nat.{mul-pos}
 use native.Mathlib.Omega.{arith}
+use Rattle.std.specs.Prelude.{Ok}
 use Rattle.float.specs.Zero.{plus_zero}
 use Rattle.input.specs.declared.Lengths.{Lengths}
 use Rattle.grid.specs.Blocks.{cube}
 use Rattle.grid.specs.Nodes.{nodes_of}
 use Rattle.grid.specs.Limits.{children_of}
 use Rattle.grid.proofs.Counts.{i_above, j_above, k_above}
-use Rattle.input.proofs.Clear.{Clear, no_cause_lem}
+use Rattle.input.proofs.Clear.{Clear, clear}
 use Rattle.grid.proofs.LimitLaws.{inner_block, leaf_block, few_children}
 use Rattle.schedule.specs.Schedule.{schedule, nodes_from}
 use Rattle.schedule.specs.Plan.{Plan}
@@ -86,7 +87,7 @@ module _ (i : Input) (l : Lengths) (none : sparse.answer l i ≡ Ok tt) where
   P = plan_of i
 
   pub nothing : Clear i l
-  nothing = no_cause_lem i l none
+  nothing = clear i l none
 
   -- the memory that open prepares is lent
   pub start_lent : Lent P (start_memory i l)

@@ -1,6 +1,6 @@
 // The calls on a sparse field's job: open, step and drop. Each works on the record that it is given and
 // on five slices, and hands back the next record.
-ghost use Rattle.std.specs.Prelude.{◌≡◌, false};
+ghost use Rattle.std.specs.Prelude.{◌≡◌, false, Ok};
 ghost use Rattle.schedule.specs.Calls.{opens, steps, drops};
 ghost use Rattle.schedule.specs.Opened.{lengths_of};
 ghost use Rattle.schedule.specs.Possible.{impossible};
@@ -11,8 +11,9 @@ ghost use Rattle.sparse_field.specs.Inner.Parts.{start_memory};
 ghost use Rattle.plans.specs.Sparse.{sparse};
 
 use crate::{Outcome, judgement, memory, records};
-use input::{Input, Lengths, Refusal};
-use schedule::{Answer, Cursor, Job, Record};
+use causes::Cause;
+use input::{Input, Lengths};
+use schedule::{Cursor, Job, Record};
 
 // What an accepted open writes before the first event: all five slices are zeroed whole, and the kinds
 // are set.
@@ -24,8 +25,8 @@ fn prepare(
     store: &mut [f64],
     corners: &mut [f64],
 )
-    requires { sparse.cause (lengths_of
-        (memory_of kinds.old numbers.old places.old store.old corners.old)) input ≡ 0 }
+    requires { sparse.answer (lengths_of
+        (memory_of kinds.old numbers.old places.old store.old corners.old)) input ≡ Ok tt }
     ensures { memory_of kinds.new numbers.new places.new store.new corners.new ≡ start_memory input
         (lengths_of (memory_of kinds.old numbers.old places.old store.old corners.old)) }
 {
@@ -45,8 +46,8 @@ fn opened(
 ) -> Record
     requires { (lengths ≡ lengths_of
         (memory_of kinds.old numbers.old places.old store.old corners.old))
-        × (sparse.cause (lengths_of
-        (memory_of kinds.old numbers.old places.old store.old corners.old)) input ≡ 0) }
+        × (sparse.answer (lengths_of
+        (memory_of kinds.old numbers.old places.old store.old corners.old)) input ≡ Ok tt) }
     ensures next { result ≡ (opened_engine sparse input (lengths_of
         (memory_of kinds.old numbers.old places.old store.old corners.old))).job_record }
     ensures memory { memory_of kinds.new numbers.new places.new store.new corners.new
@@ -62,6 +63,7 @@ fn opened(
 
 // Opens a job of an input, in place of the one that it finds, whatever record that is. A refusal hands
 // that record back and touches nothing.
+#[tactic(auto, unfolding(schedule::specs::Engine::engine_call, schedule::specs::Engine::engine_open))]
 pub fn open(
     found: Record,
     input: Input,
@@ -80,16 +82,15 @@ pub fn open(
         (memory_of kinds.old numbers.old places.old store.old corners.old)).next.memory }
 {
     let lengths = memory::lengths_of(kinds, numbers, places, store, corners);
-    let refusal = input::open_refusal(input, lengths);
-    if let Refusal::By(number) = refusal {
+    if let Err(cause) = input::open_refusal(&input, lengths) {
         return Outcome {
-            answer: Answer::Refused(number),
+            answer: Err(cause),
             next: found,
         };
     }
     let next = opened(input, lengths, kinds, numbers, places, store, corners);
     Outcome {
-        answer: Answer::Accepted,
+        answer: Ok(()),
         next,
     }
 }
@@ -132,6 +133,7 @@ fn stepped(
 
 // Makes as many evaluations as the budget allows and the job has left, and the work that goes with
 // them (rules S11 and S14). Refused by 7 without a job, and by 8 with an impossible record.
+#[tactic(auto, unfolding(schedule::specs::Engine::engine_call, schedule::specs::Engine::engine_step))]
 pub fn step(
     found: Record,
     budget: u64,
@@ -151,25 +153,26 @@ pub fn step(
 {
     if !found.opened {
         return Outcome {
-            answer: Answer::Refused(7),
+            answer: Err(Cause::NoJob),
             next: found,
         };
     }
     let job = found.job;
-    if judgement::is_impossible(job, kinds, numbers, places, store, corners) {
+    if judgement::is_impossible(&job, kinds, numbers, places, store, corners) {
         return Outcome {
-            answer: Answer::Refused(8),
+            answer: Err(Cause::ImpossibleRecord),
             next: found,
         };
     }
     let next = stepped(job, budget, kinds, numbers, places, store, corners);
     Outcome {
-        answer: Answer::Accepted,
+        answer: Ok(()),
         next,
     }
 }
 
 // Ends the job, if there is one, and zeroes all five slices.
+#[tactic(auto, unfolding(schedule::specs::Engine::engine_call))]
 pub fn drop(
     found: Record,
     kinds: &mut [u8],
@@ -188,7 +191,7 @@ pub fn drop(
 {
     memory::zero_all(kinds, numbers, places, store, corners);
     Outcome {
-        answer: Answer::Accepted,
+        answer: Ok(()),
         next: records::no_record(),
     }
 }

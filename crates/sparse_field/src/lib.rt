@@ -7,7 +7,8 @@
 // the node in work. Every element that is not in use is 0.
 #![tactic(auto)]
 
-use schedule::{Answer, Record};
+use causes::Cause;
+use schedule::Record;
 
 mod calls; // calls.rt: open, step and drop
 mod judgement; // judgement.rt: which records are impossible
@@ -21,6 +22,6 @@ pub use records::no_record;
 // What a call hands back: its answer, and the record for the next call.
 #[derive(Clone, Copy)]
 pub struct Outcome {
-    pub answer: Answer,
+    pub answer: Result<(), Cause>,
     pub next: Record,
 }

@@ -36,9 +36,9 @@ pub fn zero_all(
     ensures { memory_of kinds.new numbers.new places.new store.new corners.new ≡ zero_memory
         (lengths_of (memory_of kinds.old numbers.old places.old store.old corners.old)) }
 {
-    slices::zero_bytes(kinds);
-    slices::zero_floats(numbers);
-    slices::zero_words(places);
-    slices::zero_floats(store);
-    slices::zero_floats(corners);
+    kinds.fill(0);
+    numbers.fill(0.0);
+    places.fill(0);
+    store.fill(0.0);
+    corners.fill(0.0);
 }

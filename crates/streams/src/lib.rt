@@ -10,6 +10,8 @@ use std::io::Read;
 
 // Reads until the room is full, the input ends or a read fails, and returns how many bytes it put at
 // the front of the room. A read that fails ends it, and what was read before stands at the front.
+// Kept: the loop goes over reads and counts their bytes; the library's whole reads want a heap, or say
+// less of a failure.
 pub fn read_text<R: Read>(from: &mut R, room: &mut [u8]) -> io::Result<usize>
     ensures in_bounds { ReadsAtMost result room.new }
     ensures bytes { IfOk result (λ n. Consumes (R.remaining from.old) (R.remaining from.new) (take n room.new)) }

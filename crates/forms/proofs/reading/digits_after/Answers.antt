@@ -1,35 +1,29 @@
--- `digits_after` meets its contract. The invariant: what is left to read gives what the whole gives, and the number is not above the limit.
-use mathlib.Core.Path.{sym, ◌∙◌}
-use Rattle.forms.specs.Inner.Places.{Finds}
-use Rattle.forms.proofs.Turns.{after_turn, after_past, after_ends, after_all}
-use native.Mathlib.Omega.{arith}
+-- `digits_after` meets its contract.
+use Rattle.std.proofs.Common.{arith, sym, ◌∙◌}
+use Rattle.forms.proofs.Turns.{after_turn, after_past, after_other, after_all}
+use Rattle.forms.proofs.reading.digits_after.Goals.{in-Some+in_default-decimal_digit, in_default}
 use Rattle.forms.proofs.reading.digits_after.Goals as goal
 
-pub returns-then-d-gt9 : goal.returns-then-d-gt9
-unfolding Finds
-returns-then-d-gt9 c = (
-  sym c.loop-place.invariant.0
-      ∙ after_ends _ _ _ c.loop-place-test.true c.digit_of-d.ensures _ _
-      c.if-d-gt9.true,
-  omega arith,
-)
-
 pub returns-then-more-limit : goal.returns-then-more-limit
-unfolding Finds
 returns-then-more-limit c =
-    sym c.loop-place.invariant.0
-    ∙ after_past _ _ _ c.loop-place-test.true c.digit_of-d.ensures _ _
-    (omega arith) c.if-more-limit.true
+    after_past c.in-Some.ensures.cases.0 (sym c.decimal_digit.ensures ∙ c.in-Some-decimal_digit.is) _ c.loop-b.value
+    (omega (arith, c.from.ensures, c.if-more-limit.true))
+    ∙ c.loop-b.invariant.whole
 
-pub loop-place-preserved : goal.loop-place-preserved
-loop-place-preserved c = (
-  after_turn _ _ _ c.loop-place-test.true c.digit_of-d.ensures _
-      _ (omega arith) c.if-more-limit.false
-      ∙ c.loop-place.invariant.0,
-  omega arith,
-  omega arith,
-)
+pub loop-b-preserved : goal.loop-b-preserved
+loop-b-preserved c =
+    rw c.from.ensures (record {
+      whole =
+          after_turn c.in-Some.ensures.cases.0 (sym c.decimal_digit.ensures ∙ c.in-Some-decimal_digit.is) _ c.loop-b.value
+          (omega (arith, c.from.ensures, c.if-more-limit.false))
+          ∙ c.loop-b.invariant.whole;
+      within = omega (arith, c.from.ensures, c.if-more-limit.false);
+    })
 
 pub returns : goal.returns
-unfolding Finds
-returns c = (sym c.loop-place.invariant.0 ∙ after_all _ _ _ _ c.loop-place.invariant.2 c.loop-place-test.false, c.loop-place.invariant.2)
+returns c = elim c.match-split_first.branch [
+  | in-Some+in_default-decimal_digit w ↦
+      after_other w.in-Some.ensures.cases.0 _ c.loop-b.value (sym w.decimal_digit.ensures ∙ w.in_default-decimal_digit.is)
+      ∙ c.loop-b.invariant.whole
+  | in_default w ↦ after_all _ _ _ w.in_default.ensures.cases ∙ c.loop-b.invariant.whole
+]

@@ -1,31 +1,28 @@
 -- `read_decimal` meets its contract: one law for each way out.
-use Rattle.forms.specs.Inner.Places.{Finds}
-use Rattle.forms.proofs.AnswerLaws.{finds_same}
-use Rattle.forms.proofs.Turns.{front_ended, front_nought, front_none, front_large, front_first}
-use native.Mathlib.Omega.{arith}
+use Rattle.std.proofs.Common.{arith, sym, ◌∙◌, ap}
+use Rattle.forms.specs.Answers.{front_in}
+use Rattle.forms.proofs.Turns.{front_ended, front_nought, front_first, front_large, front_other}
 use Rattle.forms.proofs.reading.read_decimal.Goals as goal
 
-pub returns-then-at-text : goal.returns-then-at-text
-unfolding Finds
-returns-then-at-text c = front_ended _ _ _ c.requires.0 c.if-at-text.true
+pub returns-in_err-b : goal.returns-in_err-b
+returns-in_err-b c = ap front_in c.from_residual.ensures ∙ front_ended _ _ c.in_err-b.ensures.cases
 
 pub returns-then-b-eq48 : goal.returns-then-b-eq48
-unfolding Finds
-returns-then-b-eq48 c = (front_nought _ _ _ c.if-at-text.false c.if-b-eq48.true, omega arith)
+returns-then-b-eq48 c = front_nought c.in_ok-b.ensures.cases.0 _ c.if-b-eq48.true
 
-pub returns-then-d-gt9 : goal.returns-then-d-gt9
-unfolding Finds
-returns-then-d-gt9 c = front_none _ _ _ c.if-at-text.false c.digit_of-d.ensures _ c.if-d-gt9.true
+pub returns-in_err-decimal_digit : goal.returns-in_err-decimal_digit
+returns-in_err-decimal_digit c =
+    ap front_in c.from_residual-in_err-decimal_digit.ensures
+    ∙ front_other c.in_ok-b.ensures.cases.0 _ (sym c.decimal_digit.ensures ∙ c.in_err-decimal_digit.was)
 
 pub returns-then-d-limit : goal.returns-then-d-limit
-unfolding Finds
 returns-then-d-limit c =
-    front_large _ _ _ c.if-at-text.false c.digit_of-d.ensures _
-    c.if-b-eq48.false (omega arith) c.if-d-limit.true
+    front_large c.in_ok-b.ensures.cases.0 (sym c.decimal_digit.ensures ∙ c.in_ok-decimal_digit.was) _ c.if-b-eq48.false
+    (omega (arith, c.from-d.ensures, c.if-d-limit.true))
 
 pub returns : goal.returns
 returns c =
-    finds_same _ _ _ c.digits_after.ensures _
-    (front_first _ _ _ c.if-at-text.false
-    c.digit_of-d.ensures _ c.if-b-eq48.false (omega arith)
-    c.if-d-limit.false)
+    c.digits_after.ensures
+    ∙ rw c.from-d.ensures
+    (front_first c.in_ok-b.ensures.cases.0 (sym c.decimal_digit.ensures ∙ c.in_ok-decimal_digit.was) _ c.if-b-eq48.false
+    (omega (arith, c.from-d.ensures, c.if-d-limit.false)))

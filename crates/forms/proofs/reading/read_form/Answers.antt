@@ -1,50 +1,36 @@
--- `read_form` meets its contract. The invariant: with the numbers kept so far, what is left to read gives what the whole gives.
-use mathlib.Core.Path.{refl}
-use Rattle.forms.specs.Inner.Places.{ReadsTo}
-use Rattle.forms.proofs.AnswerLaws.{finds_off, finds_number}
-use Rattle.forms.proofs.FormTurns.{kept_first, kept_room, kept_off, kept_turn, kept_done}
-use native.Mathlib.Omega.{arith}
+-- `read_form` meets its contract.
+use Rattle.std.proofs.Common.{ap, sym, ◌∙◌}
+use Rattle.forms.specs.Answers.{line_in}
+use Rattle.forms.proofs.FormTurns.{kept_first, kept_off, kept_room, kept_number, kept_byte, kept_line, kept_zeros}
+use Rattle.forms.proofs.reading.read_form.Goals.{then-is_field, else-is_field}
 use Rattle.forms.proofs.reading.read_form.Goals as goal
 
-pub loop-i-init : goal.loop-i-init
-loop-i-init c = kept_first _ _ _ _ c.requires.0
+pub loop-b-init : goal.loop-b-init
+loop-b-init g c = kept_first _ _ _ _
 
-pub read_piece-requires : goal.read_piece-requires
-read_piece-requires c = (c.loop-i.invariant.within, c.requires.2)
+pub returns-in_err-front-clause-line : goal.returns-in_err-front-clause-line
+returns-in_err-front-clause-line g c =
+    ap (line_in _) c.from_residual.ensures
+    ∙ kept_off c.loop-b-test.true _ c.from-piece.ensures c.loop-b.invariant (sym c.in_err-front.ensures)
 
-pub returns-in_default : goal.returns-in_default
-unfolding ReadsTo
-returns-in_default c = (
-  kept_off _ _ _ _ _ _ _ _ c.loop-i-test.true
-      c.loop-i.invariant
-      (finds_off _ _ _ c.read_piece.ensures c.in_default.is),
-  refl,
-)
+pub bounds-numbers-count : goal.bounds-numbers-count
+bounds-numbers-count g c =
+    kept_room c.loop-b-test.true _ c.from-piece.ensures c.loop-b.invariant c.requires.few (sym c.if-is_field.ensures)
 
-pub keep-requires : goal.keep-requires
-keep-requires c =
-    kept_room _ _ _ _ _ _ _ _ c.loop-i-test.true
-    c.loop-i.invariant
-    c.requires.1
+pub loop-b-preserved : goal.loop-b-preserved
+loop-b-preserved g c = elim c.if-is_field.branch [
+  | then-is_field w ↦
+      rw (w.numbers-is, w.count-is)
+      (kept_number c.loop-b-test.true _ c.from-piece.ensures c.loop-b.invariant _ _ (sym c.in_ok-front.ensures) c.requires.few
+      (sym c.is_field.ensures ∙ w.if-is_field.true))
+  | else-is_field w ↦
+      rw (w.numbers-is, w.count-is)
+      (kept_byte c.loop-b-test.true _ c.from-piece.ensures c.loop-b.invariant _ _ (sym c.in_ok-front.ensures)
+      (sym c.is_field.ensures ∙ w.if-is_field.false))
+]
 
-pub next_field-count-requires : goal.next_field-count-requires
-next_field-count-requires c =
-    omega (
-      arith,
-      c.loop-i.invariant.count_left,
-      c.requires.1,
-    )
+pub returns-clause-line : goal.returns-clause-line
+returns-clause-line g c = kept_line c.loop-b.auto.b-index-end c.loop-b-test.false c.loop-b.invariant
 
-pub loop-i-preserved : goal.loop-i-preserved
-loop-i-preserved c =
-    let read =
-    finds_number _ _ _ c.read_piece.ensures _ _
-    c.in-Number.is in
-    let taken = c.loop-i-test.true in
-    let inv = c.loop-i.invariant in
-    kept_turn _ _ _ _ _ _ _ _ taken inv _ _ read.0
-    c.requires.1
-    read.1 _ _ c.keep.ensures c.next_field-count.ensures
-
-pub returns : goal.returns
-returns c = kept_done _ _ _ _ _ _ _ _ c.loop-i-test.false c.loop-i.invariant
+pub returns-clause-zeros : goal.returns-clause-zeros
+returns-clause-zeros g c = kept_zeros c.loop-b.auto.b-index-end c.loop-b-test.false c.loop-b.invariant

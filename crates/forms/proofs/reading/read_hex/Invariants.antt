@@ -1,14 +1,10 @@
 -- `read_hex` meets its contract. The invariant: what is left to read gives what the whole gives, and the number has room for the digits left.
-use mathlib.Core.Path.{◌≡◌}
-use Prim.Native.Nat.{◌+◌, ◌*◌, ◌^◌, ◌≤◌}
-use lib.ListN.{length, drop}
+use Rattle.std.proofs.Common.{◌≡◌, ◌+◌, ◌-◌, ◌*◌, ◌^◌, ◌≤◌, ◌++◌, drop}
 use Rattle.forms.specs.Fronts.{hex_after}
 use Rattle.forms.proofs.reading.read_hex.Given as goal
 
-abbrev pub invariant-loop-left : goal.invariant-loop-left
-invariant-loop-left l =
-    (hex_after l.left l.value (drop l.place l.text) ≡ hex_after 16 0 (drop l.at l.text)) × ((l.value + 1) * 16 ^ l.left ≤ 2 ^ 64)
-    × (l.place ≤ length l.text)
-
-abbrev pub decreases-loop-left : goal.decreases-loop-left
-decreases-loop-left l = l.left
+abbrev pub invariant-loop-b : goal.invariant-loop-b
+invariant-loop-b l = record {
+  whole : hex_after (16 - l.b-index) l.value (drop l.b-index l.digits ++ l.rest) ≡ hex_after 16 0 (l.digits ++ l.rest);
+  room : (l.value + 1) * 16 ^ (16 - l.b-index) ≤ 2 ^ 64;
+}

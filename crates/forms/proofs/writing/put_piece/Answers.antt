@@ -1,47 +1,31 @@
 -- `put_piece` meets its contract: a piece is one of three.
-use mathlib.Core.Path.{sym, ap, ◌∙◌}
-use Prim.Native.Nat.{ℕ}
-use Rattle.forms.specs.Digits.{digits}
-use Rattle.forms.proofs.Pieces.{spell_hex, spell_decimal, spell_byte, hex_length, decimal_length, byte_length}
-use Rattle.forms.proofs.Stores.{sets_same}
-use native.Mathlib.Omega.{arith}
+use Rattle.std.proofs.Common.{sym, ◌∙◌, subst}
+use Rattle.forms.specs.Forms.{spell_piece}
+use Rattle.forms.proofs.DigitLaws.{digits_length}
 use Rattle.forms.proofs.writing.put_piece.Goals as goal
 
 pub put_hex-requires : goal.put_hex-requires
-put_hex-requires c = let a = c.args in omega (arith, hex_length a.piece a.x c.if-piece-eq72.true)
+unfolding spell_piece
+put_hex-requires g c = let room = rw c.in-Hex.is at c.requires in subst (g.S.Sink.room c.args.sink.now) (digits_length 16 16 c.args.x) room
 
-pub returns-then-piece-eq72 : goal.returns-then-piece-eq72
-returns-then-piece-eq72 c =
-    let a = c.args in
-    let is = c.if-piece-eq72.true in record { answer = omega (arith, hex_length a.piece a.x is); out = c.put_hex.ensures ∙ sets_same _ _ (spell_hex _ _ is) }
+pub put_digits-requires-clause-room : goal.put_digits-requires-clause-room
+unfolding spell_piece
+put_digits-requires-clause-room g c =
+    let room = rw c.in-Decimal.is at c.requires in
+    subst (g.S.Sink.room c.args.sink.now) (digits_length 10 _ c.args.x ∙ sym c.decimal_count.ensures) room
 
-pub put_digits-requires : goal.put_digits-requires
-put_digits-requires c =
-    let a = c.args in (
-      omega arith,
-      omega arith,
-      omega
-          (arith, c.decimal_count-count.ensures, decimal_length a.piece a.x c.if-piece-eq68.true),
-    )
+pub put_byte-requires : goal.put_byte-requires
+unfolding spell_piece
+put_byte-requires g c = rw c.in-Byte.is at c.requires
 
-pub overflow_add-result-then-piece-eq68 : goal.overflow_add-result-then-piece-eq68
-overflow_add-result-then-piece-eq68 c =
-    let a = c.args in
-    omega (
-      arith,
-      c.decimal_count-count.ensures,
-      decimal_length a.piece a.x c.if-piece-eq68.true,
-    )
+pub returns-in-Hex : goal.returns-in-Hex
+unfolding spell_piece
+returns-in-Hex g c = rw c.in-Hex.is c.put_hex.ensures
 
-pub returns-then-piece-eq68 : goal.returns-then-piece-eq68
-returns-then-piece-eq68 c =
-    let a = c.args in
-    let is = c.if-piece-eq68.true in
-    let count = c.decimal_count-count.ensures in record { answer = omega (arith, count, decimal_length a.piece a.x is); out = c.put_digits.ensures ∙ sets_same _ _ (spell_decimal _ _ is ∙ ap (λ (k : ℕ). digits 10 k a.x) (sym count)) }
+pub returns-in-Decimal : goal.returns-in-Decimal
+unfolding spell_piece
+returns-in-Decimal g c = rw (c.in-Decimal.is, ← c.decimal_count.ensures) c.put_digits.ensures
 
-pub bounds-out-at : goal.bounds-out-at
-bounds-out-at c = let a = c.args in omega (arith, byte_length a.piece a.x c.if-piece-eq72.false c.if-piece-eq68.false)
-
-pub returns : goal.returns
-returns c =
-    let a = c.args in record { answer = omega (arith, byte_length a.piece a.x c.if-piece-eq72.false c.if-piece-eq68.false); out = sets_same _ _ (spell_byte _ _ c.if-piece-eq72.false c.if-piece-eq68.false) }
+pub returns-in-Byte : goal.returns-in-Byte
+unfolding spell_piece
+returns-in-Byte g c = rw c.in-Byte.is c.put_byte.ensures

@@ -1,7 +1,6 @@
--- `nan_among` meets its contract: by the count, none, more than the array holds, or the last part's.
-use mathlib.Core.Path.{sym, ap, ◌∙◌}
-use native.Mathlib.Omega.{arith}
-use lib.ListN.{length-map}
+-- `nan_among` meets its contract: by the count, none, or more than the array holds.
+use Rattle.std.proofs.Common.{sym, ap, ◌∙◌, arith}
+use Rattle.std.proofs.lemmas.List.{length-map}
 use Rattle.model.specs.Part.{part_in}
 use Rattle.job_text.specs.NanBits.{nan_pattern}
 use Rattle.job_text.proofs.NanLaws.{nan_none, nan_past}
@@ -13,4 +12,4 @@ returns-then-count-eq0 c = sym (ap (nan_pattern _ _) c.if-count-eq0.true ∙ nan
 pub returns-then-count-gt64 : goal.returns-then-count-gt64
 returns-then-count-gt64 c =
     let a = c.args in
-    sym (nan_past _ _ a.count (omega (arith, length-map a.parts part_in)) (omega arith))
+    sym (nan_past _ _ a.count (omega (arith, length-map a.parts.now part_in)) (omega arith))

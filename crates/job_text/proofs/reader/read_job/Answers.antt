@@ -1,82 +1,71 @@
 -- `read_job` meets its contract: line after line, what is read is what the text's definition reads.
-use mathlib.Core.Path.{sym, ap, ◌∙◌}
-use native.Mathlib.Omega.{arith}
+use Rattle.std.proofs.Common.{sym, ap, ◌∙◌, arith, Err}
 use Rattle.forms.specs.Forms.{fields, is_field, piece_of}
-use Rattle.forms.proofs.AnswerLaws.{reads_off, reads_line}
 use Rattle.job_text.specs.Reading.{reading_of}
-use Rattle.job_text.proofs.PartTurns.{blocks_read_fit}
+use Rattle.job_text.proofs.OrOff.{passed_on}
+use Rattle.job_text.proofs.PartTurns.{blocks_fit}
 use Rattle.job_text.proofs.TextLines.{first_off, second_off, third_off, fourth_off, model_same, text_read}
 use Rattle.job_text.proofs.reader.read_job.Goals as goal
 
-pub read_form-bounds-requires : goal.read_form-bounds-requires
+pub read_line-requires : goal.read_line-requires
 unfolding fields is_field piece_of
-read_form-bounds-requires c = omega arith
+read_line-requires c = (omega arith, omega arith)
 
-pub returns-in_default : goal.returns-in_default
+pub returns-in_err-bounds : goal.returns-in_err-bounds
 unfolding reading_of
-returns-in_default c =
-    c.off_at.ensures ∙ sym (ap reading_of (first_off _ (reads_off _ _ _ _ _ c.read_form-bounds.ensures c.in_default.is).0))
+returns-in_err-bounds c =
+    let e = c.in_err-bounds.ensures.off in
+    passed_on _ c.from_residual.ensures.1 ∙ ap Err e.0 ∙ sym (ap reading_of (first_off _ (sym e.1)))
 
-pub read_form-cell-requires : goal.read_form-cell-requires
+pub read_line-requires-2 : goal.read_line-requires-2
 unfolding fields is_field piece_of
-read_form-cell-requires c =
-    let last = reads_line _ _ _ _ _ c.read_form-bounds.ensures _ c.in-At.is in
-    omega (arith, last.2)
+read_line-requires-2 c = (omega arith, omega arith)
 
-pub returns-in_default-second : goal.returns-in_default-second
+pub returns-in_err-cell : goal.returns-in_err-cell
 unfolding reading_of
-returns-in_default-second c =
-    let one = reads_line _ _ _ _ _ c.read_form-bounds.ensures _ c.in-At.is in
-    c.off_at-in_default-second.ensures
-    ∙ sym (ap reading_of (second_off _ _ _ one.0 (reads_off _ _ _ _ _ c.read_form-cell.ensures c.in_default-second.is).0))
+returns-in_err-cell c =
+    let e = c.in_err-cell.ensures.off in
+    passed_on _ c.from_residual-in_err-cell.ensures.1 ∙ ap Err e.0
+    ∙ sym (ap reading_of (second_off _ _ _ (sym c.in_ok-bounds.ensures.ok) (sym e.1)))
 
-pub read_form-blocks-requires : goal.read_form-blocks-requires
+pub read_line-requires-3 : goal.read_line-requires-3
 unfolding fields is_field piece_of
-read_form-blocks-requires c =
-    let last = reads_line _ _ _ _ _ c.read_form-cell.ensures _ c.in-At-second.is in
-    omega (arith, last.2)
+read_line-requires-3 c = (omega arith, omega arith)
 
-pub returns-in_default-third : goal.returns-in_default-third
+pub returns-in_err-sizes : goal.returns-in_err-sizes
 unfolding reading_of
-returns-in_default-third c =
-    let one = reads_line _ _ _ _ _ c.read_form-bounds.ensures _ c.in-At.is in
-    let two = reads_line _ _ _ _ _ c.read_form-cell.ensures _ c.in-At-second.is in
-    c.off_at-in_default-third.ensures
-    ∙ sym (ap reading_of (third_off _ _ _ one.0 _ _ two.0 (reads_off _ _ _ _ _ c.read_form-blocks.ensures c.in_default-third.is).0))
+returns-in_err-sizes c =
+    let e = c.in_err-sizes.ensures.off in
+    passed_on _ c.from_residual-in_err-sizes.ensures.1 ∙ ap Err e.0
+    ∙ sym (ap reading_of (third_off _ _ _ (sym c.in_ok-bounds.ensures.ok) _ _ (sym c.in_ok-cell.ensures.ok) (sym e.1)))
 
-pub read_form-limits-requires : goal.read_form-limits-requires
+pub read_line-requires-4 : goal.read_line-requires-4
 unfolding fields is_field piece_of
-read_form-limits-requires c =
-    let last = reads_line _ _ _ _ _ c.read_form-blocks.ensures _ c.in-At-third.is in
-    omega (arith, last.2)
+read_line-requires-4 c = (omega arith, omega arith)
 
-pub returns-in_default-fourth : goal.returns-in_default-fourth
+pub returns-in_err-limits : goal.returns-in_err-limits
 unfolding reading_of
-returns-in_default-fourth c =
-    let one = reads_line _ _ _ _ _ c.read_form-bounds.ensures _ c.in-At.is in
-    let two = reads_line _ _ _ _ _ c.read_form-cell.ensures _ c.in-At-second.is in
-    let three = reads_line _ _ _ _ _ c.read_form-blocks.ensures _ c.in-At-third.is in
-    c.off_at-in_default-fourth.ensures
-    ∙ sym (ap reading_of (fourth_off _ _ _ one.0 _ _ two.0 _ _ three.0 (reads_off _ _ _ _ _ c.read_form-limits.ensures c.in_default-fourth.is).0))
+returns-in_err-limits c =
+    let e = c.in_err-limits.ensures.off in
+    passed_on _ c.from_residual-in_err-limits.ensures.1 ∙ ap Err e.0
+    ∙ sym
+    (ap reading_of
+    (fourth_off _ _ _ (sym c.in_ok-bounds.ensures.ok) _ _ (sym c.in_ok-cell.ensures.ok) _ _ (sym c.in_ok-sizes.ensures.ok) (sym e.1)))
 
-pub grid_of-grid-requires : goal.grid_of-grid-requires
-grid_of-grid-requires c = blocks_read_fit _ _ _ _ c.read_form-blocks.ensures _ c.in-At-third.is
+pub grid_of-grid-requires-clause-inner : goal.grid_of-grid-requires-clause-inner
+grid_of-grid-requires-clause-inner c = (blocks_fit _ _ _ c.in_ok-sizes.ensures.ok).0
 
-pub read_model-requires : goal.read_model-requires
-read_model-requires c = (reads_line _ _ _ _ _ c.read_form-limits.ensures _ c.in-At-fourth.is).2
+pub grid_of-grid-requires-clause-leaf : goal.grid_of-grid-requires-clause-leaf
+grid_of-grid-requires-clause-leaf c = (blocks_fit _ _ _ c.in_ok-sizes.ensures.ok).1
 
 pub returns : goal.returns
 unfolding fields is_field piece_of
 returns c =
-    let one = reads_line _ _ _ _ _ c.read_form-bounds.ensures _ c.in-At.is in
-    let two = reads_line _ _ _ _ _ c.read_form-cell.ensures _ c.in-At-second.is in
-    let three = reads_line _ _ _ _ _ c.read_form-blocks.ensures _ c.in-At-third.is in
-    let four = reads_line _ _ _ _ _ c.read_form-limits.ensures _ c.in-At-fourth.is in
-    model_same _ c.read_model.ensures c.grid_of-grid.ensures c.band_of-band.ensures
+    model_same _ c.read_model.ensures c.grid_of-grid.ensures c.band_of.ensures
     ∙ text_read
     _
-    c.read_form-bounds.result.values
-    c.read_form-cell.result.values
-    c.read_form-blocks.result.values
-    c.read_form-limits.result.values
-    _ _ _ _ one.0 two.0 three.0 four.0
+    c.in_ok-bounds.bounds.numbers
+    c.in_ok-cell.cell.numbers
+    c.in_ok-sizes.sizes.numbers
+    c.in_ok-limits.limits.numbers
+    _ _ _ _ (sym c.in_ok-bounds.ensures.ok) (sym c.in_ok-cell.ensures.ok) (sym c.in_ok-sizes.ensures.ok) (sym c.in_ok-limits.ensures.ok)

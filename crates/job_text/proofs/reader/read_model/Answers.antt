@@ -1,35 +1,41 @@
--- `read_model` meets its contract. The invariant: the part lines before this place are in the arrays. At most 64 turns are made.
-use mathlib.Core.Path.{sym, ◌∙◌}
-use native.Mathlib.Omega.{arith}
-use Rattle.job_text.proofs.PartTurns.{part_off, part_at}
-use Rattle.job_text.proofs.Gathering.{gathered_first, gathered_done, gathered_off, gathered_turn, left_full, left_off}
+-- `read_model` meets its contract.
+use Rattle.std.proofs.Common.{◌≡◌, ◌<◌, length, sym, ap, ◌∙◌, Err, rules}
+use Rattle.job_text.specs.Inner.TextAnswers.{part_in}
+use Rattle.job_text.proofs.Gathering.{gathered_first, gathered_done, gathered_turn, left_full, left_off}
+use Rattle.job_text.proofs.OrOff.{read_ok, read_none, read_off, passed_on}
+use Rattle.job_text.proofs.PartLaws.{part_own, pattern_own}
+use Rattle.job_text.proofs.PartTurns.{line_fits}
 use Rattle.job_text.proofs.reader.read_model.Goals as goal
 
-pub loop-place-init : goal.loop-place-init
-loop-place-init c = gathered_first _ _ c.requires
+pub loop-rest-init : goal.loop-rest-init
+loop-rest-init c = gathered_first _
 
 pub returns-then-count-ge64 : goal.returns-then-count-ge64
 returns-then-count-ge64 c =
-    let g = c.loop-place.invariant in
-    let more = c.loop-place-test.true in
-    c.off_at.ensures ∙ sym (gathered_off _ _ _ _ _ _ g more 69 (left_full _ _ _ _ _ _ g more c.if-count-ge64.true) _ _)
+    let more : 0 < length c.loop-rest.rest.now = search rules in
+    left_full c.loop-rest.invariant more c.if-count-ge64.true _ _
 
-pub part_line-line-requires : goal.part_line-line-requires
-part_line-line-requires c = omega arith
+pub returns-in_err-line : goal.returns-in_err-line
+returns-in_err-line c =
+    let more : 0 < length c.loop-rest.rest.now = search rules in
+    let none = read_none c.part_line.result _ c.ok_or.ensures.value c.in_err-line.was in
+    passed_on _ c.from_residual.ensures.1
+    ∙ ap Err (read_off c.part_line.result c.ok_or.ensures.value c.in_err-line.was)
+    ∙ left_off c.loop-rest.invariant more c.if-count-ge64.false (sym (ap part_in none) ∙ c.part_line.ensures) _ _
 
-pub returns-in_default : goal.returns-in_default
-returns-in_default c =
-    let g = c.loop-place.invariant in
-    let more = c.loop-place-test.true in
-    let none = part_off _ _ _ _ _ c.part_line-line.ensures c.in_default.is in
-    c.off_at-in_default.ensures ∙ sym (gathered_off _ _ _ _ _ _ g more _ (left_off _ _ _ _ _ _ g more c.if-count-ge64.false none) _ _)
+pub part_of-requires : goal.part_of-requires
+part_of-requires c =
+    let some = read_ok c.part_line.result _ c.ok_or.ensures.value c.in_ok-line.was in
+    line_fits _ _ _ _ (sym (ap part_in some) ∙ c.part_line.ensures)
 
-pub loop-place-preserved : goal.loop-place-preserved
-loop-place-preserved c =
-    let line = part_at _ _ _ _ _ c.part_line-line.ensures _ c.in-At.is in
-    gathered_turn _ _ _ _ _ _ c.loop-place.invariant
-    c.loop-place-test.true c.if-count-ge64.false _ _ _
-    line
+pub loop-rest-preserved : goal.loop-rest-preserved
+loop-rest-preserved c =
+    let more : 0 < length c.loop-rest.rest.now = search rules in
+    let some = read_ok c.part_line.result _ c.ok_or.ensures.value c.in_ok-line.was in
+    gathered_turn c.loop-rest.invariant more c.if-count-ge64.false _ _ (sym (ap part_in some) ∙ c.part_line.ensures)
+    _ (c.part_of.ensures ∙ sym (part_own _ _)) _ (c.pattern_of.ensures ∙ sym (pattern_own _ _))
 
 pub returns : goal.returns
-returns c = sym (gathered_done _ _ _ _ _ _ c.loop-place.invariant _ _ c.loop-place-test.false)
+returns c =
+    let ended : length c.loop-rest.rest.now ≡ 0 = search rules in
+    gathered_done c.loop-rest.invariant _ _ ended

@@ -11,7 +11,7 @@ use Rattle.schedule.proofs.Sums.{up_to_most}
 use Rattle.plans.specs.Plan.{plan_of, plan_with}
 use Rattle.engine.specs.Inner.Progress.{Sized, Lent}
 use Rattle.plans.specs.Sparse.{sparse}
-use Rattle.input.proofs.Clear.{Clear, no_cause_lem}
+use Rattle.input.proofs.Clear.{Clear, clear}
 use Rattle.grid.proofs.LimitLaws.{bound_fits}
 use Rattle.sparse_field.proofs.Opening.{sized, lent_memory, valid_startable, active_within}
 use Rattle.plans.proofs.Lawful.{sparse_laws}
@@ -32,7 +32,7 @@ judged s = possible sparse s.args.job (memory s) s.requires
 
 -- its input meets no cause
 cause : (s : tie.Start) → let i = s.args.job.input in Clear i (lengths_of (memory s))
-cause s = let i = s.args.job.input in no_cause_lem i (lengths_of (memory s)) (judged s).no_cause
+cause s = let i = s.args.job.input in clear i (lengths_of (memory s)) (judged s).accepted
 
 size : (s : tie.Start) → Sized s.args.job.input.grid
 size s = sized s.args.job.input (cause s)
@@ -41,7 +41,7 @@ all : (s : tie.Start) → Lent (plan_of s.args.job.input) (memory s)
 all s = lent_memory s.args.job.input (memory s) (cause s) (judged s).active_kinds
 
 laws : (s : tie.Start) → PlanLaws (plan_of s.args.job.input)
-laws s = sparse_laws.plan_laws (lengths_of (memory s)) s.args.job.input (judged s).no_cause
+laws s = sparse_laws.plan_laws (lengths_of (memory s)) s.args.job.input (judged s).accepted
 
 -- no job has many evaluations
 few : (s : tie.Start) → evaluations_bound (plan_of s.args.job.input) ≤ 5000000000000

@@ -1,5 +1,0 @@
--- `point_at` meets its contract.
-use Rattle.job_text.proofs.parts.point_at.Goals as goal
-
-pub returns : goal.returns
-returns c = cc

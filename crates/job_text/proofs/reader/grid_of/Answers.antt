@@ -1,5 +1,0 @@
--- `grid_of` meets its contract.
-use Rattle.job_text.proofs.reader.grid_of.Goals as goal
-
-pub returns : goal.returns
-returns c = cc

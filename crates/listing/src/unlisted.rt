@@ -1,0 +1,36 @@
+// Why there is no listing.
+ghost use Rattle.std.specs.Prelude.{◌≡◌};
+ghost use Rattle.listing.specs.Unlisted.{number_of};
+
+use std::error::Error;
+use std::fmt;
+
+// A refusal by the number of its cause, or a job that is not finished or has a leaf outside the store.
+#[derive(Clone, Copy, Debug, PartialEq, Eq)]
+pub enum Unlisted {
+    Refused(u32),
+    NotPrintable,
+}
+
+// The number by which C knows it.
+impl From<Unlisted> for u32 {
+    ghost from_gives = { λ e n. n ≡ number_of e };
+
+    fn from(unlisted: Unlisted) -> u32 {
+        match unlisted {
+            Unlisted::Refused(number) => number,
+            Unlisted::NotPrintable => 8,
+        }
+    }
+}
+
+impl fmt::Display for Unlisted {
+    fn fmt<W: fmt::Write>(&self, f: &mut fmt::Formatter<W>) -> fmt::Result {
+        match self {
+            Unlisted::Refused(number) => write!(f, "refused by {number}"),
+            Unlisted::NotPrintable => write!(f, "not printable"),
+        }
+    }
+}
+
+impl Error for Unlisted {}

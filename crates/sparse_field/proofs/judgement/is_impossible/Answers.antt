@@ -1,0 +1,83 @@
+-- The tests in turn, on the lengths of the slices.
+use Rattle.std.proofs.Common.{◌≡◌, Bool, true, false, not, ◌&&◌, is_err, eqb, refl, sym, ap, ◌∙◌}
+use Rattle.input.specs.declared.Input.{Input}
+use Rattle.input.specs.declared.Lengths.{Lengths}
+use Rattle.input.specs.Causes.{refusal_of}
+use Rattle.grid.specs.Limits.{children_of}
+use Rattle.plans.specs.Plan.{plan_with}
+use Rattle.schedule.specs.Calls.{Answer}
+use Rattle.schedule.specs.Possible.{same_lengths}
+use Rattle.sparse_field.proofs.JudgedRecords.{impossible_cause, possible_input, impossible_lengths, impossible_kinds, possible_kinds, impossible_progress}
+use Rattle.sparse_field.proofs.judgement.is_impossible.Goals as goal
+
+-- whether a cause of open applies
+caused : (i : Input) {l l' : Lengths} {r : Answer} {b t : Bool} → l ≡ l' → r ≡ refusal_of i l → b ≡ is_err r → b ≡ t → is_err (refusal_of i l') ≡ t
+caused i lengths refusal tested is = ap (λ l. is_err (refusal_of i l)) (sym lengths) ∙ ap is_err (sym refusal) ∙ sym tested ∙ is
+
+-- five tests, by their first that fails
+nested : (a b c d e : Bool) → (a && (b && (c && (d && e)))) ≡ (a && b && c && d && e)
+nested false b c d e = refl
+nested true false c d e = refl
+nested true true false d e = refl
+nested true true true false e = refl
+nested true true true true e = refl
+
+-- whether the lengths are other ones
+other : (a : Lengths) {l l' : Lengths} {b t : Bool} → l ≡ l'
+    → b ≡ not (eqb a.kinds l.kinds && (eqb a.numbers l.numbers && (eqb a.places l.places && (eqb a.store l.store && eqb a.corners l.corners))))
+    → b ≡ t → not (same_lengths a l') ≡ t
+unfolding same_lengths
+other a {l} lengths tested is =
+    ap (λ l. not (same_lengths a l)) (sym lengths)
+    ∙ ap not (sym (nested (eqb a.kinds l.kinds) (eqb a.numbers l.numbers) (eqb a.places l.places) (eqb a.store l.store) (eqb a.corners l.corners)))
+    ∙ sym tested ∙ is
+
+pub returns-then-is_err : goal.returns-then-is_err
+returns-then-is_err c =
+    let a = c.args in
+    impossible_cause a.job.now a.kinds.now a.numbers.now a.places.now a.store.now a.corners.now
+    (caused _ c.lengths_of-lengths.ensures c.open_refusal.ensures c.is_err.ensures.value c.if-is_err.true)
+
+pub returns-then-ne : goal.returns-then-ne
+returns-then-ne c =
+    let a = c.args in
+    impossible_lengths a.job.now a.kinds.now a.numbers.now a.places.now a.store.now a.corners.now
+    (caused _ c.lengths_of-lengths.ensures c.open_refusal.ensures c.is_err.ensures.value c.if-is_err.false)
+    (other a.job.now.lengths c.lengths_of-lengths.ensures c.ne.ensures c.if-ne.true)
+
+pub kinds_right-requires : goal.kinds_right-requires
+unfolding children_of
+kinds_right-requires c =
+    let a = c.args in
+    let n = possible_input a.job.now a.kinds.now a.numbers.now a.places.now a.store.now a.corners.now
+    (caused _ c.lengths_of-lengths.ensures c.open_refusal.ensures c.is_err.ensures.value c.if-is_err.false) in
+    (n.two, n.five, n.lent.kinds)
+
+pub wrong_progress-requires : goal.wrong_progress-requires
+unfolding plan_with
+wrong_progress-requires c =
+    let a = c.args in
+    possible_kinds a.job.now a.kinds.now a.numbers.now a.places.now a.store.now a.corners.now
+    (caused _ c.lengths_of-lengths.ensures c.open_refusal.ensures c.is_err.ensures.value c.if-is_err.false)
+    (other a.job.now.lengths c.lengths_of-lengths.ensures c.ne.ensures c.if-ne.false)
+    (ap not (sym c.kinds_right.ensures ∙ c.if-not-kinds_right.false))
+
+pub returns-then-not-kinds_right : goal.returns-then-not-kinds_right
+unfolding plan_with
+returns-then-not-kinds_right c =
+    let a = c.args in
+    ap not c.if-not-kinds_right.true
+    ∙ impossible_kinds a.job.now a.kinds.now a.numbers.now a.places.now a.store.now a.corners.now
+    (caused _ c.lengths_of-lengths.ensures c.open_refusal.ensures c.is_err.ensures.value c.if-is_err.false)
+    (other a.job.now.lengths c.lengths_of-lengths.ensures c.ne.ensures c.if-ne.false)
+    (ap not (sym c.kinds_right.ensures ∙ c.if-not-kinds_right.true))
+
+pub returns-else-not-kinds_right : goal.returns-else-not-kinds_right
+unfolding plan_with
+returns-else-not-kinds_right c =
+    let a = c.args in
+    impossible_progress a.job.now a.kinds.now a.numbers.now a.places.now a.store.now a.corners.now
+    (caused _ c.lengths_of-lengths.ensures c.open_refusal.ensures c.is_err.ensures.value c.if-is_err.false)
+    (other a.job.now.lengths c.lengths_of-lengths.ensures c.ne.ensures c.if-ne.false)
+    (ap not (sym c.kinds_right.ensures ∙ c.if-not-kinds_right.false))
+    c.wrong_progress.ensures
