@@ -54,6 +54,7 @@ fn fill_stretch(field: Lattice, first: Vec3i, points: &mut PointRow, at: usize, 
 }
 
 // Where the points of `len` places stand, from place `at` on. Those of one row go together.
+#[tactic(auto, using(crate::proofs::RunLaws::next_stretch))]
 fn fill_points(field: Lattice, at: usize, len: usize, points: &mut PointRow)
     requires { Run field.n at len }
     ensures { points.new ≡ with_points len (λ q. place_point field (at + q)) points.old }

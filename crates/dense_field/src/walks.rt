@@ -37,7 +37,7 @@ struct Walk {
 
 impl Walk {
     // The place after the one at the cursor, or none where k has gone through. Refused by 1, then 11.
-    #[tactic(auto, unfolding(crate::specs::Walks::next_place, causes::specs::First::first_of))]
+    #[tactic(auto, using(crate::proofs::WalkLaws::walk_passed), unfolding(crate::specs::Walks::next_place, causes::specs::First::first_of))]
     fn next_place(self, least: usize) -> Result<Option<Vec3i>, Cause>
         ensures next { result ≡ next_place least self.bounds self.n self.cursor }
         ensures counted { IfOk result (λ place. IfSome place
