@@ -1,5 +1,6 @@
 pub mod Edge
 pub mod Eight
+pub mod KindNumbers
 pub mod Octets
 pub mod Numbering
 pub mod Counts

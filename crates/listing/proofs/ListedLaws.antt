@@ -13,7 +13,7 @@ use Rattle.schedule.specs.Totals.{leaves_all, total, evaluations_bound}
 use Rattle.input.specs.declared.Lengths.{Lengths}
 use Rattle.schedule.specs.Opened.{lengths_of, state_at}
 use Rattle.schedule.specs.Counts.{counts_with}
-use Rattle.schedule.specs.Calls.{opens, steps}
+use Rattle.schedule.specs.Calls.{opens, steps, Answer}
 use Rattle.schedule.specs.Engine.{engine_call, engine_open}
 use Rattle.schedule.proofs.AfterFacts.{after}
 use Rattle.schedule.proofs.EventCounts.{total_bound}
@@ -21,8 +21,8 @@ use Rattle.schedule.proofs.LedgerTheorem.{same_job}
 use Rattle.schedule.proofs.Reachable.{job_at, engine_at}
 use Rattle.input.specs.declared.Input.{Input}
 use Rattle.schedule.specs.declared.Record.{Record}
-use Rattle.schedule.specs.declared.Answer.{Answer}
-use Rattle.schedule.specs.declared.Answer.TheVariants.{Accepted, Refused}
+use Rattle.causes.specs.declared.Cause.{Cause}
+use Rattle.causes.specs.Number.{number_of}
 use Rattle.plans.specs.Plan.{plan_of, plan_with}
 use Rattle.plans.specs.Sparse.{sparse}
 use Rattle.sparse_field.specs.Calls.{called}
@@ -46,42 +46,28 @@ use Rattle.listing.specs.Listed.{listed_by, job_listed, read_listed, listed, pro
 
 -- ---- what open answers
 
-abbrev answer_for : ℕ → Answer
-answer_for zero = Accepted
-answer_for (suc n) = Refused (suc n)
-
-opened_answer : (i : Input) (r : Record) (m : Memory) → (called (opens i) r m).answer ≡ answer_for (sparse.answer (lengths_of m) i)
+opened_answer : (i : Input) (r : Record) (m : Memory) → (called (opens i) r m).answer ≡ sparse.answer (lengths_of m) i
 unfolding engine_call engine_open
 opened_answer i r m = by (sparse.answer (lengths_of m) i)
   where
-    by : (n : ℕ) → (engine_open sparse i (record { job_record = r; memory = m }) n).answer ≡ answer_for n
-    by zero = refl
-    by (suc n) = refl
+    by : (a : Answer) → (engine_open sparse i (record { job_record = r; memory = m }) a).answer ≡ a
+    by (Ok u) = refl
+    by (Err cause) = refl
 
--- a refused open: its number is the cause's, and is printed
-refused_by_lem : (j : Job) (n k : ℕ) → answer_for n ≡ Refused k → listed_by j n ≡ spell refused_form (k ∷ [])
-unfolding listed_by
-refused_by_lem j zero k e = let z : ◌≡◌ {A = ℕ} 0 1 = cc in absurd (omega arith)
-refused_by_lem j (suc n) k e = let same : suc n ≡ k = cc in ap (λ x. spell refused_form (x ∷ [])) same
-
+-- a refused open: its cause's number is printed
 module _ (j : Job) (r : Record) (m : Memory) (lengths : lengths_of m ≡ program_lengths) where
-  pub listed_refusal : (k : ℕ) → (called (opens j.input) r m).answer ≡ Refused k → job_listed j ≡ spell refused_form (k ∷ [])
-  unfolding job_listed
-  listed_refusal k e =
-      refused_by_lem j (sparse.answer program_lengths j.input) k
-      (subst (λ l. answer_for (sparse.answer l j.input) ≡ Refused k) lengths (sym (opened_answer j.input r m) ∙ e))
+  pub listed_refusal : (cause : Cause) → (called (opens j.input) r m).answer ≡ Err cause → job_listed j ≡ spell refused_form (number_of cause ∷ [])
+  unfolding job_listed listed_by
+  listed_refusal cause e =
+      ap (listed_by j) (subst (λ l. sparse.answer l j.input ≡ Err cause) lengths (sym (opened_answer j.input r m) ∙ e))
 
 -- an accepted one: its plan's listing is printed
 accepted_listed : (j : Job) → sparse.answer program_lengths j.input ≡ Ok tt → job_listed j ≡ plan_listing (plan_of j.input) (job_nan j)
 unfolding job_listed listed_by
 accepted_listed j none = ap (listed_by j) none
 
-accepted_zero : (n : ℕ) → answer_for n ≡ Accepted → n ≡ 0
-accepted_zero zero e = refl
-accepted_zero (suc n) e = let z : ◌≡◌ {A = ℕ} 0 1 = cc in absurd (omega arith)
-
-pub accepted_none : (i : Input) (r : Record) (m : Memory) → (called (opens i) r m).answer ≡ Accepted → sparse.answer (lengths_of m) i ≡ Ok tt
-accepted_none i r m e = accepted_zero (sparse.answer (lengths_of m) i) (sym (opened_answer i r m) ∙ e)
+pub accepted_none : (i : Input) (r : Record) (m : Memory) → (called (opens i) r m).answer ≡ Ok tt → sparse.answer (lengths_of m) i ≡ Ok tt
+accepted_none i r m e = sym (opened_answer i r m) ∙ e
 
 -- ---- what is printed, by what a text is read as
 
@@ -159,13 +145,13 @@ module _
     (j : Job) (r : Record) (m : Memory) {answer : Answer} (lengths : lengths_of m ≡ program_lengths)
     (answered : answer ≡ (called (opens j.input) r m).answer) where
   -- a refused one
-  pub refused_listed : (k : ℕ) → answer ≡ Refused k → spell refused_form (k ∷ []) ≡ job_listed j
-  refused_listed k is = sym (listed_refusal j r m lengths k (sym answered ∙ is))
+  pub refused_listed : (cause : Cause) → answer ≡ Err cause → spell refused_form (number_of cause ∷ []) ≡ job_listed j
+  refused_listed cause is = sym (listed_refusal j r m lengths cause (sym answered ∙ is))
 
   -- a finished one
   pub finished_listed :
       {r₁ r₂ : Record} {m₁ m₂ : Memory} {nan n : ℕ} → r₁ ≡ (called (opens j.input) r m).next.job_record
-      → m₁ ≡ (called (opens j.input) r m).next.memory → answer ≡ Accepted → n ≡ 18446744073709551615
+      → m₁ ≡ (called (opens j.input) r m).next.memory → answer ≡ Ok tt → n ≡ 18446744073709551615
       → r₂ ≡ (called (steps n) r₁ m₁).next.job_record → m₂ ≡ (called (steps n) r₁ m₁).next.memory → nan ≡ job_nan j
       → (out : List ℕ) → written_of r₂ nan m₂ out ≡ put_listing (job_listed j) out
   finished_listed {r₁} {r₂} {m₁} {m₂} {nan} {n} opened after_open accepted all done after-step is_nan out =
@@ -188,9 +174,9 @@ job_fits : (j : Job) → length (job_listed j) ≤ 88176
 unfolding job_listed listed_by
 job_fits j = by (sparse.answer program_lengths j.input) refl
   where
-    by : (n : ℕ) → sparse.answer program_lengths j.input ≡ n → length (listed_by j n) ≤ 88176
-    by zero none = listing_fits j.input (job_nan j) none
-    by (suc n) is = omega (arith, refused_fits (suc n))
+    by : (a : Answer) → sparse.answer program_lengths j.input ≡ a → length (listed_by j a) ≤ 88176
+    by (Ok u) none = listing_fits j.input (job_nan j) none
+    by (Err cause) is = omega (arith, refused_fits (number_of cause))
 
 read_fits : (r : Read) → length (read_listed r) ≤ 88176
 unfolding read_listed

@@ -22,7 +22,8 @@ use Rattle.schedule.proofs.Sums.{before_next, before_node, before_all}
 use Rattle.input.specs.declared.Input.{Input}
 use Rattle.plans.specs.Plan.{plan_with, plan_of, value_of, decide_by}
 use Rattle.plans.specs.Sparse.{sparse}
-use Rattle.input.proofs.Clear.{no_cause_lem}
+use Rattle.std.specs.Prelude.{Ok}
+use Rattle.input.proofs.Clear.{clear}
 use Rattle.plans.proofs.Plans.{active_all_lem}
 use Rattle.forms.specs.Digits.{decimal_count, decimal_of, hex_of}
 use Rattle.forms.specs.Forms.{spell, spell_piece, piece_of, is_field, after}
@@ -146,7 +147,7 @@ module _ (P : Plan) where
 pub listing_fits : (i : Input) (nan : ℕ) → sparse.answer program_lengths i ≡ Ok tt → length (plan_listing (plan_of i) nan) ≤ 88176
 unfolding plan_with
 listing_fits i nan none =
-    let n = no_cause_lem i program_lengths none in
+    let n = clear i program_lengths none in
     listing_small (plan_of i) nan n.lent.kinds (omega (
       arith,
       n.lent.store,

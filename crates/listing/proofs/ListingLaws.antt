@@ -20,6 +20,7 @@ use Rattle.lists.proofs.Sums.{sum_from_most}
 use Rattle.forms.specs.Digits.{decimal_of}
 use Rattle.forms.specs.Forms.{spell, spell_piece, piece_of, is_field, after}
 use Rattle.std.proofs.Common.{Ok, Err}
+use Rattle.causes.specs.declared.Cause.TheVariants.{TooShort}
 use Rattle.listing.specs.declared.unlisted.Unlisted.TheVariants.{Refused}
 use Rattle.listing.specs.Listing.{done_line, lines_from, kind_line, line_at, listing_to}
 use Rattle.listing.specs.Inner.Lengths.{length_at, Sizes}
@@ -154,7 +155,7 @@ listing_most total children points nan k m sizes =
 -- ---- bytes with 0 after them
 
 module _ (bs out : List ℕ) where
-  pub refused_answer : length out < length bs → Err (Refused 6) ≡ put_answer bs out
+  pub refused_answer : length out < length bs → Err (Refused TooShort) ≡ put_answer bs out
   unfolding put_answer
   refused_answer short = rw (lt-leb (length bs) (length out) short)
 

@@ -15,6 +15,9 @@ use Rattle.lists.specs.Tabulate.{tabulate}
 use Rattle.lists.proofs.Tables.{tabulate_cong}
 use Rattle.schedule.specs.Schedule.{corners_held, zeros, decision}
 use Rattle.schedule.specs.Plan.{Plan}
+use Rattle.grid.specs.declared.Kind.{Kind}
+use Rattle.grid.specs.declared.Kind.TheVariants.{Active}
+use Rattle.grid.specs.Kinds.{kind_number}
 use Rattle.grid.specs.declared.Verdict.{Verdict}
 use Rattle.grid.specs.declared.Verdict.TheVariants.{Constant, Leaf}
 use Rattle.schedule.specs.Memory.{Memory}
@@ -37,14 +40,17 @@ use Rattle.listing.proofs.WrittenLaws.{listed_whole, judged_possible}
 
 -- a constant's kind is neither an empty child's nor a leaf's
 abbrev pub Constants : Plan → Type 0
-Constants P = (v c k : ℕ) (x : Float) → decision P v c ≡ Constant k x → (k ≡ 0 → ⊥) × (k ≡ 2 → ⊥)
+Constants P = (v c : ℕ) (k : Kind) (x : Float) → decision P v c ≡ Constant k x → (kind_number k ≡ 0 → ⊥) × (kind_number k ≡ 2 → ⊥)
+
+active_kind : (k : Kind) → k ≡ Active → (kind_number k ≡ 0 → ⊥) × (kind_number k ≡ 2 → ⊥)
+active_kind k is = rw is (λ none. omega arith, λ two. omega arith)
 
 -- so it is in an input's plan
 pub plan_constants : (i : Input) → Constants (plan_of i)
 unfolding plan_with
 plan_constants i v c k x is =
     let P = plan_of i in
-    verdict_kind i.band.min i.band.max (box_of i.grid v c) (map (corners_held P v 0 zeros) (octet i.grid.inner c)) is
+    active_kind k (verdict_kind i.band.min i.band.max (box_of i.grid v c) (map (corners_held P v 0 zeros) (octet i.grid.inner c)) is)
 
 -- ---- the place of a child among all children
 
@@ -102,7 +108,7 @@ module _ (P : Plan) (m : Memory) (constants : Constants P) (done : Finished P m)
       by nan j at true (Constant k x) active dec is =
           let kinds = constants (j / P.children) (j % P.children) k x dec in
           ap (child_line nan (j / P.children) (j % P.children)) is
-          ∙ constant_line_lem P.leaf_points (j / P.children) (j % P.children) k nan x 0 m.store kinds.0 kinds.1
+          ∙ constant_line_lem P.leaf_points (j / P.children) (j % P.children) (kind_number k) nan x 0 m.store kinds.0 kinds.1
       by nan j at true Leaf active dec is =
           let place : get_or m.places j 0 ≡ leaves_before P (j / P.children) (j % P.children) = ap (λ ch. ch.place) is in
           let leaf_is : becomes_leaf P (j / P.children) (j % P.children) ≡ true = rw (active, dec) in
@@ -136,7 +142,7 @@ module _ (P : Plan) (m : Memory) (constants : Constants P) (done : Finished P m)
             → placed P.leaf_points (length m.store) (child_at m j).kind (child_at m j).place ≡ true
         by j at false d active dec is = ap child_placed is
         by j at true (Constant k x) active dec is =
-            let other : eqb k 2 ≡ false = ne_eqb k 2 (constants (j / P.children) (j % P.children) k x dec).1 in
+            let other : eqb (kind_number k) 2 ≡ false = ne_eqb (kind_number k) 2 (constants (j / P.children) (j % P.children) k x dec).1 in
             ap child_placed is ∙ rw other
         by j at true Leaf active dec is =
             let leaf_is : becomes_leaf P (j / P.children) (j % P.children) ≡ true = rw (active, dec) in

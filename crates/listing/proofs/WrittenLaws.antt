@@ -22,7 +22,8 @@ use Rattle.schedule.specs.declared.Record.{Record}
 use Rattle.schedule.specs.Lent.{memory_of}
 use Rattle.plans.specs.Plan.{plan_with}
 use Rattle.plans.specs.Sparse.{sparse}
-use Rattle.input.proofs.Clear.{no_cause_lem}
+use Rattle.input.proofs.Clear.{clear}
+use Rattle.causes.specs.declared.Cause.TheVariants.{NoJob, ImpossibleRecord}
 use Rattle.listing.specs.declared.unlisted.Unlisted.TheVariants.{Refused, NotPrintable}
 use Rattle.listing.specs.Inner.Lengths.{Sizes}
 use Rattle.listing.specs.Listing.{line_at, listing_to, listing}
@@ -46,7 +47,7 @@ unfolding children_of
 ready j m judged =
     let i = j.input in
     let g = i.grid in
-    let none = no_cause_lem i (lengths_of m) (possible sparse j m judged).no_cause in
+    let none = clear i (lengths_of m) (possible sparse j m judged).accepted in
     let n = inner_block g none.two in
     let fits = bound_fits g none.two none.five in
     let eight : 8 ≤ cube g.inner = cube_le g.inner 2 n.least in
@@ -117,11 +118,11 @@ module _ (j : Job) (nan : ℕ) (m : Memory) (out : List ℕ) where
 -- ---- any record
 
 module _ (r : Record) (nan : ℕ) (m : Memory) (out : List ℕ) where
-  pub no_job_lem : r.opened ≡ false → written r nan m out ≡ refused_put (Refused 7) out
+  pub no_job_lem : r.opened ≡ false → written r nan m out ≡ refused_put (Refused NoJob) out
   unfolding written
   no_job_lem is = rw is
 
-  pub judged_impossible : r.opened ≡ true → impossible sparse r.job m ≡ true → written r nan m out ≡ refused_put (Refused 8) out
+  pub judged_impossible : r.opened ≡ true → impossible sparse r.job m ≡ true → written r nan m out ≡ refused_put (Refused ImpossibleRecord) out
   unfolding written
   judged_impossible is judged = rw (is, judged)
 

@@ -1,6 +1,8 @@
 -- THE DEFINITION OF `fieldlist`: what it prints for a text (rules T9 to T14).
-use Rattle.std.specs.Prelude.{ℕ, zero, suc, List, [], ◌∷◌}
+use Rattle.std.specs.Prelude.{ℕ, List, [], ◌∷◌, Ok, Err}
 use Rattle.input.specs.declared.Lengths.{Lengths}
+use Rattle.causes.specs.Number.{number_of}
+use Rattle.schedule.specs.Calls.{Answer}
 use Rattle.plans.specs.Sparse.{sparse}
 use Rattle.plans.specs.Plan.{plan_of}
 use Rattle.forms.specs.Forms.{spell}
@@ -15,9 +17,9 @@ abbrev pub program_lengths : Lengths
 program_lengths = record { kinds = 512; numbers = 512; places = 512; store = 4096; corners = 125 }
 
 -- what is printed for a job, by the cause that its input meets (rules T10 and T13)
-unfoldable pub listed_by : Job → ℕ → List ℕ
-listed_by j zero = plan_listing (plan_of j.input) (job_nan j)
-listed_by j (suc n) = spell refused_form (suc n ∷ [])
+unfoldable pub listed_by : Job → Answer → List ℕ
+listed_by j (Ok u) = plan_listing (plan_of j.input) (job_nan j)
+listed_by j (Err cause) = spell refused_form (number_of cause ∷ [])
 
 -- on the memory of the program (rule T9)
 unfoldable pub job_listed : Job → List ℕ

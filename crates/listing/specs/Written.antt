@@ -2,6 +2,7 @@
 -- printable" for an unfinished job or a leaf's place outside the store, then 6 where the bytes are too few. A refusal writes nothing; what
 -- lies past a listing is 0.
 use Rattle.std.specs.Prelude.{ℕ, zero, suc, ◌+◌, ◌-◌, ◌*◌, Bool, true, false, cond, ◌&&◌, ◌||◌, not, List, ◌++◌, eqb, leb, length, get_or, replicate, Result, Ok, Err}
+use Rattle.causes.specs.declared.Cause.TheVariants.{TooShort, NoJob, ImpossibleRecord}
 use Rattle.schedule.specs.Memory.{Memory}
 use Rattle.schedule.specs.Possible.{impossible}
 use Rattle.schedule.specs.declared.Job.{Job}
@@ -22,7 +23,7 @@ put_bytes bs out = cond (leb (length bs) (length out)) (bs ++ replicate (length 
 
 -- the answer: how many bytes, or 6 (rule T15)
 unfoldable pub put_answer : List ℕ → List ℕ → Result ℕ Unlisted
-put_answer bs out = cond (leb (length bs) (length out)) (Ok (length bs)) (Err (Refused 6))
+put_answer bs out = cond (leb (length bs) (length out)) (Ok (length bs)) (Err (Refused TooShort))
 
 -- ---- a record's listing
 
@@ -71,5 +72,5 @@ possible_written j nan m out =
 -- of any record (rule T16)
 unfoldable pub written : Record → ℕ → Memory → List ℕ → Put
 written r nan m out =
-    cond (not r.opened) (refused_put (Refused 7) out)
-    (cond (impossible sparse r.job m) (refused_put (Refused 8) out) (possible_written r.job nan m out))
+    cond (not r.opened) (refused_put (Refused NoJob) out)
+    (cond (impossible sparse r.job m) (refused_put (Refused ImpossibleRecord) out) (possible_written r.job nan m out))

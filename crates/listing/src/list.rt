@@ -5,7 +5,6 @@ ghost use Rattle.listing.specs.Written.{put_answer, put_bytes};
 
 use crate::{Unlisted, writing};
 use job_text::Job;
-use schedule::Answer;
 
 // More evaluations than any job has.
 const ALL: u64 = 18446744073709551615;
@@ -29,9 +28,8 @@ fn list_read(job: Job, out: &mut [u8]) -> Result<usize, Unlisted>
         &mut store,
         &mut corners,
     );
-    let answer = opened.answer;
-    if let Answer::Refused(number) = answer {
-        return writing::write_refusal(number, out);
+    if let Err(cause) = opened.answer {
+        return writing::write_refusal(cause, out);
     }
     let done = sparse_field::step(
         opened.next,

@@ -6,6 +6,7 @@ ghost use Rattle.listing.specs.Written.{all_placed};
 
 use crate::text::Text;
 use forms::Sink;
+use grid::Kind;
 use schedule::Counts;
 
 // How a listing is laid out: its counts, how many children it has in all, how many to a node, how many
@@ -49,14 +50,10 @@ impl<'a> Sheet<'a> {
     {
         let v = (j / self.children) as u64;
         let c = (j % self.children) as u64;
-        let kind = self.kinds[j];
-        if kind == grid::EMPTY {
-            return;
-        }
-        if kind == grid::LEAF {
-            put_leaf(self.nan, v, c, self.leaf(j), sink);
-        } else {
-            put_constant(v, c, self.numbers[j], sink);
+        match Kind::of(self.kinds[j]) {
+            Kind::Empty => {}
+            Kind::Active => put_constant(v, c, self.numbers[j], sink),
+            Kind::Leaf => put_leaf(self.nan, v, c, self.leaf(j), sink),
         }
     }
 

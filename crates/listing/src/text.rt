@@ -5,6 +5,7 @@ ghost use Rattle.listing.specs.Inner.Texts.{line_bytes};
 ghost use Rattle.listing.specs.Written.{put_answer, put_bytes};
 
 use crate::Unlisted;
+use causes::Cause;
 use forms::{Count, Cursor, Sink};
 
 // A text that is put into any sink, also into a count of its bytes.
@@ -67,7 +68,7 @@ pub fn write<T: Text>(text: &T, out: &mut [u8]) -> Result<usize, Unlisted>
 {
     let length = length_of(text);
     if length > out.len() {
-        return Err(Unlisted::Refused(6));
+        return Err(Unlisted::Refused(Cause::TooShort));
     }
     put_front(text, out);
     zero_rest(length, out);

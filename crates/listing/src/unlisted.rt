@@ -2,13 +2,14 @@
 ghost use Rattle.std.specs.Prelude.{◌≡◌};
 ghost use Rattle.listing.specs.Unlisted.{number_of};
 
+use causes::Cause;
 use std::error::Error;
 use std::fmt;
 
 // A refusal by the number of its cause, or a job that is not finished or has a leaf outside the store.
 #[derive(Clone, Copy, Debug, PartialEq, Eq)]
 pub enum Unlisted {
-    Refused(u32),
+    Refused(Cause),
     NotPrintable,
 }
 
@@ -18,7 +19,7 @@ impl From<Unlisted> for u32 {
 
     fn from(unlisted: Unlisted) -> u32 {
         match unlisted {
-            Unlisted::Refused(number) => number,
+            Unlisted::Refused(cause) => cause.number(),
             Unlisted::NotPrintable => 8,
         }
     }
@@ -27,7 +28,7 @@ impl From<Unlisted> for u32 {
 impl fmt::Display for Unlisted {
     fn fmt<W: fmt::Write>(&self, f: &mut fmt::Formatter<W>) -> fmt::Result {
         match self {
-            Unlisted::Refused(number) => write!(f, "refused by {number}"),
+            Unlisted::Refused(cause) => write!(f, "refused by {cause}"),
             Unlisted::NotPrintable => write!(f, "not printable"),
         }
     }

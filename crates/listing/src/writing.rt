@@ -1,5 +1,6 @@
 // The listing of a record's job, over lent bytes.
 ghost use Rattle.std.specs.Prelude.{◌≡◌, false, [], ◌∷◌, ◌<◌, ◌≤◌, length};
+ghost use Rattle.causes.specs.Number.{number_of};
 ghost use Rattle.schedule.specs.Possible.{impossible};
 ghost use Rattle.schedule.specs.Lent.{memory_of};
 ghost use Rattle.plans.specs.Sparse.{sparse};
@@ -10,6 +11,8 @@ ghost use Rattle.listing.specs.Written.{placed, all_placed, put_answer, put_byte
 use crate::Unlisted;
 use crate::sheet::Sheet;
 use crate::text::{self, Line};
+use causes::Cause;
+use grid::Kind;
 use schedule::{Cursor, Job, Record};
 
 // Whether a child of this kind is no leaf, or has its stretch inside a store of this size.
@@ -18,7 +21,7 @@ fn is_placed(points: usize, size: usize, kind: u8, place: u32) -> bool
     requires { points ≤ 262144 }
     ensures { result ≡ placed points size kind place }
 {
-    kind != grid::LEAF || (place as usize + 1) * points <= size
+    kind != Kind::Leaf.number() || (place as usize + 1) * points <= size
 }
 
 // Whether the first children are no leaves, or have their stretches inside a store of this size.
@@ -97,23 +100,23 @@ pub fn write_listing(
         (memory_of kinds.now numbers.now places.now store.now corners.now) out.old).bytes }
 {
     if !record.opened {
-        return Err(Unlisted::Refused(7));
+        return Err(Unlisted::Refused(Cause::NoJob));
     }
     let job = record.job;
-    if sparse_field::is_impossible(job, kinds, numbers, places, store, corners) {
-        return Err(Unlisted::Refused(8));
+    if sparse_field::is_impossible(&job, kinds, numbers, places, store, corners) {
+        return Err(Unlisted::Refused(Cause::ImpossibleRecord));
     }
     write_possible(job, nan, kinds, numbers, places, store, corners, out)
 }
 
 // Writes the line of a refusal by a cause.
-pub fn write_refusal(number: u32, out: &mut [u8]) -> Result<usize, Unlisted>
-    ensures answer { result ≡ put_answer (spell refused_form (number ∷ [])) out.old }
-    ensures out { out.new ≡ put_bytes (spell refused_form (number ∷ [])) out.old }
+pub fn write_refusal(cause: Cause, out: &mut [u8]) -> Result<usize, Unlisted>
+    ensures answer { result ≡ put_answer (spell refused_form (number_of cause ∷ [])) out.old }
+    ensures out { out.new ≡ put_bytes (spell refused_form (number_of cause ∷ [])) out.old }
 {
     let line = Line {
         form: b"(refused D)\n",
-        numbers: &[u64::from(number)],
+        numbers: &[u64::from(cause.number())],
     };
     text::write(&line, out)
 }

@@ -4,14 +4,14 @@ use Rattle.listing.specs.Written.{put_answer, put_bytes}
 use Rattle.listing.proofs.ListedLaws.{refused_listed, finished_listed}
 use Rattle.listing.proofs.list.list_read.Goals as goal
 
-pub returns-in-Refused-clause-answer : goal.returns-in-Refused-clause-answer
-returns-in-Refused-clause-answer c =
-    let is = refused_listed c.args.job _ _ refl c.open-opened.ensures.answer _ c.in-Refused.is in
+pub returns-in-Err-clause-answer : goal.returns-in-Err-clause-answer
+returns-in-Err-clause-answer c =
+    let is = refused_listed c.args.job _ _ refl c.open-opened.ensures.answer _ c.in-Err.is in
     c.write_refusal.ensures.answer ∙ ap (λ bs. put_answer bs c.args.out.now) is
 
-pub returns-in-Refused-clause-out : goal.returns-in-Refused-clause-out
-returns-in-Refused-clause-out c =
-    let is = refused_listed c.args.job _ _ refl c.open-opened.ensures.answer _ c.in-Refused.is in
+pub returns-in-Err-clause-out : goal.returns-in-Err-clause-out
+returns-in-Err-clause-out c =
+    let is = refused_listed c.args.job _ _ refl c.open-opened.ensures.answer _ c.in-Err.is in
     c.write_refusal.ensures.out ∙ ap (λ bs. put_bytes bs c.args.out.now) is
 
 pub returns-clause-answer : goal.returns-clause-answer
