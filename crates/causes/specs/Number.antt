@@ -2,7 +2,17 @@
 use Rattle.std.specs.Prelude.{ℕ}
 use Rattle.causes.specs.declared.Cause.{Cause}
 use Rattle.causes.specs.declared.Cause.TheVariants.{
-  Bounds, BlockSize, BandLimit, Parts, Nodes, TooShort, NoJob, ImpossibleRecord, Dimensions, Outside, Walk
+  Bounds,
+  BlockSize,
+  BandLimit,
+  Parts,
+  Nodes,
+  TooShort,
+  NoJob,
+  ImpossibleRecord,
+  Dimensions,
+  Outside,
+  Walk,
 }
 
 abbrev pub number_of : Cause → ℕ

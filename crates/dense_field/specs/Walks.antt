@@ -42,7 +42,7 @@ walk_cell b n c =
 abbrev pub step_to : {A : Type 0} → A → Vec3i → Step A
 step_to found next = record { found = found; next = next }
 
--- a step by the place that comes next: what is found at the cursor goes with it
+-- a step by the place that comes next: what is found at the cursor goes with it, and where there is none it has nothing (rules W1 and W9)
 abbrev pub step_by : {A : Type 0} → A → Result (Option Vec3i) Cause → Result (Option (Step A)) Cause
 step_by found (Ok (Some next)) = Ok (Some (step_to found next))
 step_by found (Ok None) = Ok None

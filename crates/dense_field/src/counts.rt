@@ -9,7 +9,7 @@ use causes::Cause;
 use geometry::{BoundingBox, Vec3i};
 
 // Refuses dimensions that no field has, and `len` values that are not what they ask for: cause 9.
-#[tactic(auto, unfolding(crate::specs::Outcomes::outcome_of, crate::specs::Field::values_refused, causes::specs::First::first_of))]
+#[tactic(auto, using(geometry::proofs::Grid::accepted), unfolding(crate::specs::Outcomes::outcome_of, crate::specs::Field::values_refused, causes::specs::First::first_of))]
 pub fn tested(n: Vec3i, len: usize) -> Result<(), Cause>
     ensures answer { result ≡ outcome_of n len }
     ensures lent { OnOk result (Lent n len) }

@@ -76,6 +76,7 @@ pub fn cell_corners(origin: Vec3, cell: f64, n: Vec3i, c: Vec3i) -> Result<[Vec3
 }
 
 // The values at the corners of a cell that is inside.
+#[tactic(auto, using(crate::proofs::OctetLaws::reach))]
 fn octet(n: Vec3i, values: &[f64], c: Vec3i) -> [f64; 8]
     requires { Found n (length values.now) c }
     ensures { result ≡ octet_of n values.now c }

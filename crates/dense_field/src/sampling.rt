@@ -54,6 +54,7 @@ fn fill_stretch(field: Lattice, first: Vec3i, points: &mut PointRow, at: usize, 
 }
 
 // Where the points of `len` places stand, from place `at` on. Those of one row go together.
+#[tactic(auto, using(crate::proofs::RunLaws::next_stretch))]
 fn fill_points(field: Lattice, at: usize, len: usize, points: &mut PointRow)
     requires { Run field.n at len }
     ensures { points.new ≡ with_points len (λ q. place_point field (at + q)) points.old }
@@ -91,17 +92,17 @@ fn sample_places(model: &ImplicitModel, field: Lattice, values: &mut [f64])
 
 // Why sampling is refused, where it is.
 #[tactic(auto, unfolding(crate::specs::Sampling::sample_outcome, crate::specs::Outcomes::outcome_of, causes::specs::First::first_of))]
-fn tested(model: &ImplicitModel, origin: Vec3, cell: f64, n: Vec3i, len: usize) -> Result<(), Cause>
-    ensures answer { result ≡ sample_outcome model.now origin cell n len }
-    ensures lent { OnOk result (Lent n len) }
+fn tested(model: &ImplicitModel, field: Lattice, len: usize) -> Result<(), Cause>
+    ensures answer { result ≡ sample_outcome model.now field.origin field.cell field.n len }
+    ensures lent { OnOk result (Lent field.n len) }
 {
-    if geometry::point_refused(origin) || geometry::cell_refused(cell) {
+    if geometry::point_refused(field.origin) || geometry::cell_refused(field.cell) {
         return Err(Cause::Bounds);
     }
     if model::cause_four(model) {
         return Err(Cause::Parts);
     }
-    counts::tested(n, len)
+    counts::tested(field.n, len)
 }
 
 // Sets every value to the model's at its point. A refusal changes nothing.
@@ -117,7 +118,8 @@ pub fn sample(
         ≡ (if is_ok (sample_outcome model.now origin cell n (length values.old)) then sampled (parts_in model.now) model.now.count origin cell n
         else values.old) }
 {
-    tested(model, origin, cell, n, values.len())?;
-    sample_places(model, Lattice { origin, cell, n }, values);
+    let field = Lattice { origin, cell, n };
+    tested(model, field, values.len())?;
+    sample_places(model, field, values);
     Ok(())
 }

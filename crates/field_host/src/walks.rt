@@ -5,7 +5,7 @@ ghost use Rattle.std.specs.Prelude.{◌≡◌};
 ghost use Rattle.geometry.specs.Values.{vec3i};
 ghost use Rattle.dense_field.specs.Walks.{point_step, cell_step, octet_step};
 ghost use Rattle.field_host.specs.Given.{box_in, indices_in};
-ghost use Rattle.field_host.specs.Answers.{coordinates, ends, index_list, step_number, step_cursor, step_left};
+ghost use Rattle.field_host.specs.Answers.{coordinates, ends, step_number, step_cursor, step_left};
 
 use crate::given::box_in;
 use causes::Cause;
@@ -21,12 +21,6 @@ fn indices_in(cursor: &[usize; 3]) -> Vec3i
         j: cursor[1],
         k: cursor[2],
     }
-}
-
-fn put_indices(c: Vec3i, cursor: &mut [usize; 3])
-    ensures { cursor.new ≡ index_list c }
-{
-    *cursor = [c.i, c.j, c.k];
 }
 
 // Writes a point's coordinates.
@@ -52,7 +46,7 @@ fn put_next<T: Copy>(step: Result<Option<Step<T>>, Cause>, cursor: &mut [usize; 
 {
     match step {
         Ok(Some(at)) => {
-            put_indices(at.next, cursor);
+            *cursor = [at.next.i, at.next.j, at.next.k];
             0
         }
         Ok(None) => 100,
@@ -61,6 +55,7 @@ fn put_next<T: Copy>(step: Result<Option<Step<T>>, Cause>, cursor: &mut [usize; 
 }
 
 // The point at the cursor of a walk over nx × ny × nz points. Refused by 1, then 11.
+// Kept: C calls each walk by its own name, with arrays of its own lengths.
 pub fn jisampode_point_step(
     bounds: &[f64; 6],
     nx: usize,

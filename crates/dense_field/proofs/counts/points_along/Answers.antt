@@ -4,9 +4,6 @@ use lib.Ieee.{to_unsigned}
 use Rattle.dense_field.specs.Points.{points_along}
 use Rattle.dense_field.proofs.counts.points_along.Goals as goal
 
-pub overflow_add-result : goal.overflow_add-result
-overflow_add-result c = omega (arith, c.small_count.ensures)
-
 pub returns : goal.returns
 unfolding points_along
 returns c = omega (arith, c.small_count.ensures, ap (to_unsigned 64) c.floor.ensures)

@@ -12,27 +12,6 @@ loop-t-init c =
 pub overflow_sub-n : goal.overflow_sub-n
 overflow_sub-n c = omega (arith, (indices c.args.field.n c.requires.x_above c.requires.y_above _ c.loop-t.invariant.1).i_in)
 
-pub fill_stretch-requires : goal.fill_stretch-requires
-fill_stretch-requires c =
-    let s = next_stretch c.args.field.n c.requires.x_above c.requires.y_above c.requires c.loop-t.t c.loop-t.invariant.1 (omega arith) c.min-count.ensures in
-    (omega arith, omega arith)
-
-pub overflow_sub-count : goal.overflow_sub-count
-overflow_sub-count c =
-    let s = next_stretch c.args.field.n c.requires.x_above c.requires.y_above c.requires c.loop-t.t c.loop-t.invariant.1 (omega arith) c.min-count.ensures in
-    omega arith
-
-pub next_indices-first-requires : goal.next_indices-first-requires
-next_indices-first-requires c =
-    let s = next_stretch c.args.field.n c.requires.x_above c.requires.y_above c.requires c.loop-t.t c.loop-t.invariant.1 (omega arith) c.min-count.ensures in
-    let e = c.new-last.ensures in
-    (omega (arith, ap (λ w. w.i) e), omega (arith, ap (λ w. w.j) e), omega (arith, ap (λ w. w.k) e))
-
-pub loop-t-smaller : goal.loop-t-smaller
-loop-t-smaller c =
-    let s = next_stretch c.args.field.n c.requires.x_above c.requires.y_above c.requires c.loop-t.t c.loop-t.invariant.1 (omega arith) c.min-count.ensures in
-    omega arith
-
 pub loop-t-preserved : goal.loop-t-preserved
 loop-t-preserved c =
     let a = c.args in

@@ -1,7 +1,7 @@
 -- The code's constants are the definition's, and a store at each turn makes the stretch one longer.
 use Rattle.std.proofs.Common.{◌+◌, sym, ap, ◌∙◌, arith, rules}
 use lib.Ieee.{Float, binary64, sub}
-use Rattle.lists.proofs.Filling.{filled_none, filled_store_lem, filled_done}
+use Rattle.lists.proofs.Filling.{filled_none, filled_store_lem}
 use Rattle.dense_field.proofs.SmoothingLaws.{one_as_float, blended_read}
 use Rattle.dense_field.proofs.smoothing.blend_values.Goals as goal
 
@@ -15,6 +15,3 @@ loop-i-preserved c =
     c.computed.ensures
     ∙ blended_read a.n a.factor a.old.now (a.at + c.loop-i.i) (omega arith) c.loop-i.invariant.1 c.neighbour_sum-sum.ensures in
     (search rules, search rules, filled_store_lem _ _ _ _ c.loop-i.invariant.2 value)
-
-pub returns : goal.returns
-returns c = filled_done _ _ _ c.loop-i.invariant.2 (omega arith)

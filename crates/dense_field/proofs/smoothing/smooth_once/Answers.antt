@@ -12,10 +12,6 @@ loop-k-init c =
     let none : 0 ≡ 0 * (a.n.i * a.n.j) = omega arith in
     (search rules, filled_done _ _ _ (sym (filled_none _ _ _)) none)
 
-pub smooth_slab-requires : goal.smooth_slab-requires
-smooth_slab-requires c =
-    let p = c.requires in record { lent = (p.0, c.loop-k.invariant.0 ∙ p.1); inside = omega arith }
-
 pub loop-k-preserved : goal.loop-k-preserved
 loop-k-preserved c =
     let a = c.args in

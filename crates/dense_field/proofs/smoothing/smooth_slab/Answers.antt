@@ -1,5 +1,5 @@
 -- The first and the last slab stay, and the others are smoothed row by row.
-use Rattle.std.proofs.Common.{◌≡◌, ℕ, ◌+◌, ◌*◌, true, length, sym, ap, ◌∙◌, mul_comm, arith, rules}
+use Rattle.std.proofs.Common.{◌≡◌, ◌+◌, ◌*◌, true, length, sym, ap, ◌∙◌, arith, rules}
 use Rattle.lists.proofs.Filling.{filled_none, filled_length, filled_done, filled_more}
 use Rattle.dense_field.specs.Field.{on_edge}
 use Rattle.dense_field.proofs.Edges.{edge_first, edge_last}
@@ -22,19 +22,9 @@ loop-j-init c =
     let none : 0 ≡ 0 * c.args.n.i = omega arith in
     (search rules, filled_done _ _ _ (sym (filled_none _ _ _)) none)
 
-pub smooth_row-requires : goal.smooth_row-requires
-smooth_row-requires c =
-    let p = c.requires.lent in record { lent = (p.0, c.loop-j.invariant.0 ∙ p.1); inside = (omega arith, omega arith, omega arith) }
-
 pub loop-j-preserved : goal.loop-j-preserved
 loop-j-preserved c =
     let a = c.args in
     let more : c.loop-j.j * a.n.i + a.n.i ≡ (c.loop-j.j + 1) * a.n.i = omega arith in
     let row = c.smooth_row.ensures in
     (ap length row ∙ filled_length _ _ _ _ ∙ c.loop-j.invariant.0, filled_more _ _ _ _ _ c.loop-j.invariant.1 row more)
-
-pub returns : goal.returns
-returns c =
-    let n = c.args.n in
-    let last : c.loop-j.j ≡ n.j = omega arith in
-    filled_done _ _ _ c.loop-j.invariant.1 (ap (λ (m : ℕ). m * n.i) last ∙ mul_comm n.j n.i)
