@@ -1,7 +1,7 @@
 -- A digit and its byte; how many digits a number has.
 use mathlib.Core.Path.{◌≡◌, refl, sym, ap, ◌∙◌}
 use Prim.Native.Nat.{ℕ, zero, suc, ◌+◌, ◌-◌, ◌*◌, ◌/◌, ◌%◌, ◌^◌, ◌≤◌, ◌<◌}
-use native.Mathlib.Nat.{pow-succ', add-zero, div-eq_of_lt, mod-eq_of_lt, mul-add-div_right, mul-add-mod_self_right}
+use native.Mathlib.Nat.{one-le-pow, pow-succ', add-zero, div-eq_of_lt, mod-eq_of_lt, mul-add-div_right, mul-add-mod_self_right}
 use native.Mathlib.Numerals.{add-one}
 use native.Mathlib.Omega.{arith}
 use mathlib.Core.List.{[], ◌∷◌, ◌++◌}
@@ -97,6 +97,16 @@ count_most (suc k) (suc (suc w)) x some below =
     below_or x 10
     (λ small. rw (count_one (suc k) x small) (omega arith))
     (λ large. rw (count_next k x large) (omega (arith, count_most k (suc w) (x / 10) (omega arith) (tenth_below (suc w) x below))))
+
+-- a number between two powers of ten has one digit more than the exponent of the lower
+pub count_between : (w k x : ℕ) → w ≤ k → 10 ^ w ≤ x → x < 10 * 10 ^ w → decimal_count k x ≡ w + 1
+count_between zero k x within least most = count_one k x (omega arith)
+count_between (suc w) zero x within least most = absurd (omega arith)
+count_between (suc w) (suc k) x within least most =
+    let power : 10 ^ suc w ≡ 10 * 10 ^ w = pow-succ' 10 w in
+    let some : 1 ≤ 10 ^ w = one-le-pow w 10 (omega arith) in
+    let rest = count_between w k (x / 10) (omega arith) (omega (arith, power)) (omega (arith, power)) in
+    omega (arith, count_next k x (omega (arith, power)), rest)
 
 pub count_limit : (k x : ℕ) → decimal_count k x ≤ suc k
 unfolding decimal_count

@@ -9,11 +9,11 @@ use Rattle.std.proofs.Common.{Some, None}
 use borrow.Author.Tests.{le-leb, lt-leb, le-ltb, lt-ltb}
 use lib.ListN.{length, get_or, drop, set}
 use lib.Seq.{sets, drop-cons, drop-length}
-use Rattle.forms.specs.Digits.{digit_byte, digit_value, digit_of, decimal_value, digits, decimal_count}
+use Rattle.forms.specs.Digits.{digit_byte, digit_value, digit_of, decimal_value, digits}
 use Rattle.forms.specs.Fronts.{off, number, hex_after, decimal_after, decimal_front}
 use Rattle.forms.proofs.Stores.{sets_last}
 use Rattle.forms.proofs.Cases.{below_or}
-use Rattle.forms.proofs.DigitLaws.{digit_number, digit_letter, digits_length, count_next, tenth_below}
+use Rattle.forms.proofs.DigitLaws.{digit_number, digit_letter, digits_length}
 use Rattle.forms.proofs.NumberLaws.{hex_digit, hex_other, decimal_digit, decimal_past, decimal_ends, decimal_first, decimal_large, decimal_none, decimal_nought}
 
 -- ---- hexadecimal digits
@@ -159,30 +159,7 @@ room_turn n (suc k) d some digit room =
     let most : d ≤ 15 = omega arith in
     rw less (omega (arith, rw power at room, mul-le-mul_right (16 ^ k) most))
 
--- ---- digits counted and put
-
--- with the digits that are left to count, the whole count
-pub record Counted (x rest count : ℕ) : Type 0 where
-  pub most : count ≤ 20
-  pub below : rest < 10 ^ (21 - count)
-  pub whole : decimal_count (20 - count) rest + count ≡ decimal_count 19 x + 1
-
-pub count_turn : (x rest count : ℕ) → 10 ≤ rest → Counted x rest count → Counted x (rest / 10) (count + 1)
-count_turn x rest count large s = by (20 - count) refl
-  where
-    by : (k : ℕ) → 20 - count ≡ k → Counted x (rest / 10) (count + 1)
-    by zero left =
-        let one : 21 - count ≡ 1 = omega (arith, s.most) in
-        absurd (omega (arith, rw one at s.below))
-    by (suc k) left =
-        let now : 21 - count ≡ suc (suc k) = omega (arith, s.most) in
-        let next : 20 - (count + 1) ≡ k = omega (arith, s.most) in
-        let more : 21 - (count + 1) ≡ suc k = omega (arith, s.most) in
-        record {
-          most = omega arith;
-          below = rw more (tenth_below (suc k) rest (rw now at s.below));
-          whole = rw next (omega (arith, count_next k rest large, rw left at s.whole));
-        }
+-- ---- digits put
 
 pub put_turn : (base left rest at b : ℕ) (out : List ℕ) → 0 < left → b ≡ digit_byte (rest % base)
     → sets (set out (at + (left - 1)) b) at (digits base (left - 1) (rest / base)) ≡ sets out at (digits base left rest)

@@ -34,11 +34,8 @@ pub fn digit_byte(d: u64) -> u8
 pub fn decimal_count(x: u64) -> usize
     ensures { result ≡ decimal_count 19 x }
 {
-    let mut rest = x;
-    let mut count = 1;
-    while rest >= 10 {
-        rest /= 10;
-        count += 1;
+    match x.checked_ilog10() {
+        Some(power) => power as usize + 1,
+        None => 1,
     }
-    count
 }

@@ -1,5 +1,5 @@
-// Lines of text by their form: bytes, among which the letter H stands for a float's bits and D for a
-// decimal number.
+// Lines of text by their form: bytes, among which the letter H stands for a float's bits and D for
+// a decimal number.
 #![tactic(auto)]
 
 mod digits; // digits.rt: a digit and its byte

@@ -45,8 +45,9 @@ fn band_of(band: [u64; 2]) -> Band
     }
 }
 
-// The part lines to the end of a text, with the grid and the band read before them. Kept: the arrays
-// and their count are the model's own, in fixed memory; a `for` over the 64 places would end in two ways.
+// The part lines to the end of a text, with the grid and the band read before them. Kept: the
+// arrays and their count are the model's own, in fixed memory; a `for` over the 64 places would end
+// in two ways.
 fn read_model(text: &[u8], grid: Grid, band: Band) -> Result<Job, OffForm>
     ensures { result ≡ model_reading grid band (read_parts 64 5 text.now) }
 {
@@ -82,7 +83,8 @@ fn read_line<'a, const N: usize>(
     line: u32,
 ) -> Result<Line<'a, N>, OffForm>
     requires { fields (map piece_of form.now) ≤ N }
-    ensures ok { IfOk result (λ l. form_line (take (fields (map piece_of form.now)) l.numbers) l.rest.now
+    ensures ok { let count = fields (map piece_of form.now) in
+        IfOk result (λ l. form_line (take count l.numbers) l.rest.now
         ≡ read_form limit (map piece_of form.now) text.now) }
     ensures off { IfErr result (λ e. (e ≡ record { line = line })
         × (off ≡ read_form limit (map piece_of form.now) text.now)) }

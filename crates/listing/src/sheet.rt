@@ -1,7 +1,8 @@
 // A job's listing, line by line.
 ghost use Rattle.std.specs.Prelude.{◌≡◌, ◌+◌, ◌*◌, ◌<◌, ◌≤◌, true, length, get_or};
 ghost use Rattle.listing.specs.Inner.Lengths.{Sizes};
-ghost use Rattle.listing.specs.Listing.{bits_in, values_text, leaf_line, constant_line, leaf_values, lines_from};
+ghost use Rattle.listing.specs.Listing.{bits_in, values_text, leaf_line, constant_line};
+ghost use Rattle.listing.specs.Listing.{leaf_values};
 ghost use Rattle.listing.specs.Written.{all_placed};
 
 use crate::text::Text;
@@ -9,8 +10,8 @@ use forms::Sink;
 use grid::Kind;
 use schedule::Counts;
 
-// How a listing is laid out: its counts, how many children it has in all, how many to a node, how many
-// points to a leaf, the bits of a NaN leaf value; and the lent slices that have its children.
+// How a listing is laid out: its counts, how many children it has in all, how many to a node, how
+// many points to a leaf, the bits of a NaN leaf value; and the lent slices that have its children.
 #[derive(Clone, Copy)]
 pub struct Sheet<'a> {
     pub counts: Counts,
@@ -36,7 +37,8 @@ impl<'a> Sheet<'a> {
     fn leaf(&self, j: usize) -> &[f64]
         requires inside { j < self.now.total }
         requires leaf { get_or self.now.kinds.now j 0 ≡ 2 }
-        ensures { result.now ≡ leaf_values self.now.points self.now.store.now (get_or self.now.places.now j 0) }
+        ensures { let place = get_or self.now.places.now j 0 in
+            result.now ≡ leaf_values self.now.points self.now.store.now place }
     {
         let from = self.places[j] as usize * self.points;
         &self.store[from..from + self.points]

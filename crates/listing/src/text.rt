@@ -1,5 +1,6 @@
 // A text put into lent bytes, if it fits.
-ghost use Rattle.std.specs.Prelude.{◌≡◌, ℕ, List, ◌++◌, ◌-◌, ◌≤◌, ◌<◌, ◌^◌, length, take, replicate};
+ghost use Rattle.std.specs.Prelude.{◌≡◌, ℕ, List, ◌++◌, ◌-◌, ◌≤◌, ◌<◌, ◌^◌};
+ghost use Rattle.std.specs.Prelude.{length, take, replicate};
 ghost use Rattle.std.proofs.lemmas.List.Edits.{sets};
 ghost use Rattle.listing.specs.Inner.Texts.{line_bytes};
 ghost use Rattle.listing.specs.Written.{put_answer, put_bytes};

@@ -6,7 +6,8 @@ use causes::Cause;
 use std::error::Error;
 use std::fmt;
 
-// A refusal by the number of its cause, or a job that is not finished or has a leaf outside the store.
+// A refusal by the number of its cause; or a job that is not finished, or has a leaf outside the
+// store.
 #[derive(Clone, Copy, Debug, PartialEq, Eq)]
 pub enum Unlisted {
     Refused(Cause),

@@ -6,7 +6,8 @@ ghost use Rattle.schedule.specs.Lent.{memory_of};
 ghost use Rattle.plans.specs.Sparse.{sparse};
 ghost use Rattle.forms.specs.Forms.{spell};
 ghost use Rattle.listing.specs.Lines.{refused_form, off_form};
-ghost use Rattle.listing.specs.Written.{placed, all_placed, put_answer, put_bytes, possible_written, written};
+ghost use Rattle.listing.specs.Written.{placed, all_placed, put_answer, put_bytes};
+ghost use Rattle.listing.specs.Written.{possible_written, written};
 
 use crate::Unlisted;
 use crate::sheet::Sheet;
