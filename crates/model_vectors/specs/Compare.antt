@@ -8,16 +8,16 @@ use Rattle.model.specs.declared.ImplicitModel.{ImplicitModel}
 use Rattle.model.specs.declared.Evaluation.{Evaluation}
 use Rattle.model.specs.declared.Evaluation.TheVariants.{Value, Refused}
 
-unfoldable pub same_bits : Float → ℕ → Bool
+abbrev pub same_bits : Float → ℕ → Bool
 same_bits v stored = to_bits binary64 v == to_bits binary64 (from_bits binary64 stored)
 
 -- a stored value is right where the model has that value
-unfoldable pub value_right : Evaluation → ℕ → Bool
+abbrev pub value_right : Evaluation → ℕ → Bool
 value_right (Value v) stored = same_bits v stored
 value_right (Refused n) stored = false
 
 -- a stored refusal is right where the model is refused by 4
-unfoldable pub refused_right : Evaluation → Bool
+abbrev pub refused_right : Evaluation → Bool
 refused_right (Value v) = false
 refused_right (Refused n) = n == 4
 

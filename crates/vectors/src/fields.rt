@@ -1,9 +1,7 @@
 // The numbers of a stored case, and those of its answer: at most 160 to a line, each 16 digits.
 ghost use Rattle.std.specs.Prelude.{◌≡◌, ◌+◌, ◌<◌, ◌≤◌, length};
 
-use crate::Hex;
 use crate::digest::digest_with;
-use crate::digits::byte_at;
 use crate::numbers::hex16;
 use std::io;
 use std::io::Print;
@@ -33,21 +31,31 @@ pub fn read_fields(line: &[u8], at: usize, fields: &mut [u64; 160]) -> usize
 {
     let mut place = at;
     let mut count: usize = 0;
-    while byte_at(line, place) == 32 {
+    while line.get(place) == Some(&32) {
         if count >= 160 {
             return 161;
         }
-        let Hex::Number(n) = hex16(line, place + 1) else {
+        let Some(n) = hex16(line, place + 1) else {
             return 161;
         };
         fields[count] = n;
         count += 1;
         place += 17;
     }
-    if byte_at(line, place) != 10 {
+    if line.get(place) != Some(&10) {
         return 161;
     }
     count
+}
+
+// The number that the word's letters make, 8 bits to a letter: those up to the first space or the line's
+// end, at most 8.
+pub fn word_of(line: &[u8]) -> u64 {
+    let mut word: u64 = 0;
+    for b in line.iter().take(8).take_while(|b| **b > b' ') {
+        word = (word << 8) | u64::from(*b);
+    }
+    word
 }
 
 // The byte of a digit.
