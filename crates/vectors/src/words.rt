@@ -1,5 +1,5 @@
 // Words of a text: whether one stands at a place, and the word that begins a line.
-ghost use Rattle.std.specs.Prelude.{◌≡◌, ◌≤◌};
+ghost use Rattle.std.specs.Prelude.{◌≡◌, ◌≤◌, length};
 ghost use Rattle.vectors.specs.Text.{has_word};
 
 // The most bytes of a word.
@@ -14,7 +14,8 @@ pub fn has_word(s: &[u8], at: usize, word: &[u8]) -> bool
 
 // Where the word that begins a line ends: before its first space, or the line's end.
 pub fn word_end(line: &[u8]) -> usize
-    ensures { result ≤ 64 }
+    ensures short { result ≤ 64 }
+    ensures within { result ≤ length line.now }
 {
     line.iter()
         .take(LONGEST_WORD)
