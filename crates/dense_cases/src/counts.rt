@@ -1,24 +1,17 @@
 // The points of a field over bounds.
-ghost use Rattle.std.specs.Prelude.{◌<◌, ◌≤◌};
-
-use crate::numbers;
+use cases::{Answer, Fault, Numbers};
 use dense_field::PointCount;
 
 // `count`: bounds and a cell's size; the counts along the axes.
-pub fn count(fields: &[u64; 160], answers: &mut [u64; 160]) -> usize
-    ensures { (0 < result) × (result ≤ 160) }
-{
-    let bounds = cases::box_at(fields, 0);
-    let cell = cases::float_at(fields, 6);
+pub fn count(mut numbers: Numbers, answer: &mut Answer) -> Result<(), Fault> {
+    let bounds = numbers.bounds();
+    let cell = numbers.float();
     match dense_field::point_count(bounds, cell) {
         PointCount::Points(n) => {
-            answers[0] = 0;
-            numbers::put_counts(answers, 1, n);
-            4
+            answer.accepted()?;
+            answer.indices(n)?;
         }
-        PointCount::Refused(n) => {
-            answers[0] = numbers::cause(n);
-            1
-        }
+        PointCount::Refused(cause) => answer.refused(cause)?,
     }
+    Ok(())
 }

@@ -1,0 +1,39 @@
+// The words of the cases.
+
+// The call that a case makes.
+#[derive(Clone, Copy, Debug, PartialEq, Eq)]
+pub enum Word {
+    Count,
+    Place,
+    Indices,
+    Corners,
+    Points,
+    Cells,
+    Pad,
+    Threshold,
+    Smooth,
+    Octet,
+    Octets,
+    Sample,
+}
+
+impl Word {
+    // The word with these letters.
+    pub fn named(letters: &[u8]) -> Option<Word> {
+        Some(match letters {
+            b"count" => Word::Count,
+            b"place" => Word::Place,
+            b"indices" => Word::Indices,
+            b"corners" => Word::Corners,
+            b"points" => Word::Points,
+            b"cells" => Word::Cells,
+            b"pad" => Word::Pad,
+            b"threshold" => Word::Threshold,
+            b"smooth" => Word::Smooth,
+            b"octet" => Word::Octet,
+            b"octets" => Word::Octets,
+            b"sample" => Word::Sample,
+            _ => return None,
+        })
+    }
+}
