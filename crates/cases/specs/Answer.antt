@@ -4,6 +4,9 @@ use Rattle.std.specs.Float.{binary64}
 use Rattle.geometry.specs.declared.Vec3.{Vec3}
 use Rattle.geometry.specs.declared.Vec3i.{Vec3i}
 use Rattle.geometry.specs.declared.BoundingBox.{BoundingBox}
+use Rattle.grid.specs.declared.Grid.{Grid}
+use Rattle.model.specs.declared.Part.{Part}
+use Rattle.model.specs.declared.Part.TheVariants.{Constant, Sphere, Plane, Min, Max, Add, Sub, Neg}
 
 abbrev pub flag_of : Bool → ℕ
 flag_of b = if b then 1 else 0
@@ -20,3 +23,18 @@ indices_of n = n.i ∷ n.j ∷ n.k ∷ []
 
 abbrev pub box_bits : BoundingBox → List ℕ
 box_bits b = vector_bits b.min ++ vector_bits b.max
+
+-- a grid: its bounds, its cell, its blocks
+abbrev pub grid_bits : Grid → List ℕ
+grid_bits g = box_bits g.bounds ++ (bits_of g.cell ∷ g.inner ∷ g.leaf ∷ [])
+
+-- a part: its kind, and four numbers
+abbrev pub part_bits : Part → List ℕ
+part_bits (Constant x) = 0 ∷ bits_of x ∷ 0 ∷ 0 ∷ 0 ∷ []
+part_bits (Sphere v r) = 1 ∷ bits_of v.x ∷ bits_of v.y ∷ bits_of v.z ∷ bits_of r ∷ []
+part_bits (Plane v d) = 2 ∷ bits_of v.x ∷ bits_of v.y ∷ bits_of v.z ∷ bits_of d ∷ []
+part_bits (Min a b) = 3 ∷ a ∷ b ∷ 0 ∷ 0 ∷ []
+part_bits (Max a b) = 4 ∷ a ∷ b ∷ 0 ∷ 0 ∷ []
+part_bits (Add a b) = 5 ∷ a ∷ b ∷ 0 ∷ 0 ∷ []
+part_bits (Sub a b) = 6 ∷ a ∷ b ∷ 0 ∷ 0 ∷ []
+part_bits (Neg a) = 7 ∷ a ∷ 0 ∷ 0 ∷ 0 ∷ []

@@ -1,8 +1,9 @@
 // The numbers of an answer, put one after the other.
 ghost use Rattle.std.specs.Prelude.{◌≡◌, ◌++◌, [], ◌∷◌, OnOk, map};
-ghost use Rattle.cases.specs.Answer.{bits_of, box_bits, flag_of, indices_of, vector_bits};
+ghost use Rattle.cases.specs.Answer.{bits_of, box_bits, flag_of, grid_bits, indices_of, vector_bits};
 
 use geometry::{BoundingBox, Vec3, Vec3i};
+use grid::Grid;
 use std::alloc::{AllocError, AllocFailed, Global};
 
 // Why a line has no answer of its own: it is no case, or no memory is left.
@@ -43,6 +44,12 @@ impl Answer {
     {
         self.numbers.push(n)?;
         Ok(())
+    }
+
+    pub fn copied(&mut self, numbers: &[u64]) -> Result<(), AllocError>
+        ensures { OnOk result (self.new.numbers.items ≡ self.old.numbers.items ++ numbers.now) }
+    {
+        self.numbers.extend_from_slice(numbers)
     }
 
     // That the call was accepted.
@@ -102,6 +109,16 @@ impl Answer {
         self.place(n.i)?;
         self.place(n.j)?;
         self.place(n.k)
+    }
+
+    // A grid: its bounds, its cell, its blocks.
+    pub fn grid(&mut self, g: Grid) -> Result<(), AllocError>
+        ensures { OnOk result (self.new.numbers.items ≡ self.old.numbers.items ++ grid_bits g) }
+    {
+        self.bounds(g.bounds)?;
+        self.float(g.cell)?;
+        self.number(u64::from(g.inner))?;
+        self.number(u64::from(g.leaf))
     }
 
     pub fn bounds(&mut self, b: BoundingBox) -> Result<(), AllocError>

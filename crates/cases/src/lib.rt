@@ -2,12 +2,10 @@
 #![tactic(auto)]
 
 mod answer; // answer.rt: the numbers of an answer
-mod models; // models.rt: parts of a model
+mod lines; // lines.rt: a line taken apart, and the line that answers it
 mod numbers; // numbers.rt: a case's numbers, read one after the other
-mod parts; // parts.rt: parts of a model, five numbers each
-mod values; // values.rt: numbers of several widths, floats, points, boxes and grids
+mod parts; // parts.rt: parts of a model
 
 pub use answer::{Answer, Fault};
+pub use lines::{Line, read_line, write_answer};
 pub use numbers::Numbers;
-pub use parts::model_at;
-pub use values::{box_at, float_at, grid_at, place, short, vector_at, wide};

@@ -10,7 +10,7 @@ use cases::{Answer, Fault, Numbers};
 use std::alloc::Global;
 use std::io;
 use std::io::Read;
-use vectors::{Lines, OFF};
+use vectors::Lines;
 use words::Word;
 
 // The answer of the call that a word names. Numbers that a line leaves out are 0.
@@ -32,29 +32,19 @@ fn answer(alloc: Global, word: Word, numbers: Numbers, answer: &mut Answer) -> R
 }
 
 // The answer to a line.
-fn answer_to(alloc: Global, line: &[u8]) -> Result<Answer, Fault> {
-    let (letters, rest) = line.split_at(vectors::word_end(line));
-    let word = Word::named(letters).ok_or(Fault::Off)?;
-    let numbers = vectors::read_numbers(alloc, rest)?.ok_or(Fault::Off)?;
+fn answer_to(alloc: Global, text: &[u8]) -> Result<Answer, Fault> {
+    let line = cases::read_line(alloc, text)?;
+    let word = Word::named(line.word).ok_or(Fault::Off)?;
     let mut given = Answer::new(alloc);
-    answer(alloc, word, Numbers::new(&numbers), &mut given)?;
+    answer(alloc, word, Numbers::new(&line.numbers), &mut given)?;
     Ok(given)
-}
-
-// Writes the answer of a line's call.
-fn take_line(rt: &(impl Print + AllocGlobal), line: &[u8]) -> io::Result<()> {
-    match answer_to(rt.alloc(), line) {
-        Ok(given) => vectors::write_numbers(rt, &given.numbers),
-        Err(Fault::Off) => vectors::write_numbers(rt, &[OFF]),
-        Err(Fault::NoMemory(e)) => Err(e.into()),
-    }
 }
 
 fn main(rt: HostRuntime) -> io::Result<()> {
     let mut text = Vec::new(rt.alloc());
     rt.stdin().read_to_end(&mut text)?;
     for line in Lines::new(&text) {
-        take_line(&rt, line)?;
+        cases::write_answer(&rt, answer_to(rt.alloc(), line))?;
     }
     Ok(())
 }

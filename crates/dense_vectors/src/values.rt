@@ -2,31 +2,43 @@
 // answer.
 use cases::{Answer, Fault, Numbers};
 use dense_cases::MOST_VALUES;
+use dense_field::Applied;
+use geometry::Vec3i;
 use std::alloc::Global;
 
 // What each value of the scratch is before a call.
 const BEFORE: f64 = 100.0;
 
-// `pad`: the dimensions, the value to set, the values.
-pub fn pad(alloc: Global, mut numbers: Numbers, answer: &mut Answer) -> Result<(), Fault> {
+// A call with one number, on the values: the dimensions, the number, the values.
+fn changed<F: FnOnce(Vec3i, f64, &mut [f64]) -> Applied>(
+    alloc: Global,
+    mut numbers: Numbers,
+    answer: &mut Answer,
+    call: F,
+) -> Result<(), Fault>
+    requires { F.IsAlwaysCallable call }
+{
     let n = numbers.indices();
-    let value = numbers.float();
+    let number = numbers.float();
     let mut values = dense_cases::values_of(alloc, numbers)?;
-    let done = dense_field::padding(n, value, &mut values);
+    let done = call(n, number, &mut values);
     dense_cases::put_done(done, answer)?;
     answer.floats(&values)?;
     Ok(())
 }
 
-// `threshold`: the dimensions, the limit, the values.
-pub fn threshold(alloc: Global, mut numbers: Numbers, answer: &mut Answer) -> Result<(), Fault> {
-    let n = numbers.indices();
-    let limit = numbers.float();
-    let mut values = dense_cases::values_of(alloc, numbers)?;
-    let done = dense_field::threshold(n, limit, &mut values);
-    dense_cases::put_done(done, answer)?;
-    answer.floats(&values)?;
-    Ok(())
+// `pad`: the number is the value to set.
+pub fn pad(alloc: Global, numbers: Numbers, answer: &mut Answer) -> Result<(), Fault> {
+    changed(alloc, numbers, answer, |n, value, values: &mut [f64]| {
+        dense_field::padding(n, value, values)
+    })
+}
+
+// `threshold`: the number is the limit.
+pub fn threshold(alloc: Global, numbers: Numbers, answer: &mut Answer) -> Result<(), Fault> {
+    changed(alloc, numbers, answer, |n, limit, values: &mut [f64]| {
+        dense_field::threshold(n, limit, values)
+    })
 }
 
 // Whether every value has the same bits as another.

@@ -6,9 +6,10 @@ mod jobs; // jobs.rt: the causes of open
 
 use cases::{Answer, Fault, Numbers};
 use grid_cases::Word;
+use std::alloc::Global;
 use std::io;
 use std::io::Read;
-use vectors::{Lines, OFF};
+use vectors::Lines;
 
 // The answer to a case with this word.
 fn answer(word: Word, numbers: Numbers, answer: &mut Answer) -> Result<(), Fault> {
@@ -35,31 +36,22 @@ fn answer(word: Word, numbers: Numbers, answer: &mut Answer) -> Result<(), Fault
 }
 
 // The answer to a line.
-fn answer_to(rt: &impl AllocGlobal, line: &[u8]) -> Result<Answer, Fault> {
-    let (letters, rest) = line.split_at(vectors::word_end(line));
-    let word = Word::named(letters).ok_or(Fault::Off)?;
-    let numbers = vectors::read_numbers(rt.alloc(), rest)?.ok_or(Fault::Off)?;
-    if numbers.len() != word.count() {
+fn answer_to(alloc: Global, text: &[u8]) -> Result<Answer, Fault> {
+    let line = cases::read_line(alloc, text)?;
+    let word = Word::named(line.word).ok_or(Fault::Off)?;
+    if line.numbers.len() != word.count() {
         return Err(Fault::Off);
     }
-    let mut given = Answer::new(rt.alloc());
-    answer(word, Numbers::new(&numbers), &mut given)?;
+    let mut given = Answer::new(alloc);
+    answer(word, Numbers::new(&line.numbers), &mut given)?;
     Ok(given)
-}
-
-fn answer_line(rt: &(impl Print + AllocGlobal), line: &[u8]) -> io::Result<()> {
-    match answer_to(rt, line) {
-        Ok(given) => vectors::write_numbers(rt, &given.numbers),
-        Err(Fault::Off) => vectors::write_numbers(rt, &[OFF]),
-        Err(Fault::NoMemory(e)) => Err(e.into()),
-    }
 }
 
 fn main(rt: HostRuntime) -> io::Result<()> {
     let mut text = Vec::new(rt.alloc());
     rt.stdin().read_to_end(&mut text)?;
     for line in Lines::new(&text) {
-        answer_line(&rt, line)?;
+        cases::write_answer(&rt, answer_to(rt.alloc(), line))?;
     }
     Ok(())
 }
