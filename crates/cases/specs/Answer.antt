@@ -1,10 +1,12 @@
 -- The numbers that an answer's values are written as.
-use Rattle.std.specs.Prelude.{ℕ, Bool, if◌then◌else◌, List, [], ◌∷◌, ◌++◌, Float, to_bits}
+use Rattle.std.specs.Prelude.{ℕ, ◌+◌, ◌<◌, ◌≤◌, Bool, Result, OnOk, vec_len, if◌then◌else◌, List, [], ◌∷◌, ◌++◌, Float, to_bits}
 use Rattle.std.specs.Float.{binary64}
 use Rattle.geometry.specs.declared.Vec3.{Vec3}
 use Rattle.geometry.specs.declared.Vec3i.{Vec3i}
 use Rattle.geometry.specs.declared.BoundingBox.{BoundingBox}
 use Rattle.grid.specs.declared.Grid.{Grid}
+use Rattle.cases.specs.declared.answer.Answer.{Answer}
+use Rattle.cases.specs.declared.answer.Fault.{Fault}
 use Rattle.model.specs.declared.Part.{Part}
 use Rattle.model.specs.declared.Part.TheVariants.{Constant, Sphere, Plane, Min, Max, Add, Sub, Neg}
 
@@ -38,3 +40,7 @@ part_bits (Max a b) = 4 ∷ a ∷ b ∷ 0 ∷ 0 ∷ []
 part_bits (Add a b) = 5 ∷ a ∷ b ∷ 0 ∷ 0 ∷ []
 part_bits (Sub a b) = 6 ∷ a ∷ b ∷ 0 ∷ 0 ∷ []
 part_bits (Neg a) = 7 ∷ a ∷ 0 ∷ 0 ∷ 0 ∷ []
+
+-- a case has an answer of 1 to 160 numbers, if it has one
+abbrev pub Answers : Result Unit Fault → Answer → Answer → Type 0
+Answers result old new = OnOk result ((vec_len old.numbers < vec_len new.numbers) × (vec_len new.numbers ≤ vec_len old.numbers + 160))

@@ -1,10 +1,14 @@
 // One cell: its corners, and the values at them.
+ghost use Rattle.cases.specs.Answer.{Answers};
+
 use crate::values::values_of;
 use cases::{Answer, Fault, Numbers};
 use std::alloc::Global;
 
 // `corners`: the origin, a cell's size, the dimensions, the cell's indices.
-pub fn corners(mut numbers: Numbers, answer: &mut Answer) -> Result<(), Fault> {
+pub fn corners(mut numbers: Numbers, answer: &mut Answer) -> Result<(), Fault>
+    ensures { Answers result answer.old answer.new }
+{
     let origin = numbers.vector();
     let cell = numbers.float();
     let n = numbers.indices();
@@ -18,7 +22,9 @@ pub fn corners(mut numbers: Numbers, answer: &mut Answer) -> Result<(), Fault> {
 }
 
 // `octet`: the dimensions, the cell's indices, the values.
-pub fn octet(alloc: Global, mut numbers: Numbers, answer: &mut Answer) -> Result<(), Fault> {
+pub fn octet(alloc: Global, mut numbers: Numbers, answer: &mut Answer) -> Result<(), Fault>
+    ensures { Answers result answer.old answer.new }
+{
     let n = numbers.indices();
     let c = numbers.indices();
     let values = values_of(alloc, numbers)?;

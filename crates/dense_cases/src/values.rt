@@ -1,5 +1,5 @@
 // The values of a case, and what became of a call.
-ghost use Rattle.std.specs.Prelude.{◌≤◌, vec_len, IfOk};
+ghost use Rattle.std.specs.Prelude.{◌≡◌, ◌+◌, ◌≤◌, vec_len, IfOk, OnOk};
 
 use cases::{Answer, Numbers};
 use dense_field::Applied;
@@ -21,7 +21,9 @@ pub fn values_of(alloc: Global, numbers: Numbers) -> Result<Vec<f64>, AllocError
 }
 
 // Puts what became of a call: 0, or the cause of a refusal.
-pub fn put_done(done: Applied, answer: &mut Answer) -> Result<(), AllocError> {
+pub fn put_done(done: Applied, answer: &mut Answer) -> Result<(), AllocError>
+    ensures { OnOk result (vec_len answer.new.numbers ≡ vec_len answer.old.numbers + 1) }
+{
     match done {
         Applied::Done => answer.accepted(),
         Applied::Refused(cause) => answer.refused(cause),

@@ -2,6 +2,8 @@
 // The check compares them with the stored ones.
 #![tactic(auto)]
 
+ghost use Rattle.cases.specs.Answer.{Answers};
+
 mod sampling; // sampling.rt: a model, sampled
 mod values; // values.rt: calls that change values
 mod words; // words.rt: the words of the cases
@@ -14,7 +16,9 @@ use vectors::Lines;
 use words::Word;
 
 // The answer of the call that a word names. Numbers that a line leaves out are 0.
-fn answer(alloc: Global, word: Word, numbers: Numbers, answer: &mut Answer) -> Result<(), Fault> {
+fn answer(alloc: Global, word: Word, numbers: Numbers, answer: &mut Answer) -> Result<(), Fault>
+    ensures { Answers result answer.old answer.new }
+{
     match word {
         Word::Count => dense_cases::count(numbers, answer),
         Word::Place => dense_cases::place(numbers, answer),

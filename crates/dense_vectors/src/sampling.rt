@@ -1,4 +1,6 @@
 // Sampling of a model that a case holds part by part.
+ghost use Rattle.cases.specs.Answer.{Answers};
+
 use cases::{Answer, Fault, Numbers};
 use dense_cases::MOST_VALUES;
 use std::alloc::Global;
@@ -11,7 +13,9 @@ const MOST_PARTS: usize = 30;
 
 // `sample`: the origin, a cell's size, the dimensions, how many values are lent, the model's count
 // of parts, its parts.
-pub fn sample(alloc: Global, mut numbers: Numbers, answer: &mut Answer) -> Result<(), Fault> {
+pub fn sample(alloc: Global, mut numbers: Numbers, answer: &mut Answer) -> Result<(), Fault>
+    ensures { Answers result answer.old answer.new }
+{
     let origin = numbers.vector();
     let cell = numbers.float();
     let n = numbers.indices();

@@ -1,5 +1,7 @@
 // Calls that change a field's values. The values end the case, and what they are after ends the
 // answer.
+ghost use Rattle.cases.specs.Answer.{Answers};
+
 use cases::{Answer, Fault, Numbers};
 use dense_cases::MOST_VALUES;
 use dense_field::Applied;
@@ -17,6 +19,7 @@ fn changed<F: FnOnce(Vec3i, f64, &mut [f64]) -> Applied>(
     call: F,
 ) -> Result<(), Fault>
     requires { F.IsAlwaysCallable call }
+    ensures { Answers result answer.old answer.new }
 {
     let n = numbers.indices();
     let number = numbers.float();
@@ -28,14 +31,18 @@ fn changed<F: FnOnce(Vec3i, f64, &mut [f64]) -> Applied>(
 }
 
 // `pad`: the number is the value to set.
-pub fn pad(alloc: Global, numbers: Numbers, answer: &mut Answer) -> Result<(), Fault> {
+pub fn pad(alloc: Global, numbers: Numbers, answer: &mut Answer) -> Result<(), Fault>
+    ensures { Answers result answer.old answer.new }
+{
     changed(alloc, numbers, answer, |n, value, values: &mut [f64]| {
         dense_field::padding(n, value, values)
     })
 }
 
 // `threshold`: the number is the limit.
-pub fn threshold(alloc: Global, numbers: Numbers, answer: &mut Answer) -> Result<(), Fault> {
+pub fn threshold(alloc: Global, numbers: Numbers, answer: &mut Answer) -> Result<(), Fault>
+    ensures { Answers result answer.old answer.new }
+{
     changed(alloc, numbers, answer, |n, limit, values: &mut [f64]| {
         dense_field::threshold(n, limit, values)
     })
@@ -60,7 +67,9 @@ fn scratch_after(scratch: &[f64]) -> u64 {
 }
 
 // `smooth`: the dimensions, the factor, the rounds, the scratch's length, the values.
-pub fn smooth(alloc: Global, mut numbers: Numbers, answer: &mut Answer) -> Result<(), Fault> {
+pub fn smooth(alloc: Global, mut numbers: Numbers, answer: &mut Answer) -> Result<(), Fault>
+    ensures { Answers result answer.old answer.new }
+{
     let n = numbers.indices();
     let factor = numbers.float();
     let rounds = numbers.short();

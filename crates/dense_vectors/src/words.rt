@@ -1,4 +1,6 @@
 // The words of the cases.
+ghost use Rattle.std.specs.Prelude.{◌≡◌, IfSome};
+ghost use Rattle.dense_vectors.specs.Words.{letters_of};
 
 // The call that a case makes.
 #[derive(Clone, Copy, Debug, PartialEq, Eq)]
@@ -19,7 +21,9 @@ pub enum Word {
 
 impl Word {
     // The word with these letters.
-    pub fn named(letters: &[u8]) -> Option<Word> {
+    pub fn named(letters: &[u8]) -> Option<Word>
+        ensures { IfSome result (λ word. letters.now ≡ letters_of word) }
+    {
         Some(match letters {
             b"count" => Word::Count,
             b"place" => Word::Place,

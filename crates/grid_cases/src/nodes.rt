@@ -1,16 +1,22 @@
 // Block sizes, nodes, their boxes and their children's, and which children are active.
+ghost use Rattle.cases.specs.Answer.{Answers};
+
 use crate::bits::set_bit;
 use cases::{Answer, Fault, Numbers};
 
 // `block N`: whether a block may have this size.
-pub fn block(mut numbers: Numbers, answer: &mut Answer) -> Result<(), Fault> {
+pub fn block(mut numbers: Numbers, answer: &mut Answer) -> Result<(), Fault>
+    ensures { Answers result answer.old answer.new }
+{
     answer.accepted()?;
     answer.flag(grid::is_block(numbers.short()))?;
     Ok(())
 }
 
 // `size CELL N L`: a node's size.
-pub fn size(mut numbers: Numbers, answer: &mut Answer) -> Result<(), Fault> {
+pub fn size(mut numbers: Numbers, answer: &mut Answer) -> Result<(), Fault>
+    ensures { Answers result answer.old answer.new }
+{
     let cell = numbers.float();
     let n = numbers.short();
     let l = numbers.short();
@@ -20,7 +26,9 @@ pub fn size(mut numbers: Numbers, answer: &mut Answer) -> Result<(), Fault> {
 }
 
 // `along LEAST MOST S`: the nodes along an axis.
-pub fn along(mut numbers: Numbers, answer: &mut Answer) -> Result<(), Fault> {
+pub fn along(mut numbers: Numbers, answer: &mut Answer) -> Result<(), Fault>
+    ensures { Answers result answer.old answer.new }
+{
     let least = numbers.float();
     let most = numbers.float();
     let s = numbers.float();
@@ -30,14 +38,18 @@ pub fn along(mut numbers: Numbers, answer: &mut Answer) -> Result<(), Fault> {
 }
 
 // `counts GRID`: the nodes along each axis.
-pub fn counts(mut numbers: Numbers, answer: &mut Answer) -> Result<(), Fault> {
+pub fn counts(mut numbers: Numbers, answer: &mut Answer) -> Result<(), Fault>
+    ensures { Answers result answer.old answer.new }
+{
     answer.accepted()?;
     answer.indices(grid::node_counts(numbers.grid()))?;
     Ok(())
 }
 
 // `node GRID V`: a node's box.
-pub fn node(mut numbers: Numbers, answer: &mut Answer) -> Result<(), Fault> {
+pub fn node(mut numbers: Numbers, answer: &mut Answer) -> Result<(), Fault>
+    ensures { Answers result answer.old answer.new }
+{
     let g = numbers.grid();
     let v = numbers.place();
     answer.accepted()?;
@@ -47,7 +59,9 @@ pub fn node(mut numbers: Numbers, answer: &mut Answer) -> Result<(), Fault> {
 
 // `axis LEAST MOST S N I CI`: on one axis, where node I begins and ends, and whether bounds from
 // LEAST to MOST meet its child CI.
-pub fn axis(mut numbers: Numbers, answer: &mut Answer) -> Result<(), Fault> {
+pub fn axis(mut numbers: Numbers, answer: &mut Answer) -> Result<(), Fault>
+    ensures { Answers result answer.old answer.new }
+{
     let least = numbers.float();
     let most = numbers.float();
     let s = numbers.float();
@@ -62,7 +76,9 @@ pub fn axis(mut numbers: Numbers, answer: &mut Answer) -> Result<(), Fault> {
 }
 
 // `child GRID V C`: a child's box, and whether it is active.
-pub fn child(mut numbers: Numbers, answer: &mut Answer) -> Result<(), Fault> {
+pub fn child(mut numbers: Numbers, answer: &mut Answer) -> Result<(), Fault>
+    ensures { Answers result answer.old answer.new }
+{
     let g = numbers.grid();
     let v = numbers.place();
     let c = numbers.place();
@@ -77,7 +93,9 @@ pub fn child(mut numbers: Numbers, answer: &mut Answer) -> Result<(), Fault> {
 
 // `active GRID V`: how many children of a node are active, and a bit for each. Of a node that has not
 // 8 children along an axis it is the first number of them.
-pub fn active(mut numbers: Numbers, answer: &mut Answer) -> Result<(), Fault> {
+pub fn active(mut numbers: Numbers, answer: &mut Answer) -> Result<(), Fault>
+    ensures { Answers result answer.old answer.new }
+{
     let g = numbers.grid();
     let v = numbers.place();
     let n = g.inner as usize;
@@ -92,8 +110,6 @@ pub fn active(mut numbers: Numbers, answer: &mut Answer) -> Result<(), Fault> {
     }
     answer.accepted()?;
     answer.number(grid::active_in(g, v))?;
-    for b in bits.iter().take(if n == 8 { 8 } else { 1 }) {
-        answer.number(*b)?;
-    }
+    answer.copied(&bits[..if n == 8 { 8 } else { 1 }])?;
     Ok(())
 }

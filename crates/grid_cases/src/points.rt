@@ -1,7 +1,10 @@
 // Corner points, leaf points, and the places of a child's corners.
-ghost use Rattle.std.specs.Prelude.{◌≤◌};
+ghost use Rattle.std.specs.Prelude.{◌≡◌, ◌+◌, ◌*◌, ◌≤◌, vec_len, OnOk};
+ghost use Rattle.cases.specs.Answer.{Answers};
 
 use cases::{Answer, Fault, Numbers};
+use geometry::Vec3;
+use std::alloc::AllocError;
 
 // The most points of an answer, and the most of the first one's number.
 const MOST_POINTS: usize = 50;
@@ -9,7 +12,9 @@ const MOST_POINTS: usize = 50;
 const MOST_FIRST: u32 = 1_000_000;
 
 // `corner BOX N C`: a corner of a node.
-pub fn corner(mut numbers: Numbers, answer: &mut Answer) -> Result<(), Fault> {
+pub fn corner(mut numbers: Numbers, answer: &mut Answer) -> Result<(), Fault>
+    ensures { Answers result answer.old answer.new }
+{
     let b = numbers.bounds();
     let n = numbers.short();
     let c = numbers.place();
@@ -19,7 +24,9 @@ pub fn corner(mut numbers: Numbers, answer: &mut Answer) -> Result<(), Fault> {
 }
 
 // `leaf BOX L P`: a point of a leaf.
-pub fn leaf(mut numbers: Numbers, answer: &mut Answer) -> Result<(), Fault> {
+pub fn leaf(mut numbers: Numbers, answer: &mut Answer) -> Result<(), Fault>
+    ensures { Answers result answer.old answer.new }
+{
     let b = numbers.bounds();
     let l = numbers.short();
     let p = numbers.place();
@@ -49,9 +56,12 @@ impl Row {
     }
 
     // Puts the first points.
-    fn put(&self, count: usize, answer: &mut Answer) -> Result<(), Fault> {
-        for ((x, y), z) in self.xs.iter().zip(&self.ys).zip(&self.zs).take(count) {
-            answer.floats(&[*x, *y, *z])?;
+    fn put(&self, count: usize, answer: &mut Answer) -> Result<(), AllocError>
+        requires { count ≤ 50 }
+        ensures { OnOk result (vec_len answer.new.numbers ≡ vec_len answer.old.numbers + 3 * count) }
+    {
+        for q in 0..count {
+            answer.vector(Vec3::new(self.xs[q], self.ys[q], self.zs[q]))?;
         }
         Ok(())
     }
@@ -69,7 +79,9 @@ fn numbers_from(first: u32) -> [u32; 64]
 }
 
 // `corners BOX N FIRST COUNT`: corners of a node, in a row.
-pub fn corners(mut numbers: Numbers, answer: &mut Answer) -> Result<(), Fault> {
+pub fn corners(mut numbers: Numbers, answer: &mut Answer) -> Result<(), Fault>
+    ensures { Answers result answer.old answer.new }
+{
     let b = numbers.bounds();
     let n = numbers.short();
     let first = numbers.short();
@@ -81,11 +93,14 @@ pub fn corners(mut numbers: Numbers, answer: &mut Answer) -> Result<(), Fault> {
     let mut row = Row::new();
     grid::corner_points(b, n, &list[..count], &mut row.xs, &mut row.ys, &mut row.zs);
     answer.accepted()?;
-    row.put(count, answer)
+    row.put(count, answer)?;
+    Ok(())
 }
 
 // `leaves BOX L FIRST COUNT`: points of a leaf, in a row.
-pub fn leaves(mut numbers: Numbers, answer: &mut Answer) -> Result<(), Fault> {
+pub fn leaves(mut numbers: Numbers, answer: &mut Answer) -> Result<(), Fault>
+    ensures { Answers result answer.old answer.new }
+{
     let b = numbers.bounds();
     let l = numbers.short();
     let first = numbers.place();
@@ -96,19 +111,20 @@ pub fn leaves(mut numbers: Numbers, answer: &mut Answer) -> Result<(), Fault> {
     let mut row = Row::new();
     grid::leaf_points(b, l, first, count, &mut row.xs, &mut row.ys, &mut row.zs);
     answer.accepted()?;
-    row.put(count, answer)
+    row.put(count, answer)?;
+    Ok(())
 }
 
 // `places N C`: the places of a child's corners among its node's.
-pub fn places(mut numbers: Numbers, answer: &mut Answer) -> Result<(), Fault> {
+pub fn places(mut numbers: Numbers, answer: &mut Answer) -> Result<(), Fault>
+    ensures { Answers result answer.old answer.new }
+{
     let n = numbers.short();
     let c = numbers.place();
     if n == 0 || n > 64 || c >= grid::cube_of(n as usize) {
         return Err(Fault::Off);
     }
     answer.accepted()?;
-    for place in grid::octet(n, c) {
-        answer.place(place)?;
-    }
+    answer.copied(&grid::octet(n, c).map(|place| place as u64))?;
     Ok(())
 }

@@ -1,8 +1,12 @@
 // Half diagonals, the extremes and the mean of an octet, and which children are pruned.
+ghost use Rattle.cases.specs.Answer.{Answers};
+
 use cases::{Answer, Fault, Numbers};
 
 // `half BOX`: the half diagonal.
-pub fn half(mut numbers: Numbers, answer: &mut Answer) -> Result<(), Fault> {
+pub fn half(mut numbers: Numbers, answer: &mut Answer) -> Result<(), Fault>
+    ensures { Answers result answer.old answer.new }
+{
     answer.accepted()?;
     answer.float(grid::half_diagonal(numbers.bounds()))?;
     Ok(())
@@ -18,7 +22,9 @@ fn octet(mut numbers: Numbers) -> [f64; 8] {
 }
 
 // `extremes V V V V V V V V`: the least and the greatest of an octet, and the mean.
-pub fn extremes(numbers: Numbers, answer: &mut Answer) -> Result<(), Fault> {
+pub fn extremes(numbers: Numbers, answer: &mut Answer) -> Result<(), Fault>
+    ensures { Answers result answer.old answer.new }
+{
     let values = octet(numbers);
     answer.accepted()?;
     answer.float(grid::lowest(values))?;
@@ -28,7 +34,9 @@ pub fn extremes(numbers: Numbers, answer: &mut Answer) -> Result<(), Fault> {
 }
 
 // `pruned MIN MAX H V V V V V V V V`: whether a child with this octet and half diagonal is pruned.
-pub fn pruned(mut numbers: Numbers, answer: &mut Answer) -> Result<(), Fault> {
+pub fn pruned(mut numbers: Numbers, answer: &mut Answer) -> Result<(), Fault>
+    ensures { Answers result answer.old answer.new }
+{
     let min_val = numbers.float();
     let max_val = numbers.float();
     let h = numbers.float();

@@ -1,4 +1,6 @@
 // The words of the cases.
+ghost use Rattle.std.specs.Prelude.{◌≡◌, IfSome, take};
+ghost use Rattle.grid_cases.specs.Words.{count_of, letters_of};
 
 // What a case asks for.
 #[derive(Clone, Copy, Debug, PartialEq, Eq)]
@@ -19,14 +21,16 @@ pub enum Word {
     Half,
     Extremes,
     Pruned,
-    List,
+    ShortList,
     LongList,
     Open,
 }
 
 impl Word {
     // The word with these letters. Those past the eighth do not count.
-    pub fn named(letters: &[u8]) -> Option<Word> {
+    pub fn named(letters: &[u8]) -> Option<Word>
+        ensures { IfSome result (λ word. take 8 letters.now ≡ letters_of word) }
+    {
         Some(match letters.get(..8).unwrap_or(letters) {
             b"block" => Word::Block,
             b"size" => Word::Size,
@@ -44,7 +48,7 @@ impl Word {
             b"half" => Word::Half,
             b"extremes" => Word::Extremes,
             b"pruned" => Word::Pruned,
-            b"list" => Word::List,
+            b"list" => Word::ShortList,
             b"longlist" => Word::LongList,
             b"open" => Word::Open,
             _ => return None,
@@ -52,12 +56,14 @@ impl Word {
     }
 
     // How many numbers follow the word.
-    pub fn count(self) -> usize {
+    pub fn count(self) -> usize
+        ensures { result ≡ count_of self }
+    {
         match self {
             Word::Block => 1,
             Word::Places => 2,
             Word::Size | Word::Along => 3,
-            Word::List => 5,
+            Word::ShortList => 5,
             Word::Axis | Word::Half => 6,
             Word::Corner | Word::Leaf | Word::Extremes => 8,
             Word::Counts | Word::Corners | Word::Leaves => 9,

@@ -1,5 +1,6 @@
 // The list of the corners that a node's active children need.
 ghost use Rattle.std.specs.Prelude.{◌≤◌};
+ghost use Rattle.cases.specs.Answer.{Answers};
 
 use cases::{Answer, Fault, Numbers};
 use grid::CornerList;
@@ -43,7 +44,9 @@ fn sum_of(corners: &[u32]) -> u64 {
 }
 
 // The numbers that the bits of a node's corners take.
-fn words_of(n: u32) -> usize {
+fn words_of(n: u32) -> usize
+    ensures { result ≤ 12 }
+{
     match n {
         2 => 1,
         4 => 2,
@@ -54,6 +57,7 @@ fn words_of(n: u32) -> usize {
 // Calls on so many kinds and a list so long, and answers.
 fn call(n: u32, kinds: &[u8], end: usize, answer: &mut Answer) -> Result<(), Fault>
     requires { end ≤ 800 }
+    ensures { Answers result answer.old answer.new }
 {
     let mut list = [BEFORE; LONGEST];
     let found = grid::corner_list(n, kinds, &mut list[..end]);
@@ -69,9 +73,7 @@ fn call(n: u32, kinds: &[u8], end: usize, answer: &mut Answer) -> Result<(), Fau
             answer.number(sum_of(corners))?;
             answer.flag(list.iter().take(end).skip(count).all(|corner| *corner == 0))?;
             answer.flag(list.iter().skip(end).all(|corner| *corner == BEFORE))?;
-            for b in bits_of(corners).iter().take(words_of(n)) {
-                answer.number(*b)?;
-            }
+            answer.copied(&bits_of(corners)[..words_of(n)])?;
         }
     }
     Ok(())
@@ -81,7 +83,9 @@ fn call(n: u32, kinds: &[u8], end: usize, answer: &mut Answer) -> Result<(), Fau
 // node with N children along an axis, from so many kinds, into a list so long. Answers how many are
 // listed, their sum, whether the rest is 0, whether what lies past the list is as it was, and the bits;
 // or where refused, whether the whole list is as it was.
-pub fn list(mut numbers: Numbers, answer: &mut Answer) -> Result<(), Fault> {
+pub fn list(mut numbers: Numbers, answer: &mut Answer) -> Result<(), Fault>
+    ensures { Answers result answer.old answer.new }
+{
     let n = numbers.short();
     let most = numbers.place();
     let end = numbers.place();

@@ -1,4 +1,6 @@
 // The causes by which open refuses a job, and what is known of an accepted one.
+ghost use Rattle.cases.specs.Answer.{Answers};
+
 use cases::{Answer, Fault, Numbers};
 use input::{Band, Input, Lengths, Refusal};
 use model::{ImplicitModel, ModelComponent, Part};
@@ -45,7 +47,9 @@ fn lengths_of(numbers: &mut Numbers) -> Lengths {
 
 // `open GRID MIN MAX COUNT PLACE KIND A B KINDS NUMBERS PLACES STORE CORNERS`: the cause by which open
 // refuses the job, or of an accepted one the nodes and the active children.
-pub fn open(mut numbers: Numbers, answer: &mut Answer) -> Result<(), Fault> {
+pub fn open(mut numbers: Numbers, answer: &mut Answer) -> Result<(), Fault>
+    ensures { Answers result answer.old answer.new }
+{
     let input = Input {
         grid: numbers.grid(),
         band: Band {

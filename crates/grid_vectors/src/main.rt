@@ -1,6 +1,8 @@
 // Answers the stored cases of the grid that standard input holds: a line each, and a line for each.
 #![tactic(auto)]
 
+ghost use Rattle.cases.specs.Answer.{Answers};
+
 mod corners; // corners.rt: the corner list
 mod jobs; // jobs.rt: the causes of open
 
@@ -12,7 +14,9 @@ use std::io::Read;
 use vectors::Lines;
 
 // The answer to a case with this word.
-fn answer(word: Word, numbers: Numbers, answer: &mut Answer) -> Result<(), Fault> {
+fn answer(word: Word, numbers: Numbers, answer: &mut Answer) -> Result<(), Fault>
+    ensures { Answers result answer.old answer.new }
+{
     match word {
         Word::Block => grid_cases::block(numbers, answer),
         Word::Size => grid_cases::size(numbers, answer),
@@ -30,7 +34,7 @@ fn answer(word: Word, numbers: Numbers, answer: &mut Answer) -> Result<(), Fault
         Word::Half => grid_cases::half(numbers, answer),
         Word::Extremes => grid_cases::extremes(numbers, answer),
         Word::Pruned => grid_cases::pruned(numbers, answer),
-        Word::List | Word::LongList => corners::list(numbers, answer),
+        Word::ShortList | Word::LongList => corners::list(numbers, answer),
         Word::Open => jobs::open(numbers, answer),
     }
 }

@@ -1,5 +1,8 @@
 // The five slices: poisoned, one element of them set, and all elements answered. They are numbered from 0
 // in the order of the calls.
+ghost use Rattle.std.specs.Prelude.{◌≡◌, vec_len, IfOk};
+ghost use Rattle.sparse_cases.specs.Lent.{LentBy};
+
 use crate::elements::Element;
 use crate::output::Output;
 use cases::Numbers;
@@ -30,7 +33,9 @@ fn mixed(seed: u64, at: usize) -> u64 {
 }
 
 // So many elements that belong to no job.
-fn poisoned<T: Element>(alloc: Global, count: usize, seed: u64) -> Result<Vec<T>, AllocError> {
+fn poisoned<T: Element>(alloc: Global, count: usize, seed: u64) -> Result<Vec<T>, AllocError>
+    ensures { IfOk result (λ elements. vec_len elements ≡ count) }
+{
     let mut elements = Vec::new(alloc);
     for at in 0..count {
         elements.push(T::poison(mixed(seed, at)))?;
@@ -74,7 +79,9 @@ impl Slices {
     }
 
     // `lend KINDS NUMBERS PLACES STORE CORNERS SEED`: slices so long, each element a poison.
-    pub fn lent(alloc: Global, mut numbers: Numbers) -> Result<Slices, AllocError> {
+    pub fn lent(alloc: Global, mut numbers: Numbers) -> Result<Slices, AllocError>
+        ensures { IfOk result (LentBy numbers.entry.left.now) }
+    {
         let kinds = numbers.place().min(MOST);
         let given = numbers.place().min(MOST);
         let places = numbers.place().min(MOST);

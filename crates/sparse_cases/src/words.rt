@@ -1,4 +1,6 @@
 // The words of the lines.
+ghost use Rattle.std.specs.Prelude.{◌≡◌, IfSome};
+ghost use Rattle.sparse_cases.specs.Words.{letters_of, takes};
 
 // What a line does.
 #[derive(Clone, Copy, Debug, PartialEq, Eq)]
@@ -16,7 +18,9 @@ pub enum Word {
 
 impl Word {
     // The word with these letters.
-    pub fn named(letters: &[u8]) -> Option<Word> {
+    pub fn named(letters: &[u8]) -> Option<Word>
+        ensures { IfSome result (λ word. letters.now ≡ letters_of word) }
+    {
         Some(match letters {
             b"lend" => Word::Lend,
             b"parts" => Word::Parts,
@@ -32,7 +36,9 @@ impl Word {
     }
 
     // Whether so many numbers may follow the word.
-    pub fn takes(self, count: usize) -> bool {
+    pub fn takes(self, count: usize) -> bool
+        ensures { result ≡ takes self count }
+    {
         match self {
             Word::Parts => true,
             Word::Open => count == 12,

@@ -1,4 +1,6 @@
 // The numbers of a stored case, and those of its answer: at most 160 to a line, each 16 digits.
+ghost use Rattle.std.specs.Prelude.{◌≡◌, ◌+◌, ◌*◌, ◌≤◌, length, vec_len, IfOk, IfSome, OnSome};
+
 use crate::digest::digest_with;
 use crate::numbers::hex16;
 use std::alloc::{AllocError, Global};
@@ -15,7 +17,10 @@ const WIDTH: usize = 17;
 
 // The numbers after a line's word, each a space and its digits, up to the line's byte 10. None where
 // the line is off its form.
-pub fn read_numbers(alloc: Global, rest: &[u8]) -> Result<Option<Vec<u64>>, AllocError> {
+pub fn read_numbers(alloc: Global, rest: &[u8]) -> Result<Option<Vec<u64>>, AllocError>
+    ensures few { IfOk result (λ found. IfSome found (λ numbers. vec_len numbers ≤ 160)) }
+    ensures whole { IfOk result (λ found. IfSome found (λ numbers. length rest.now ≡ 17 * vec_len numbers + 1)) }
+{
     let Some(fields) = rest.strip_suffix(b"\n") else {
         return Ok(None);
     };
@@ -33,8 +38,10 @@ pub fn read_numbers(alloc: Global, rest: &[u8]) -> Result<Option<Vec<u64>>, Allo
 }
 
 // The number of a field, which has a space before its digits.
-fn field_number(field: &[u8]) -> Option<u64> {
-    if *field.first()? != b' ' {
+fn field_number(field: &[u8]) -> Option<u64>
+    ensures { OnSome result (length field.now ≡ 17) }
+{
+    if field.len() != WIDTH || field[0] != b' ' {
         return None;
     }
     hex16(field, 1)
