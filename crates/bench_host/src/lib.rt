@@ -1,10 +1,12 @@
 // What the benchmark calls beyond the C interface: each function is one call, exported under a C name.
 #![tactic(auto)]
 
-ghost use Rattle.std.specs.Prelude.{◌≡◌, map};
-ghost use Rattle.lists.specs.Tabulate.{tabulate};
+ghost use Rattle.std.specs.Prelude.{◌≡◌, map, min, length};
+ghost use Rattle.lists.specs.Filled.{filled};
 ghost use Rattle.root.specs.Root.{square_root};
 ghost use Rattle.model.specs.Flat.{flat_in};
+ghost use Rattle.model.specs.Model.{parts_in};
+ghost use Rattle.model.specs.Row.{model_row};
 ghost use Rattle.field_host.specs.Given.{model_given};
 ghost use Rattle.bench_host.specs.Points.{value_at};
 
@@ -12,7 +14,7 @@ mod cells; // cells.rt: the cells of a dense field
 mod floats; // floats.rt: floats, points and boxes
 mod nodes; // nodes.rt: the grid of a sparse field
 
-use geometry::Vec3;
+use geometry::{PointRow, Vec3};
 
 // The correctly rounded square root.
 #[unsafe(no_mangle)]
@@ -30,23 +32,51 @@ pub extern "C" fn bench_sqrt_row(xs: &mut [f64])
     root::sqrt_row(xs);
 }
 
-// The values of a model at 4096 points, one after the other. The model is made of flat arrays, once.
+// The values of a model at points, one after the other, as many as the shortest list has. The model is
+// made of flat arrays, once.
 #[unsafe(no_mangle)]
 pub extern "C" fn bench_evaluate(
     words: &[u32; 192],
     numbers: &[f64; 256],
     count: u32,
-    px: &[f64; 4096],
-    py: &[f64; 4096],
-    pz: &[f64; 4096],
-    results: &mut [f64; 4096],
+    px: &[f64],
+    py: &[f64],
+    pz: &[f64],
+    results: &mut [f64],
 )
     ensures { results.new
-        ≡ tabulate 4096 (value_at (model_given (flat_in words numbers) count) px.now py.now pz.now) }
+        ≡ filled 0 (min (min (length px.now) (length py.now)) (min (length pz.now) (length results.old)))
+        (value_at (model_given (flat_in words numbers) count) px.now py.now pz.now) results.old }
 {
     let model = field_host::model_given(words, numbers, count);
     let mut values = [0.0; 64];
-    for k in 0..4096 {
+    let points = px.len().min(py.len()).min(pz.len().min(results.len()));
+    for k in 0..points {
         results[k] = model::evaluate_parts(&model, Vec3::new(px[k], py[k], pz[k]), &mut values);
     }
+}
+
+// The values of a model at a row of 64 points, part by part.
+#[unsafe(no_mangle)]
+pub extern "C" fn bench_evaluate_row(
+    words: &[u32; 192],
+    numbers: &[f64; 256],
+    count: u32,
+    px: &[f64; 64],
+    py: &[f64; 64],
+    pz: &[f64; 64],
+    results: &mut [f64; 64],
+)
+    ensures { results.new
+        ≡ model_row (parts_in (model_given (flat_in words numbers) count)) (min count 64) 64
+        (record { xs = px.now; ys = py.now; zs = pz.now }) results.old }
+{
+    let model = field_host::model_given(words, numbers, count);
+    let points = PointRow {
+        xs: *px,
+        ys: *py,
+        zs: *pz,
+    };
+    let mut values = [0.0; 4096];
+    model::evaluate_row_into(&model, &points, 64, &mut values, results);
 }

@@ -1,9 +1,8 @@
 -- A point more.
-use Rattle.std.proofs.Common.{◌≡◌, min, sym, ap, ◌∙◌, arith}
-use Rattle.lists.specs.Tabulate.{tabulate}
-use Rattle.lists.proofs.Filling.{filled_none, front_store, filled_done, filled_all}
+use Rattle.std.proofs.Common.{◌≡◌, min, length, sym, ap, ◌∙◌, arith}
+use Rattle.lists.specs.Filled.{filled}
+use Rattle.lists.proofs.Filling.{filled_none, front_store, filled_done}
 use Rattle.geometry.specs.declared.Vec3.{Vec3}
-use Rattle.model.specs.Part.{past}
 use Rattle.model.specs.Model.{parts_in, parts_value}
 use Rattle.bench_host.specs.Points.{value_at}
 use Rattle.bench_host.proofs.bench_evaluate.Goals as goal
@@ -19,8 +18,7 @@ loop-k-preserved c =
 
 pub returns : goal.returns
 returns c =
-    let f = value_at c.model_given-model.result c.args.px.now c.args.py.now c.args.pz.now in
-    let last : c.loop-k.k ≡ 4096 = omega arith in
-    filled_done 0 f c.args.results.now c.loop-k.invariant last
-    ∙ filled_all 4096 f c.args.results.now past c.told-results
-    ∙ ap (λ m. tabulate 4096 (value_at m c.args.px.now c.args.py.now c.args.pz.now)) c.model_given-model.ensures
+    let n = min (min (length c.args.px.now) (length c.args.py.now)) (min (length c.args.pz.now) (length c.args.results.now)) in
+    let last : c.loop-k.k ≡ n = omega arith in
+    filled_done 0 (value_at c.model_given-model.result c.args.px.now c.args.py.now c.args.pz.now) c.args.results.now c.loop-k.invariant last
+    ∙ ap (λ m. filled 0 n (value_at m c.args.px.now c.args.py.now c.args.pz.now) c.args.results.now) c.model_given-model.ensures
