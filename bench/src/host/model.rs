@@ -7,21 +7,24 @@ extern "C" {
     fn bench_evaluate(
         words: &[u32; 3 * ROW],
         numbers: &[f64; 4 * ROW],
-        count: usize,
-        x: f64,
-        y: f64,
-        z: f64,
-        values: &mut [f64; ROW],
-    ) -> f64;
+        count: u32,
+        px: *const f64,
+        px_length: usize,
+        py: *const f64,
+        py_length: usize,
+        pz: *const f64,
+        pz_length: usize,
+        results: *mut f64,
+        results_length: usize,
+    );
     fn bench_evaluate_row(
         words: &[u32; 3 * ROW],
         numbers: &[f64; 4 * ROW],
-        count: usize,
+        count: u32,
         px: &[f64; ROW],
         py: &[f64; ROW],
         pz: &[f64; ROW],
-        n: usize,
-        values: &mut [f64; ROW * ROW],
+        results: &mut [f64; ROW],
     );
 }
 
@@ -68,12 +71,26 @@ impl Layout {
     }
 }
 
-/// The model's value at a point. The values of the parts are written too.
-pub fn evaluate(l: &Layout, x: f64, y: f64, z: f64, values: &mut [f64; ROW]) -> f64 {
-    unsafe { bench_evaluate(&l.words, &l.numbers, l.count, x, y, z, values) }
+/// The model's values at points, one after the other. The model is made of its arrays once.
+pub fn evaluate(l: &Layout, [px, py, pz]: [&[f64]; 3], results: &mut [f64]) {
+    unsafe {
+        bench_evaluate(
+            &l.words,
+            &l.numbers,
+            l.count as u32,
+            px.as_ptr(),
+            px.len(),
+            py.as_ptr(),
+            py.len(),
+            pz.as_ptr(),
+            pz.len(),
+            results.as_mut_ptr(),
+            results.len(),
+        )
+    }
 }
 
-/// The values of the parts at a row of points, part by part.
-pub fn evaluate_row(l: &Layout, [px, py, pz]: [&[f64; ROW]; 3], values: &mut [f64; ROW * ROW]) {
-    unsafe { bench_evaluate_row(&l.words, &l.numbers, l.count, px, py, pz, ROW, values) }
+/// The model's values at a row of points, part by part.
+pub fn evaluate_row(l: &Layout, [px, py, pz]: [&[f64; ROW]; 3], results: &mut [f64; ROW]) {
+    unsafe { bench_evaluate_row(&l.words, &l.numbers, l.count as u32, px, py, pz, results) }
 }
