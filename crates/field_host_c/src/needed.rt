@@ -2,7 +2,7 @@
 ghost use Rattle.std.specs.Prelude.{◌≡◌};
 ghost use Rattle.field_host.specs.Given.{input_lent};
 ghost use Rattle.field_host.specs.Needed.{any_refusal, lengths_left};
-ghost use Rattle.input.specs.Causes.{number_of};
+ghost use Rattle.field_host.specs.Answers.{outcome_number};
 
 // Writes the lengths of kinds, numbers, places, store and corners that an open of this input needs.
 // Refused by the causes 1 to 5 of an open.
@@ -16,7 +16,7 @@ pub extern "C" fn jisampode_lengths(
     count: u32,
     lengths: &mut [usize; 5],
 ) -> u32
-    ensures answer { result ≡ number_of (any_refusal (input_lent settings inner leaf parts reals count)) }
+    ensures answer { result ≡ outcome_number (any_refusal (input_lent settings inner leaf parts reals count)) }
     ensures lengths { lengths.new
         ≡ lengths_left lengths.old (any_refusal (input_lent settings inner leaf parts reals count))
         (input_lent settings inner leaf parts reals count).grid }

@@ -8,6 +8,7 @@ ghost use Rattle.field_host.specs.Given.{box_in, indices_in};
 ghost use Rattle.field_host.specs.Answers.{coordinates, ends, step_number, step_cursor, step_left};
 
 // The point at the cursor of a walk over nx × ny × nz points. Refused by 1, then 11.
+// Kept: C calls each walk by its own name, with arrays of its own lengths.
 #[unsafe(no_mangle)]
 pub extern "C" fn jisampode_point_step(
     bounds: &[f64; 6],
