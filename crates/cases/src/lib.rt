@@ -1,8 +1,11 @@
 // What the numbers of a stored case stand for: floats by their bits, points, boxes, grids and models.
 #![tactic(auto)]
 
-mod parts; // parts.rt: parts of a model, five numbers each
-mod values; // values.rt: numbers of several widths, floats, points, boxes and grids
+mod answer; // answer.rt: the numbers of an answer
+mod lines; // lines.rt: a line taken apart, and the line that answers it
+mod numbers; // numbers.rt: a case's numbers, read one after the other
+mod parts; // parts.rt: parts of a model
 
-pub use parts::model_at;
-pub use values::{box_at, float_at, grid_at, place, short, vector_at, wide};
+pub use answer::{Answer, Fault};
+pub use lines::{Line, read_line, write_answer};
+pub use numbers::Numbers;

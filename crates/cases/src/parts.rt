@@ -1,57 +1,93 @@
 // The parts of a model, each a kind and four numbers.
-ghost use Rattle.std.specs.Prelude.{◌+◌, ◌*◌, ◌≤◌, length};
+ghost use Rattle.std.specs.Prelude.{◌≡◌, ◌≤◌, [], ◌∷◌, ◌++◌, drop, OnOk};
+ghost use Rattle.cases.specs.Answer.{bits_of, part_bits};
+ghost use Rattle.cases.specs.Parts.{part_at};
 
-use crate::values;
+use crate::answer::Answer;
+use crate::numbers::Numbers;
+use geometry::Vec3;
 use model::{ImplicitModel, ModelComponent, Part};
+use std::alloc::AllocError;
 
-// An operation, by its kind.
-fn operation(kind: u64, a: u32, b: u32) -> Part {
-    match kind {
-        3 => Part::Min(a, b),
-        4 => Part::Max(a, b),
-        5 => Part::Add(a, b),
-        6 => Part::Sub(a, b),
-        _ => Part::Neg(a),
+impl Numbers<'_> {
+    // A part: 0 is a constant, 1 a sphere, 2 a plane, 3 to 6 min, max, add and sub, any other kind neg.
+    pub fn part(&mut self) -> Part
+        ensures value { result ≡ part_at self.old.left.now 0 }
+        ensures rest { self.new.left.now ≡ drop 5 self.old.left.now }
+    {
+        let kind = self.number();
+        let mut first = *self;
+        let mut inputs = *self;
+        let vector = self.vector();
+        let last = self.float();
+        let a = inputs.short();
+        let b = inputs.short();
+        match kind {
+            0 => Part::Constant(first.float()),
+            1 => Part::Sphere(vector, last),
+            2 => Part::Plane(vector, last),
+            3 => Part::Min(a, b),
+            4 => Part::Max(a, b),
+            5 => Part::Add(a, b),
+            6 => Part::Sub(a, b),
+            _ => Part::Neg(a),
+        }
+    }
+
+    // A model that counts so many parts. Those that are given are read; the others are constants of +0.
+    pub fn model(&mut self, given: usize, count: u32) -> ImplicitModel
+        requires { given ≤ 64 }
+        ensures { result.count ≡ count }
+    {
+        let none = ModelComponent {
+            part: Part::Constant(0.0),
+        };
+        let mut parts = [none; 64];
+        for component in &mut parts[..given] {
+            component.part = self.part();
+        }
+        ImplicitModel { parts, count }
     }
 }
 
-// The part whose numbers begin at a place.
-fn part_at(numbers: &[u64], at: usize) -> Part
-    requires { at + 5 ≤ length numbers.now }
+fn shape_numbers(kind: u64, v: Vec3, last: f64) -> [u64; 5]
+    ensures { result ≡ kind ∷ bits_of v.x ∷ bits_of v.y ∷ bits_of v.z ∷ bits_of last ∷ [] }
 {
-    let kind = numbers[at];
-    if kind == 0 {
-        return Part::Constant(values::float_at(numbers, at + 1));
-    }
-    if kind > 2 {
-        return operation(
-            kind,
-            values::short(numbers[at + 1]),
-            values::short(numbers[at + 2]),
-        );
-    }
-    let vector = values::vector_at(numbers, at + 1);
-    let last = values::float_at(numbers, at + 4);
-    if kind == 1 {
-        return Part::Sphere(vector, last);
-    }
-    Part::Plane(vector, last)
+    [
+        kind,
+        float::to_bits(v.x),
+        float::to_bits(v.y),
+        float::to_bits(v.z),
+        float::to_bits(last),
+    ]
 }
 
-// A model that counts so many parts. Those that are given stand from a place on; the others are
-// constants of +0.
-pub fn model_at(numbers: &[u64], at: usize, given: usize, count: u32) -> ImplicitModel
-    requires { (given ≤ 64) × (at + 5 * given ≤ length numbers.now) }
+fn operation_numbers(kind: u64, a: u32, b: u32) -> [u64; 5]
+    ensures { result ≡ kind ∷ a ∷ b ∷ 0 ∷ 0 ∷ [] }
 {
-    let none = ModelComponent {
-        part: Part::Constant(0.0),
-    };
-    let mut parts = [none; 64];
-    let mut p: usize = 0;
-    while p < given {
-        let part = part_at(numbers, at + 5 * p);
-        parts[p] = ModelComponent { part };
-        p += 1;
+    [kind, u64::from(a), u64::from(b), 0, 0]
+}
+
+// A part: its kind, and four numbers.
+fn part_numbers(part: Part) -> [u64; 5]
+    ensures { result ≡ part_bits part }
+{
+    match part {
+        Part::Constant(x) => [0, float::to_bits(x), 0, 0, 0],
+        Part::Sphere(v, r) => shape_numbers(1, v, r),
+        Part::Plane(v, d) => shape_numbers(2, v, d),
+        Part::Min(a, b) => operation_numbers(3, a, b),
+        Part::Max(a, b) => operation_numbers(4, a, b),
+        Part::Add(a, b) => operation_numbers(5, a, b),
+        Part::Sub(a, b) => operation_numbers(6, a, b),
+        Part::Neg(a) => operation_numbers(7, a, 0),
     }
-    ImplicitModel { parts, count }
+}
+
+impl Answer {
+    pub fn part(&mut self, part: Part) -> Result<(), AllocError>
+        ensures { OnOk result (self.new.numbers.items ≡ self.old.numbers.items ++ part_bits part) }
+    {
+        self.copied(&part_numbers(part))
+    }
 }

@@ -1,23 +1,20 @@
 // The points of a field over bounds.
-ghost use Rattle.std.specs.Prelude.{◌<◌, ◌≤◌};
+ghost use Rattle.cases.specs.Answer.{Answers};
 
-use crate::numbers;
+use cases::{Answer, Fault, Numbers};
 
 // `count`: bounds and a cell's size; the counts along the axes.
-pub fn count(fields: &[u64; 160], answers: &mut [u64; 160]) -> usize
-    ensures { (0 < result) × (result ≤ 160) }
+pub fn count(mut numbers: Numbers, answer: &mut Answer) -> Result<(), Fault>
+    ensures { Answers result answer.old answer.new }
 {
-    let bounds = cases::box_at(fields, 0);
-    let cell = cases::float_at(fields, 6);
+    let bounds = numbers.bounds();
+    let cell = numbers.float();
     match dense_field::point_count(bounds, cell) {
         Ok(n) => {
-            answers[0] = 0;
-            numbers::put_counts(answers, 1, n);
-            4
+            answer.accepted()?;
+            answer.indices(n)?;
         }
-        Err(cause) => {
-            answers[0] = numbers::cause(cause.number());
-            1
-        }
+        Err(cause) => answer.refused(cause)?,
     }
+    Ok(())
 }

@@ -1,42 +1,36 @@
 // The index of a grid point, both ways.
-ghost use Rattle.std.specs.Prelude.{◌<◌, ◌≤◌};
+ghost use Rattle.cases.specs.Answer.{Answers};
 
-use crate::numbers;
+use cases::{Answer, Fault, Numbers};
 
 // `place`: three indices and the dimensions; the place in a flat list.
-pub fn place(fields: &[u64; 160], answers: &mut [u64; 160]) -> usize
-    ensures { (0 < result) × (result ≤ 160) }
+pub fn place(mut numbers: Numbers, answer: &mut Answer) -> Result<(), Fault>
+    ensures { Answers result answer.old answer.new }
 {
-    let c = numbers::counts_at(fields, 0);
-    let n = numbers::counts_at(fields, 3);
+    let c = numbers.indices();
+    let n = numbers.indices();
     match geometry::index1d_from_index3d(c.i, c.j, c.k, n.i, n.j, n.k) {
         Ok(at) => {
-            answers[0] = 0;
-            numbers::put_count(answers, 1, at);
-            2
+            answer.accepted()?;
+            answer.place(at)?;
         }
-        Err(cause) => {
-            answers[0] = numbers::cause(cause.number());
-            1
-        }
+        Err(cause) => answer.refused(cause)?,
     }
+    Ok(())
 }
 
 // `indices`: a place and the dimensions; the three indices.
-pub fn indices(fields: &[u64; 160], answers: &mut [u64; 160]) -> usize
-    ensures { (0 < result) × (result ≤ 160) }
+pub fn indices(mut numbers: Numbers, answer: &mut Answer) -> Result<(), Fault>
+    ensures { Answers result answer.old answer.new }
 {
-    let at = numbers::count_at(fields, 0);
-    let n = numbers::counts_at(fields, 1);
+    let at = numbers.place();
+    let n = numbers.indices();
     match geometry::index3d_from_index1d(at, n.i, n.j, n.k) {
         Ok(c) => {
-            answers[0] = 0;
-            numbers::put_counts(answers, 1, c);
-            4
+            answer.accepted()?;
+            answer.indices(c)?;
         }
-        Err(cause) => {
-            answers[0] = numbers::cause(cause.number());
-            1
-        }
+        Err(cause) => answer.refused(cause)?,
     }
+    Ok(())
 }

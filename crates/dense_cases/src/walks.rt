@@ -1,89 +1,79 @@
 // One step of a walk. After the refusal stands 1 where there is a point or a cell, and 0 where the
 // walk is done; then the cursor, and what the walk found.
-ghost use Rattle.std.specs.Prelude.{◌<◌, ◌≤◌, length};
+ghost use Rattle.std.specs.Prelude.{◌≡◌, ◌+◌, ◌<◌, ◌≤◌, vec_len, OnOk};
+ghost use Rattle.cases.specs.Answer.{Answers};
 
-use crate::numbers;
-use causes::Cause;
+use crate::values::values_of;
+use cases::{Answer, Fault, Numbers};
 use geometry::Vec3i;
-
-// A refusal alone.
-fn refused(answers: &mut [u64; 160], cause: Cause) -> usize
-    ensures { (0 < result) × (result ≤ 5) }
-{
-    answers[0] = numbers::cause(cause.number());
-    1
-}
+use std::alloc::{AllocError, Global};
 
 // An accepted step, with its cursor.
-fn stepped(answers: &mut [u64; 160], found: u64, cursor: Vec3i) {
-    answers[0] = 0;
-    answers[1] = found;
-    numbers::put_counts(answers, 2, cursor);
+fn put_step(found: bool, cursor: Vec3i, answer: &mut Answer) -> Result<(), AllocError>
+    ensures { OnOk result (vec_len answer.new.numbers ≡ vec_len answer.old.numbers + 5) }
+{
+    answer.accepted()?;
+    answer.flag(found)?;
+    answer.indices(cursor)
 }
 
 // `points`: bounds, the counts, the cursor.
-pub fn points(fields: &[u64; 160], answers: &mut [u64; 160]) -> usize
-    ensures { (0 < result) × (result ≤ 160) }
+pub fn points(mut numbers: Numbers, answer: &mut Answer) -> Result<(), Fault>
+    ensures { Answers result answer.old answer.new }
 {
-    let bounds = cases::box_at(fields, 0);
-    let n = numbers::counts_at(fields, 6);
-    let cursor = numbers::counts_at(fields, 9);
+    let bounds = numbers.bounds();
+    let n = numbers.indices();
+    let cursor = numbers.indices();
     match dense_field::point_step(bounds, n, cursor) {
         Ok(Some(step)) => {
-            stepped(answers, 1, step.next);
-            numbers::put_point(answers, 5, step.found);
-            8
+            put_step(true, step.next, answer)?;
+            answer.vector(step.found)?;
         }
-        Ok(None) => {
-            stepped(answers, 0, cursor);
-            5
-        }
-        Err(cause) => refused(answers, cause),
+        Ok(None) => put_step(false, cursor, answer)?,
+        Err(cause) => answer.refused(cause)?,
     }
+    Ok(())
 }
 
 // `cells`: bounds, the counts, the cursor.
-pub fn cells(fields: &[u64; 160], answers: &mut [u64; 160]) -> usize
-    ensures { (0 < result) × (result ≤ 160) }
+pub fn cells(mut numbers: Numbers, answer: &mut Answer) -> Result<(), Fault>
+    ensures { Answers result answer.old answer.new }
 {
-    let bounds = cases::box_at(fields, 0);
-    let n = numbers::counts_at(fields, 6);
-    let cursor = numbers::counts_at(fields, 9);
+    let bounds = numbers.bounds();
+    let n = numbers.indices();
+    let cursor = numbers.indices();
     match dense_field::cell_step(bounds, n, cursor) {
         Ok(Some(step)) => {
-            stepped(answers, 1, step.next);
-            numbers::put_point(answers, 5, step.found.min);
-            numbers::put_point(answers, 8, step.found.max);
-            11
+            put_step(true, step.next, answer)?;
+            answer.bounds(step.found)?;
         }
-        Ok(None) => {
-            stepped(answers, 0, cursor);
-            5
-        }
-        Err(cause) => refused(answers, cause),
+        Ok(None) => put_step(false, cursor, answer)?,
+        Err(cause) => answer.refused(cause)?,
     }
+    Ok(())
 }
 
 // `octets`: the dimensions, the cursor, the values.
-pub fn octets(fields: &[u64; 160], values: &mut [f64], answers: &mut [u64; 160]) -> usize
-    requires { length values.old ≤ 150 }
-    ensures { (0 < result) × (result ≤ 160) }
+pub fn octets(alloc: Global, mut numbers: Numbers, answer: &mut Answer) -> Result<(), Fault>
+    ensures { Answers result answer.old answer.new }
 {
-    let n = numbers::counts_at(fields, 0);
-    let cursor = numbers::counts_at(fields, 3);
-    numbers::values_at(fields, 6, values);
-    let (at, eight) = match dense_field::walk_octet(values, n, cursor) {
+    let n = numbers.indices();
+    let cursor = numbers.indices();
+    let values = values_of(alloc, numbers)?;
+    let eight = match dense_field::walk_octet(&values, n, cursor) {
         Ok(Some(step)) => {
-            stepped(answers, 1, step.next);
-            let eight = step.found;
-            (5, eight)
+            put_step(true, step.next, answer)?;
+            step.found
         }
         Ok(None) => {
-            stepped(answers, 0, cursor);
-            (5, [0.0; 8])
+            put_step(false, cursor, answer)?;
+            [0.0; 8]
         }
-        Err(cause) => (refused(answers, cause), [0.0; 8]),
+        Err(cause) => {
+            answer.refused(cause)?;
+            [0.0; 8]
+        }
     };
-    numbers::put_eight(answers, at, eight);
-    at + 8
+    answer.floats(&eight)?;
+    Ok(())
 }

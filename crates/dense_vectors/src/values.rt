@@ -1,89 +1,84 @@
 // Calls that change a field's values. The values end the case, and what they are after ends the
 // answer.
-ghost use Rattle.std.specs.Prelude.{◌<◌, ◌≤◌, length};
+ghost use Rattle.cases.specs.Answer.{Answers};
 
+use cases::{Answer, Fault, Numbers};
 use causes::Cause;
+use dense_cases::MOST_VALUES;
+use geometry::Vec3i;
+use std::alloc::Global;
 
 // What each value of the scratch is before a call.
 const BEFORE: f64 = 100.0;
 
-// `pad`: the dimensions, the value to set, the values.
-pub fn pad(fields: &[u64; 160], values: &mut [f64], answers: &mut [u64; 160]) -> usize
-    requires { length values.old ≤ 150 }
-    ensures { (0 < result) × (result ≤ 160) }
+// A call with one number, on the values: the dimensions, the number, the values.
+fn changed<F: FnOnce(Vec3i, f64, &mut [f64]) -> Result<(), Cause>>(
+    alloc: Global,
+    mut numbers: Numbers,
+    answer: &mut Answer,
+    call: F,
+) -> Result<(), Fault>
+    requires { F.IsAlwaysCallable call }
+    ensures { Answers result answer.old answer.new }
 {
-    let len = values.len();
-    let n = dense_cases::counts_at(fields, 0);
-    let value = cases::float_at(fields, 3);
-    dense_cases::values_at(fields, 4, values);
-    let done = dense_field::padding(n, value, values);
-    dense_cases::put_outcome(done, values, len, answers)
+    let n = numbers.indices();
+    let number = numbers.float();
+    let mut values = dense_cases::values_of(alloc, numbers)?;
+    let done = call(n, number, &mut values);
+    answer.outcome(done)?;
+    answer.floats(&values)?;
+    Ok(())
 }
 
-// `threshold`: the dimensions, the limit, the values.
-pub fn threshold(fields: &[u64; 160], values: &mut [f64], answers: &mut [u64; 160]) -> usize
-    requires { length values.old ≤ 150 }
-    ensures { (0 < result) × (result ≤ 160) }
+// `pad`: the number is the value to set.
+pub fn pad(alloc: Global, numbers: Numbers, answer: &mut Answer) -> Result<(), Fault>
+    ensures { Answers result answer.old answer.new }
 {
-    let len = values.len();
-    let n = dense_cases::counts_at(fields, 0);
-    let limit = cases::float_at(fields, 3);
-    dense_cases::values_at(fields, 4, values);
-    let done = dense_field::threshold(n, limit, values);
-    dense_cases::put_outcome(done, values, len, answers)
+    changed(alloc, numbers, answer, |n, value, values: &mut [f64]| {
+        dense_field::padding(n, value, values)
+    })
 }
 
-// Whether every value has these bits.
-fn all_have(values: &[f64], bits: u64) -> bool {
-    let mut i = 0;
-    while i < values.len() {
-        if float::to_bits(values[i]) != bits {
-            return false;
-        }
-        i += 1;
-    }
-    true
+// `threshold`: the number is the limit.
+pub fn threshold(alloc: Global, numbers: Numbers, answer: &mut Answer) -> Result<(), Fault>
+    ensures { Answers result answer.old answer.new }
+{
+    changed(alloc, numbers, answer, |n, limit, values: &mut [f64]| {
+        dense_field::threshold(n, limit, values)
+    })
+}
+
+// Whether every value has the same bits as another.
+fn all_are(values: &[f64], other: f64) -> bool {
+    values
+        .iter()
+        .all(|v| float::to_bits(*v) == float::to_bits(other))
 }
 
 // What a call left of the scratch: 1 what it was before, 0 every value +0, 2 anything else.
 fn scratch_after(scratch: &[f64]) -> u64 {
-    if all_have(scratch, float::to_bits(BEFORE)) {
-        return 1;
+    if all_are(scratch, BEFORE) {
+        1
+    } else if all_are(scratch, 0.0) {
+        0
+    } else {
+        2
     }
-    if all_have(scratch, 0) { 0 } else { 2 }
-}
-
-// Smooths the values of a case, with a scratch that is set before the call.
-fn smoothed(
-    fields: &[u64; 160],
-    values: &mut [f64],
-    scratch: &mut [f64],
-) -> Result<(), Cause>
-    requires { length values.old ≤ 150 }
-{
-    let n = dense_cases::counts_at(fields, 0);
-    let factor = cases::float_at(fields, 3);
-    let rounds = cases::short(fields[4]);
-    let room = scratch.len();
-    dense_cases::values_at(fields, 6, values);
-    slices::fill_floats(BEFORE, scratch, 0, room);
-    dense_field::smooth(n, factor, rounds, values, scratch)
 }
 
 // `smooth`: the dimensions, the factor, the rounds, the scratch's length, the values.
-pub fn smooth(
-    fields: &[u64; 160],
-    values: &mut [f64],
-    scratch: &mut [f64],
-    answers: &mut [u64; 160],
-) -> usize
-    requires { length values.old ≤ 150 }
-    ensures { (0 < result) × (result ≤ 160) }
+pub fn smooth(alloc: Global, mut numbers: Numbers, answer: &mut Answer) -> Result<(), Fault>
+    ensures { Answers result answer.old answer.new }
 {
-    let len = values.len();
-    let done = smoothed(fields, values, scratch);
-    answers[0] = dense_cases::outcome(done);
-    answers[1] = scratch_after(scratch);
-    dense_cases::put_values(answers, 2, values, len);
-    2 + len
+    let n = numbers.indices();
+    let factor = numbers.float();
+    let rounds = numbers.short();
+    let room = numbers.place().min(MOST_VALUES);
+    let mut values = dense_cases::values_of(alloc, numbers)?;
+    let mut scratch = vec![in alloc; BEFORE; room]?;
+    let done = dense_field::smooth(n, factor, rounds, &mut values, &mut scratch);
+    answer.outcome(done)?;
+    answer.number(scratch_after(&scratch))?;
+    answer.floats(&values)?;
+    Ok(())
 }

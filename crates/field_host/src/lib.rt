@@ -20,7 +20,7 @@ pub use dense::{
     jisampode_padding, jisampode_point_count, jisampode_sample, jisampode_smooth,
     jisampode_threshold,
 };
-pub use given::box_of;
+pub use given::{box_of, model_given};
 pub use needed::jisampode_lengths;
 pub use reading::{jisampode_counts, jisampode_cursor};
 pub use texts::jisampode_list_job;

@@ -1,119 +1,106 @@
 // One stored case: which operation a line names, and whether it gives what the line says.
 ghost use Rattle.std.specs.Prelude.{◌≡◌};
-ghost use Rattle.float_vectors.specs.Case.{compared, is_named, judged, operation_of, outcome_of, start_of, verdict_of};
+ghost use Rattle.float_vectors.specs.Case.{compared, judged, operation_of, outcome_of, start_of, verdict_of};
 
-use vectors::Row;
-
-#[derive(Clone, Copy)]
+#[derive(Clone, Copy, Debug, PartialEq, Eq)]
 pub enum Operation {
     Sqrt,
     Floor,
     Ceil,
     Min,
     Max,
-    Other,
 }
 
-// A line that is right, one that is wrong, with the bits that the operation gives, or one that is
-// off its form.
-#[derive(Clone, Copy)]
-pub enum Verdict {
-    Right,
-    Wrong(u64),
-    Off,
+// The operations' names, in the order of their counts.
+pub const NAMES: [&str; 5] = ["sqrt", "floor", "ceil", "min", "max"];
+
+// A case that was run: its operation, and the bits that it gives where those that are stored differ.
+#[derive(Clone, Copy, Debug, PartialEq, Eq)]
+pub struct Verdict {
+    pub operation: Operation,
+    pub given: Result<(), u64>,
 }
 
 // The operation that a line names.
-pub fn named_operation(line: &[u8]) -> Operation
+pub fn named_operation(line: &[u8]) -> Option<Operation>
     ensures { result ≡ operation_of line.now }
 {
-    if vectors::has_word(line, 0, b"sqrt ") {
-        return Operation::Sqrt;
-    }
-    if vectors::has_word(line, 0, b"floor ") {
-        return Operation::Floor;
-    }
-    if vectors::has_word(line, 0, b"ceil ") {
-        return Operation::Ceil;
-    }
-    if vectors::has_word(line, 0, b"min ") {
-        return Operation::Min;
-    }
-    if vectors::has_word(line, 0, b"max ") {
-        return Operation::Max;
-    }
-    Operation::Other
-}
-
-fn is_named(op: Operation) -> bool
-    ensures { result ≡ is_named op }
-{
-    match op {
-        Operation::Sqrt => true,
-        Operation::Floor => true,
-        Operation::Ceil => true,
-        Operation::Min => true,
-        Operation::Max => true,
-        Operation::Other => false,
+    if line.starts_with(b"sqrt ") {
+        Some(Operation::Sqrt)
+    } else if line.starts_with(b"floor ") {
+        Some(Operation::Floor)
+    } else if line.starts_with(b"ceil ") {
+        Some(Operation::Ceil)
+    } else if line.starts_with(b"min ") {
+        Some(Operation::Min)
+    } else if line.starts_with(b"max ") {
+        Some(Operation::Max)
+    } else {
+        None
     }
 }
 
-// Where the first number starts.
-fn start(op: Operation) -> usize
-    ensures { result ≡ start_of op }
-{
-    match op {
-        Operation::Sqrt => 5,
-        Operation::Floor => 6,
-        Operation::Ceil => 5,
-        Operation::Min => 4,
-        Operation::Max => 4,
-        Operation::Other => 0,
-    }
-}
+impl Operation {
+    ghost use Rattle.float_vectors.specs.Tally.{number_of};
 
-fn outcome(op: Operation, a: f64, b: f64) -> f64
-    ensures { result ≡ outcome_of op a b }
-{
-    match op {
-        Operation::Sqrt => root::sqrt(a),
-        Operation::Floor => float::floor(a),
-        Operation::Ceil => float::ceil(a),
-        Operation::Min => float::min(a, b),
-        Operation::Max => float::max(a, b),
-        Operation::Other => 0.0 / 0.0,
+    // Where the first number starts.
+    fn start(self) -> usize
+        ensures { result ≡ start_of self }
+    {
+        match self {
+            Operation::Sqrt | Operation::Ceil => 5,
+            Operation::Floor => 6,
+            Operation::Min | Operation::Max => 4,
+        }
+    }
+
+    // Which count the operation has.
+    pub fn number(self) -> usize
+        ensures { result ≡ number_of self }
+    {
+        self as usize
+    }
+
+    fn outcome(self, a: f64, b: f64) -> f64
+        ensures { result ≡ outcome_of self a b }
+    {
+        match self {
+            Operation::Sqrt => root::sqrt(a),
+            Operation::Floor => float::floor(a),
+            Operation::Ceil => float::ceil(a),
+            Operation::Min => float::min(a, b),
+            Operation::Max => float::max(a, b),
+        }
     }
 }
 
 // The bits that an operation gave against those that are stored.
-fn compare(given: u64, stored: u64) -> Verdict
+fn compare(given: u64, stored: u64) -> Result<(), u64>
     ensures { result ≡ compared given stored }
 {
     if given == float::to_bits(float::from_bits(stored)) {
-        return Verdict::Right;
+        Ok(())
+    } else {
+        Err(given)
     }
-    Verdict::Wrong(given)
 }
 
-fn judge(op: Operation, row: Row) -> Verdict
-    ensures { result ≡ judged op row }
+fn judge(operation: Operation, row: (u64, u64, u64)) -> Verdict
+    ensures { result ≡ judged operation row }
 {
-    match row {
-        Row::Numbers(a, b, r) => compare(
-            float::to_bits(outcome(op, float::from_bits(a), float::from_bits(b))),
-            r,
-        ),
-        Row::NoRow => Verdict::Off,
+    let (a, b, stored) = row;
+    let outcome = operation.outcome(float::from_bits(a), float::from_bits(b));
+    Verdict {
+        operation,
+        given: compare(float::to_bits(outcome), stored),
     }
 }
 
-// The verdict on a line.
-pub fn check_line(line: &[u8]) -> Verdict
+// The verdict on a line, if it has the form of a case.
+pub fn check_line(line: &[u8]) -> Option<Verdict>
     ensures { result ≡ verdict_of line.now }
 {
-    let op = named_operation(line);
-    if !is_named(op) {
-        return Verdict::Off;
-    }
-    judge(op, vectors::three_numbers(line, start(op)))
+    let operation = named_operation(line)?;
+    let row = vectors::three_numbers(line, operation.start())?;
+    Some(judge(operation, row))
 }

@@ -1,145 +1,115 @@
 // Block sizes, nodes, their boxes and their children's, and which children are active.
-ghost use Rattle.std.specs.Prelude.{◌<◌, ◌≤◌};
+ghost use Rattle.cases.specs.Answer.{Answers};
 
-use crate::case::{cube, flag, grid_of, number, put_bit, put_box};
-use crate::words;
-use grid::Grid;
-use vectors::put_off;
+use crate::bits::set_bit;
+use cases::{Answer, Fault, Numbers};
+
+// `block N`: whether a block may have this size.
+pub fn block(mut numbers: Numbers, answer: &mut Answer) -> Result<(), Fault>
+    ensures { Answers result answer.old answer.new }
+{
+    answer.accepted()?;
+    answer.flag(grid::is_block(numbers.short()))?;
+    Ok(())
+}
 
 // `size CELL N L`: a node's size.
-fn size(fields: &[u64; 160], answers: &mut [u64; 160]) {
-    let s = grid::node_size(
-        number(fields, 0),
-        cases::short(fields[1]),
-        cases::short(fields[2]),
-    );
-    answers[1] = float::to_bits(s);
+pub fn size(mut numbers: Numbers, answer: &mut Answer) -> Result<(), Fault>
+    ensures { Answers result answer.old answer.new }
+{
+    let cell = numbers.float();
+    let n = numbers.short();
+    let l = numbers.short();
+    answer.accepted()?;
+    answer.float(grid::node_size(cell, n, l))?;
+    Ok(())
 }
 
 // `along LEAST MOST S`: the nodes along an axis.
-fn along(fields: &[u64; 160], answers: &mut [u64; 160]) {
-    let count = grid::nodes_along(number(fields, 0), number(fields, 1), number(fields, 2));
-    answers[1] = count as u64;
+pub fn along(mut numbers: Numbers, answer: &mut Answer) -> Result<(), Fault>
+    ensures { Answers result answer.old answer.new }
+{
+    let least = numbers.float();
+    let most = numbers.float();
+    let s = numbers.float();
+    answer.accepted()?;
+    answer.place(grid::nodes_along(least, most, s))?;
+    Ok(())
 }
 
 // `counts GRID`: the nodes along each axis.
-fn counts(fields: &[u64; 160], answers: &mut [u64; 160]) {
-    let n = grid::node_counts(grid_of(fields));
-    answers[1] = n.i as u64;
-    answers[2] = n.j as u64;
-    answers[3] = n.k as u64;
+pub fn counts(mut numbers: Numbers, answer: &mut Answer) -> Result<(), Fault>
+    ensures { Answers result answer.old answer.new }
+{
+    answer.accepted()?;
+    answer.indices(grid::node_counts(numbers.grid()))?;
+    Ok(())
 }
 
 // `node GRID V`: a node's box.
-fn node(fields: &[u64; 160], answers: &mut [u64; 160]) {
-    let v = fields[9] as usize;
-    put_box(grid::node_box(grid_of(fields), v), 1, answers);
+pub fn node(mut numbers: Numbers, answer: &mut Answer) -> Result<(), Fault>
+    ensures { Answers result answer.old answer.new }
+{
+    let g = numbers.grid();
+    let v = numbers.place();
+    answer.accepted()?;
+    answer.bounds(grid::node_box(g, v))?;
+    Ok(())
 }
 
 // `axis LEAST MOST S N I CI`: on one axis, where node I begins and ends, and whether bounds from
 // LEAST to MOST meet its child CI.
-fn axis(fields: &[u64; 160], answers: &mut [u64; 160]) {
-    let least = number(fields, 0);
-    let most = number(fields, 1);
-    let s = number(fields, 2);
-    let n = cases::short(fields[3]);
-    let i = fields[4] as usize;
-    let child = fields[5] as usize;
-    answers[1] = float::to_bits(grid::node_least(least, s, i));
-    answers[2] = float::to_bits(grid::node_most(least, s, i));
-    answers[3] = flag(grid::axis_active(least, most, s, n, i, child));
+pub fn axis(mut numbers: Numbers, answer: &mut Answer) -> Result<(), Fault>
+    ensures { Answers result answer.old answer.new }
+{
+    let least = numbers.float();
+    let most = numbers.float();
+    let s = numbers.float();
+    let n = numbers.short();
+    let i = numbers.place();
+    let child = numbers.place();
+    answer.accepted()?;
+    answer.float(grid::node_least(least, s, i))?;
+    answer.float(grid::node_most(least, s, i))?;
+    answer.flag(grid::axis_active(least, most, s, n, i, child))?;
+    Ok(())
 }
 
 // `child GRID V C`: a child's box, and whether it is active.
-fn child(fields: &[u64; 160], answers: &mut [u64; 160]) -> usize
-    ensures { (0 < result) × (result ≤ 160) }
+pub fn child(mut numbers: Numbers, answer: &mut Answer) -> Result<(), Fault>
+    ensures { Answers result answer.old answer.new }
 {
-    let g = grid_of(fields);
-    let v = fields[9] as usize;
-    let c = fields[10] as usize;
+    let g = numbers.grid();
+    let v = numbers.place();
+    let c = numbers.place();
     if g.inner == 0 {
-        return put_off(answers);
+        return Err(Fault::Off);
     }
-    put_box(
-        grid::child_box(grid::node_box(g, v), g.inner, c),
-        1,
-        answers,
-    );
-    answers[7] = flag(grid::is_active(g, v, c));
-    8
+    answer.accepted()?;
+    answer.bounds(grid::child_box(grid::node_box(g, v), g.inner, c))?;
+    answer.flag(grid::is_active(g, v, c))?;
+    Ok(())
 }
 
-// A bit for each of a node's first children, from answer 2 on.
-fn put_active(g: Grid, v: usize, children: usize, answers: &mut [u64; 160])
-    requires { (0 < g.inner) × (children ≤ 512) }
+// `active GRID V`: how many children of a node are active, and a bit for each. Of a node that has not
+// 8 children along an axis it is the first number of them.
+pub fn active(mut numbers: Numbers, answer: &mut Answer) -> Result<(), Fault>
+    ensures { Answers result answer.old answer.new }
 {
-    let mut c: usize = 0;
-    while c < children {
-        if grid::is_active(g, v, c) {
-            put_bit(2, c, answers);
-        }
-        c += 1;
-    }
-}
-
-// `active GRID V`: how many children of a node are active, and a bit for each.
-fn active(fields: &[u64; 160], answers: &mut [u64; 160]) -> usize
-    ensures { (0 < result) × (result ≤ 160) }
-{
-    let g = grid_of(fields);
-    let v = fields[9] as usize;
-    if g.inner == 0 {
-        return put_off(answers);
-    }
-    if g.inner > 8 {
-        return put_off(answers);
-    }
+    let g = numbers.grid();
+    let v = numbers.place();
     let n = g.inner as usize;
-    answers[1] = grid::active_in(g, v);
-    put_active(g, v, cube(n), answers);
-    if n == 8 { 10 } else { 3 }
-}
-
-// The answer to a case about boxes or activity, or no numbers.
-fn box_answer(word: u64, fields: &[u64; 160], answers: &mut [u64; 160]) -> usize
-    ensures { result ≤ 160 }
-{
-    if word == words::NODE {
-        node(fields, answers);
-        return 7;
+    if n == 0 || n > 8 {
+        return Err(Fault::Off);
     }
-    if word == words::AXIS {
-        axis(fields, answers);
-        return 4;
+    let mut bits = [0u64; 8];
+    for c in 0..grid::cube_of(n) {
+        if grid::is_active(g, v, c) {
+            set_bit(&mut bits, c);
+        }
     }
-    if word == words::CHILD {
-        return child(fields, answers);
-    }
-    if word == words::ACTIVE {
-        return active(fields, answers);
-    }
-    0
-}
-
-// The answer to a case of this file, or no numbers.
-pub fn answer(word: u64, fields: &[u64; 160], answers: &mut [u64; 160]) -> usize
-    ensures { result ≤ 160 }
-{
-    if word == words::BLOCK {
-        answers[1] = flag(grid::is_block(cases::short(fields[0])));
-        return 2;
-    }
-    if word == words::SIZE {
-        size(fields, answers);
-        return 2;
-    }
-    if word == words::ALONG {
-        along(fields, answers);
-        return 2;
-    }
-    if word == words::COUNTS {
-        counts(fields, answers);
-        return 4;
-    }
-    box_answer(word, fields, answers)
+    answer.accepted()?;
+    answer.number(grid::active_in(g, v))?;
+    answer.copied(&bits[..if n == 8 { 8 } else { 1 }])?;
+    Ok(())
 }

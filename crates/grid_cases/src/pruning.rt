@@ -1,40 +1,46 @@
 // Half diagonals, the extremes and the mean of an octet, and which children are pruned.
-ghost use Rattle.std.specs.Prelude.{◌≤◌};
+ghost use Rattle.cases.specs.Answer.{Answers};
 
-use crate::case::{box_of, flag, number, octet};
-use crate::words;
+use cases::{Answer, Fault, Numbers};
+
+// `half BOX`: the half diagonal.
+pub fn half(mut numbers: Numbers, answer: &mut Answer) -> Result<(), Fault>
+    ensures { Answers result answer.old answer.new }
+{
+    answer.accepted()?;
+    answer.float(grid::half_diagonal(numbers.bounds()))?;
+    Ok(())
+}
+
+// The values at a child's corners.
+fn octet(mut numbers: Numbers) -> [f64; 8] {
+    let mut values = [0.0; 8];
+    for v in &mut values {
+        *v = numbers.float();
+    }
+    values
+}
 
 // `extremes V V V V V V V V`: the least and the greatest of an octet, and the mean.
-fn extremes(fields: &[u64; 160], answers: &mut [u64; 160]) {
-    let values = octet(fields, 0);
-    answers[1] = float::to_bits(grid::lowest(values));
-    answers[2] = float::to_bits(grid::highest(values));
-    answers[3] = float::to_bits(grid::average(values));
+pub fn extremes(numbers: Numbers, answer: &mut Answer) -> Result<(), Fault>
+    ensures { Answers result answer.old answer.new }
+{
+    let values = octet(numbers);
+    answer.accepted()?;
+    answer.float(grid::lowest(values))?;
+    answer.float(grid::highest(values))?;
+    answer.float(grid::average(values))?;
+    Ok(())
 }
 
 // `pruned MIN MAX H V V V V V V V V`: whether a child with this octet and half diagonal is pruned.
-fn pruned(fields: &[u64; 160], answers: &mut [u64; 160]) {
-    let min_val = number(fields, 0);
-    let max_val = number(fields, 1);
-    let h = number(fields, 2);
-    answers[1] = flag(grid::is_pruned(min_val, max_val, octet(fields, 3), h));
-}
-
-// The answer to a case of this file, or no numbers.
-pub fn answer(word: u64, fields: &[u64; 160], answers: &mut [u64; 160]) -> usize
-    ensures { result ≤ 160 }
+pub fn pruned(mut numbers: Numbers, answer: &mut Answer) -> Result<(), Fault>
+    ensures { Answers result answer.old answer.new }
 {
-    if word == words::HALF {
-        answers[1] = float::to_bits(grid::half_diagonal(box_of(fields)));
-        return 2;
-    }
-    if word == words::EXTREMES {
-        extremes(fields, answers);
-        return 4;
-    }
-    if word == words::PRUNED {
-        pruned(fields, answers);
-        return 2;
-    }
-    0
+    let min_val = numbers.float();
+    let max_val = numbers.float();
+    let h = numbers.float();
+    answer.accepted()?;
+    answer.flag(grid::is_pruned(min_val, max_val, octet(numbers), h))?;
+    Ok(())
 }

@@ -1,106 +1,76 @@
-// The words of the cases, each as the number that its letters make, 8 bits to a letter.
+// The words of the cases.
+ghost use Rattle.std.specs.Prelude.{◌≡◌, IfSome, take};
+ghost use Rattle.grid_cases.specs.Words.{count_of, letters_of};
 
-pub const BLOCK: u64 = 0x0062_6c6f_636b;
-
-pub const SIZE: u64 = 0x7369_7a65;
-
-pub const ALONG: u64 = 0x0061_6c6f_6e67;
-
-pub const COUNTS: u64 = 0x636f_756e_7473;
-
-pub const NODE: u64 = 0x6e6f_6465;
-
-pub const AXIS: u64 = 0x6178_6973;
-
-pub const CHILD: u64 = 0x0063_6869_6c64;
-
-pub const ACTIVE: u64 = 0x6163_7469_7665;
-
-pub const CORNER: u64 = 0x636f_726e_6572;
-
-pub const CORNERS: u64 = 0x0063_6f72_6e65_7273;
-
-pub const LEAF: u64 = 0x6c65_6166;
-
-pub const LEAVES: u64 = 0x6c65_6176_6573;
-
-pub const PLACES: u64 = 0x706c_6163_6573;
-
-pub const HALF: u64 = 0x6861_6c66;
-
-pub const EXTREMES: u64 = 0x6578_7472_656d_6573;
-
-pub const PRUNED: u64 = 0x7072_756e_6564;
-
-pub const LIST: u64 = 0x6c69_7374;
-
-pub const LONGLIST: u64 = 0x6c6f_6e67_6c69_7374;
-
-pub const OPEN: u64 = 0x6f70_656e;
-
-// How many numbers follow a word, and 0 where there is no such word.
-pub fn numbers_of(word: u64) -> usize {
-    if word == BLOCK {
-        return 1;
-    }
-    if word == SIZE {
-        return 3;
-    }
-    if word == ALONG {
-        return 3;
-    }
-    if word == COUNTS {
-        return 9;
-    }
-    if word == NODE {
-        return 10;
-    }
-    if word == AXIS {
-        return 6;
-    }
-    if word == CHILD {
-        return 11;
-    }
-    if word == ACTIVE {
-        return 10;
-    }
-    point_numbers_of(word)
+// What a case asks for.
+#[derive(Clone, Copy, Debug, PartialEq, Eq)]
+pub enum Word {
+    Block,
+    Size,
+    Along,
+    Counts,
+    Node,
+    Axis,
+    Child,
+    Active,
+    Corner,
+    Corners,
+    Leaf,
+    Leaves,
+    Places,
+    Half,
+    Extremes,
+    Pruned,
+    ShortList,
+    LongList,
+    Open,
 }
 
-// The same of the words after the nodes'.
-fn point_numbers_of(word: u64) -> usize {
-    if word == CORNER {
-        return 8;
+impl Word {
+    // The word with these letters. Those past the eighth do not count.
+    pub fn named(letters: &[u8]) -> Option<Word>
+        ensures { IfSome result (λ word. take 8 letters.now ≡ letters_of word) }
+    {
+        Some(match letters.get(..8).unwrap_or(letters) {
+            b"block" => Word::Block,
+            b"size" => Word::Size,
+            b"along" => Word::Along,
+            b"counts" => Word::Counts,
+            b"node" => Word::Node,
+            b"axis" => Word::Axis,
+            b"child" => Word::Child,
+            b"active" => Word::Active,
+            b"corner" => Word::Corner,
+            b"corners" => Word::Corners,
+            b"leaf" => Word::Leaf,
+            b"leaves" => Word::Leaves,
+            b"places" => Word::Places,
+            b"half" => Word::Half,
+            b"extremes" => Word::Extremes,
+            b"pruned" => Word::Pruned,
+            b"list" => Word::ShortList,
+            b"longlist" => Word::LongList,
+            b"open" => Word::Open,
+            _ => return None,
+        })
     }
-    if word == CORNERS {
-        return 9;
+
+    // How many numbers follow the word.
+    pub fn count(self) -> usize
+        ensures { result ≡ count_of self }
+    {
+        match self {
+            Word::Block => 1,
+            Word::Places => 2,
+            Word::Size | Word::Along => 3,
+            Word::ShortList => 5,
+            Word::Axis | Word::Half => 6,
+            Word::Corner | Word::Leaf | Word::Extremes => 8,
+            Word::Counts | Word::Corners | Word::Leaves => 9,
+            Word::Node | Word::Active => 10,
+            Word::Child | Word::Pruned => 11,
+            Word::LongList => 12,
+            Word::Open => 21,
+        }
     }
-    if word == LEAF {
-        return 8;
-    }
-    if word == LEAVES {
-        return 9;
-    }
-    if word == PLACES {
-        return 2;
-    }
-    if word == HALF {
-        return 6;
-    }
-    if word == EXTREMES {
-        return 8;
-    }
-    if word == PRUNED {
-        return 11;
-    }
-    if word == LIST {
-        return 5;
-    }
-    if word == LONGLIST {
-        return 12;
-    }
-    if word == OPEN {
-        return 21;
-    }
-    0
 }

@@ -1,70 +1,61 @@
 // Answers the stored cases of the grid that standard input holds: a line each, and a line for each.
 #![tactic(auto)]
 
-ghost use Rattle.std.specs.Prelude.{◌<◌, ◌≤◌};
+ghost use Rattle.cases.specs.Answer.{Answers};
 
 mod corners; // corners.rt: the corner list
 mod jobs; // jobs.rt: the causes of open
 
+use cases::{Answer, Fault, Numbers};
+use grid_cases::Word;
+use std::alloc::Global;
 use std::io;
-use std::io::Print;
+use std::io::Read;
+use vectors::Lines;
 
 // The answer to a case with this word.
-fn answer(word: u64, fields: &[u64; 160], answers: &mut [u64; 160]) -> usize
-    ensures { (0 < result) × (result ≤ 160) }
+fn answer(word: Word, numbers: Numbers, answer: &mut Answer) -> Result<(), Fault>
+    ensures { Answers result answer.old answer.new }
 {
-    let a = grid_cases::answer(word, fields, answers);
-    if a > 0 {
-        return a;
+    match word {
+        Word::Block => grid_cases::block(numbers, answer),
+        Word::Size => grid_cases::size(numbers, answer),
+        Word::Along => grid_cases::along(numbers, answer),
+        Word::Counts => grid_cases::counts(numbers, answer),
+        Word::Node => grid_cases::node(numbers, answer),
+        Word::Axis => grid_cases::axis(numbers, answer),
+        Word::Child => grid_cases::child(numbers, answer),
+        Word::Active => grid_cases::active(numbers, answer),
+        Word::Corner => grid_cases::corner(numbers, answer),
+        Word::Corners => grid_cases::corners(numbers, answer),
+        Word::Leaf => grid_cases::leaf(numbers, answer),
+        Word::Leaves => grid_cases::leaves(numbers, answer),
+        Word::Places => grid_cases::places(numbers, answer),
+        Word::Half => grid_cases::half(numbers, answer),
+        Word::Extremes => grid_cases::extremes(numbers, answer),
+        Word::Pruned => grid_cases::pruned(numbers, answer),
+        Word::ShortList | Word::LongList => corners::list(numbers, answer),
+        Word::Open => jobs::open(numbers, answer),
     }
-    let b = corners::answer(word, fields, answers);
-    if b > 0 {
-        return b;
-    }
-    let c = jobs::answer(word, fields, answers);
-    if c > 0 {
-        return c;
-    }
-    vectors::put_off(answers)
 }
 
 // The answer to a line.
-fn answer_to(line: &[u8], answers: &mut [u64; 160]) -> usize
-    ensures { (0 < result) × (result ≤ 160) }
-{
-    let word = vectors::word_of(line);
-    let mut fields = vectors::zeros();
-    if vectors::read_fields(line, vectors::word_end(line), &mut fields)
-        != grid_cases::numbers_of(word)
-    {
-        return vectors::put_off(answers);
+fn answer_to(alloc: Global, text: &[u8]) -> Result<Answer, Fault> {
+    let line = cases::read_line(alloc, text)?;
+    let word = Word::named(line.word).ok_or(Fault::Off)?;
+    if line.numbers.len() != word.count() {
+        return Err(Fault::Off);
     }
-    answer(word, &fields, answers)
-}
-
-fn answer_line(rt: &impl Print, line: &[u8]) -> io::Result<()> {
-    let mut answers = vectors::zeros();
-    let count = answer_to(line, &mut answers);
-    vectors::write_fields(rt, &answers, count)
-}
-
-fn answer_lines(rt: &impl Print, text: &[u8]) -> io::Result<()> {
-    let mut at = 0;
-    while at < text.len() {
-        let end = vectors::line_end(text, at);
-        answer_line(rt, &text[at..end])?;
-        at = end;
-    }
-    Ok(())
-}
-
-// Room for the whole of standard input.
-fn room() -> [u8; 655360] {
-    [0; 655360]
+    let mut given = Answer::new(alloc);
+    answer(word, Numbers::new(&line.numbers), &mut given)?;
+    Ok(given)
 }
 
 fn main(rt: HostRuntime) -> io::Result<()> {
-    let mut text = room();
-    let n = streams::read_text(&mut rt.stdin(), &mut text)?;
-    answer_lines(&rt, &text[..n])
+    let mut text = Vec::new(rt.alloc());
+    rt.stdin().read_to_end(&mut text)?;
+    for line in Lines::new(&text) {
+        cases::write_answer(&rt, answer_to(rt.alloc(), line))?;
+    }
+    Ok(())
 }

@@ -3,11 +3,35 @@
 // written: the digest of its answer. Where the first line is `full` the answers are written instead.
 #![tactic(auto)]
 
-ghost use Rattle.std.specs.Prelude.{◌≤◌, length};
+ghost use Rattle.std.specs.Prelude.{length};
+ghost use Rattle.std.specs.Iterator.{at_most};
 
 use std::io;
-use std::io::Print;
-use vectors::Hex;
+use std::io::Read;
+
+// The most bytes of a listing.
+const LONGEST: usize = 88176;
+
+// How many bytes a text's length takes, with the byte 10 after it.
+const HEAD: usize = 17;
+
+// The texts that are left, each with its length before it. The last may be cut short.
+#[derive(Clone, Copy)]
+struct Texts<'a>(&'a [u8]);
+
+impl<'a> Iterator for Texts<'a> {
+    type Item = &'a [u8];
+
+    ghost remaining = { λ s. at_most (length s.0.now) };
+
+    fn next(&mut self) -> Option<&'a [u8]> {
+        let rest = self.0.get(HEAD..)?;
+        let count = vectors::hex16(self.0, 0)? as usize;
+        let (text, after) = rest.split_at(count.min(rest.len()));
+        self.0 = after;
+        Some(text)
+    }
+}
 
 // Writes an answer whole.
 fn write_whole(rt: &impl Print, listing: &[u8]) -> io::Result<()> {
@@ -17,13 +41,14 @@ fn write_whole(rt: &impl Print, listing: &[u8]) -> io::Result<()> {
 
 // Writes the digest of an answer.
 fn write_digest(rt: &impl Print, listing: &[u8]) -> io::Result<()> {
-    let digest = vectors::digest_with(vectors::digest_start(), listing);
-    vectors::write_number(rt, vectors::digest_with(digest, b"\n"))
+    let first = vectors::digest_with(vectors::digest_start(), listing);
+    let digest = vectors::digest_with(first, b"\n");
+    println!(rt; "{digest:016x}")
 }
 
 // Writes the answer to one text, or its digest.
 fn list_text(rt: &impl Print, text: &[u8], whole: bool) -> io::Result<()> {
-    let mut out = [0u8; 88176];
+    let mut out = [0u8; LONGEST];
     let end = listing::list_whole(text, &mut out);
     if whole {
         write_whole(rt, &out[..end])
@@ -32,43 +57,16 @@ fn list_text(rt: &impl Print, text: &[u8], whole: bool) -> io::Result<()> {
     }
 }
 
-// Where a text of so many bytes ends that begins at a place, or the end of all.
-fn text_end(bytes: &[u8], from: usize, count: u64) -> usize
-    requires { from ≤ length bytes.now }
-    ensures { (from ≤ result) × (result ≤ length bytes.now) }
-{
-    let left = bytes.len() - from;
-    if count < left as u64 {
-        return from + count as usize;
-    }
-    bytes.len()
-}
-
 fn list_texts(rt: &impl Print, bytes: &[u8]) -> io::Result<()> {
-    let whole = vectors::has_word(bytes, 0, b"full\n");
-    let mut at = if whole { 5 } else { 0 };
-    while at < bytes.len() {
-        if bytes.len() - at < 17 {
-            return Ok(());
-        }
-        let Hex::Number(count) = vectors::hex16(bytes, at) else {
-            return Ok(());
-        };
-        let from = at + 17;
-        let end = text_end(bytes, from, count);
-        list_text(rt, &bytes[from..end], whole)?;
-        at = end;
+    let full = bytes.strip_prefix(b"full\n");
+    for text in Texts(full.unwrap_or(bytes)) {
+        list_text(rt, text, full.is_some())?;
     }
     Ok(())
 }
 
-// Room for the whole of standard input.
-fn room() -> [u8; 655360] {
-    [0; 655360]
-}
-
 fn main(rt: HostRuntime) -> io::Result<()> {
-    let mut bytes = room();
-    let n = streams::read_text(&mut rt.stdin(), &mut bytes)?;
-    list_texts(&rt, &bytes[..n])
+    let mut bytes = Vec::new(rt.alloc());
+    rt.stdin().read_to_end(&mut bytes)?;
+    list_texts(&rt, &bytes)
 }

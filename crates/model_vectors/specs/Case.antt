@@ -1,5 +1,5 @@
 -- A case: a point, and a model that grows part by part.
-use Rattle.std.specs.Prelude.{ℕ, ◌+◌, Bool, true, false, List, replicate, nat_lt, slice_set}
+use Rattle.std.specs.Prelude.{ℕ, ◌+◌, if◌then◌else◌, List, replicate, nat_lt, slice_set}
 use Rattle.float.specs.Zero.{plus_zero}
 use Rattle.geometry.specs.declared.Vec3.{Vec3}
 use Rattle.model.specs.declared.Part.{Part}
@@ -15,17 +15,15 @@ abbrev pub model_of : List ModelComponent → ℕ → ImplicitModel
 model_of parts count = record { parts = parts; count = count }
 
 -- a point, and a model without parts: each of its 64 places is the constant +0
-unfoldable pub started : Vec3 → Case
+abbrev pub started : Vec3 → Case
 started p = record { point = p; model = model_of (replicate 64 (component (Constant plus_zero))) 0 }
 
-abbrev pub pick_model : Bool → ImplicitModel → ImplicitModel → ImplicitModel
-pick_model true a b = a
-pick_model false a b = b
-
 -- one part more; past the 64th none is kept, and the count is 65, so that cause 4 applies
-unfoldable pub longer : ImplicitModel → Part → ImplicitModel
+abbrev pub longer : ImplicitModel → Part → ImplicitModel
 longer m part =
-    pick_model (nat_lt m.count 64) (model_of (slice_set m.parts m.count (component part)) (m.count + 1)) (model_of m.parts 65)
+    if nat_lt m.count 64
+    then model_of (slice_set m.parts m.count (component part)) (m.count + 1)
+    else model_of m.parts 65
 
 abbrev pub with_part : Case → Part → Case
 with_part c part = record { point = c.point; model = longer c.model part }

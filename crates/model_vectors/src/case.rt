@@ -18,8 +18,10 @@ pub fn start(point: Vec3) -> Case
     let none = ModelComponent {
         part: Part::Constant(0.0),
     };
-    let parts = [none; 64];
-    let model = ImplicitModel { parts, count: 0 };
+    let model = ImplicitModel {
+        parts: [none; 64],
+        count: 0,
+    };
     Case { point, model }
 }
 
@@ -27,12 +29,9 @@ pub fn start(point: Vec3) -> Case
 pub fn with_part(case: Case, part: Part) -> Case
     ensures { result ≡ with_part case part }
 {
-    let point = case.point;
-    let model = case.model;
-    let longer = longer_model(model, part);
     Case {
-        point,
-        model: longer,
+        point: case.point,
+        model: longer_model(case.model, part),
     }
 }
 
@@ -42,8 +41,7 @@ fn longer_model(model: ImplicitModel, part: Part) -> ImplicitModel
     let count = model.count;
     let mut parts = model.parts;
     if count < 64 {
-        let at = count as usize;
-        parts[at] = ModelComponent { part };
+        parts[count as usize] = ModelComponent { part };
         return ImplicitModel {
             parts,
             count: count + 1,

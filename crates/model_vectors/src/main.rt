@@ -1,118 +1,156 @@
-// Evaluates the stored models that standard input holds, at a point, laid out, and in a row of points, and reports how
+// Evaluates the stored models that standard input holds, at a point, as models of any contents, and in a row of points, and reports how
 // many give something else than stored.
 #![tactic(auto)]
 
 ghost use Rattle.std.specs.Prelude.{◌≡◌};
-ghost use Rattle.model_vectors.specs.Tally.{case_after, cases_after, compared_value, counted, refusal_right, value_wrong, wrong_after, wrong_if};
+ghost use Rattle.vectors.specs.Tally.{counted, wrong_if};
+ghost use Rattle.model_vectors.specs.Tally.{case_after, cases_after, compared_value, number_of, off_after, refusal_right, value_wrong, wrong_after};
 
 mod case;
 mod compare;
 mod line;
-mod tally;
 
 use case::Case;
 use line::Line;
 use std::io;
-use std::io::Print;
+use std::io::Read;
+use vectors::{Lines, SHOWN, Tally};
+
+// What is compared with the stored answer, in the order of the counts.
+#[derive(Clone, Copy, Debug, PartialEq, Eq)]
+enum Comparison {
+    Points,
+    Parts,
+    Rows,
+    Refusals,
+}
+
+// The comparisons' names, in that order.
+const NAMES: [&str; 4] = ["points", "parts", "rows", "refused"];
+
+impl Comparison {
+    fn number(self) -> usize
+        ensures { result ≡ number_of self }
+    {
+        self as usize
+    }
+
+    fn name(self) -> &'static str {
+        NAMES[self as usize]
+    }
+}
+
+// Counts a comparison, and names it where it is wrong.
+fn note(
+    rt: &impl Print,
+    comparison: Comparison,
+    right: bool,
+    line: usize,
+    tally: &mut Tally<4>,
+) -> io::Result<()>
+    ensures cases { tally.new.cases ≡ counted (number_of comparison) tally.old.cases }
+    ensures wrong { tally.new.wrong ≡ wrong_if right (number_of comparison) tally.old.wrong }
+    ensures off { tally.new.off ≡ tally.old.off }
+{
+    let kind = comparison.number();
+    tally.add(kind, right);
+    if !right && tally.wrong[kind] <= SHOWN {
+        let name = comparison.name();
+        println!(rt; "line {line} is wrong: {name}")?;
+    }
+    Ok(())
+}
+
+// Counts a line that is off its form, and names it.
+fn note_off(rt: &impl Print, line: usize, tally: &mut Tally<4>) -> io::Result<()>
+    ensures cases { tally.new.cases ≡ tally.old.cases }
+    ensures wrong { tally.new.wrong ≡ tally.old.wrong }
+    ensures off { tally.new.off ≡ off_after None tally.old.off }
+{
+    tally.add_off();
+    if tally.off <= SHOWN {
+        println!(rt; "line {line} is off its form")?;
+    }
+    Ok(())
+}
 
 // Compares each way of evaluating a case's model with the value that is stored.
 fn judge_value(
     rt: &impl Print,
-    case: Case,
+    case: &Case,
     stored: u64,
-    number: u64,
-    cases: &mut [u64; 5],
-    wrong: &mut [u64; 5],
+    line: usize,
+    tally: &mut Tally<4>,
 ) -> io::Result<()>
-    ensures cases { cases.new ≡ compared_value cases.old }
-    ensures wrong { wrong.new ≡ value_wrong case stored wrong.old }
+    ensures cases { tally.new.cases ≡ compared_value tally.old.cases }
+    ensures wrong { tally.new.wrong ≡ value_wrong case.now stored tally.old.wrong }
+    ensures off { tally.new.off ≡ tally.old.off }
 {
-    let model = case.model;
+    let model = &case.model;
     let point = case.point;
     let at_point = compare::point_right(model, point, stored);
-    let flat = compare::same_bits(compare::flat_value(model, point), stored);
+    let parts = compare::same_bits(compare::parts_value(model, point), stored);
     let row = compare::same_bits(compare::row_value(model, point), stored);
-    let first = tally::note(rt, tally::POINTS, at_point, number, cases, wrong);
-    let second = tally::note(rt, tally::FLAT, flat, number, cases, wrong);
-    let third = tally::note(rt, tally::ROWS, row, number, cases, wrong);
+    let first = note(rt, Comparison::Points, at_point, line, tally);
+    let second = note(rt, Comparison::Parts, parts, line, tally);
+    let third = note(rt, Comparison::Rows, row, line, tally);
     first.and(second).and(third)
 }
 
 // Compares evaluation of a case's model with a refusal that is stored.
-fn judge_refusal(
-    rt: &impl Print,
-    case: Case,
-    number: u64,
-    cases: &mut [u64; 5],
-    wrong: &mut [u64; 5],
-) -> io::Result<()>
-    ensures cases { cases.new ≡ counted 3 cases.old }
-    ensures wrong { wrong.new ≡ wrong_if (refusal_right case) 3 wrong.old }
+fn judge_refusal(rt: &impl Print, case: &Case, line: usize, tally: &mut Tally<4>) -> io::Result<()>
+    ensures cases { tally.new.cases ≡ counted 3 tally.old.cases }
+    ensures wrong { tally.new.wrong ≡ wrong_if (refusal_right case.now) 3 tally.old.wrong }
+    ensures off { tally.new.off ≡ tally.old.off }
 {
-    let model = case.model;
-    let point = case.point;
-    let refused = compare::refusal_right(model, point);
-    tally::note(rt, tally::REFUSALS, refused, number, cases, wrong)
+    let refused = compare::refusal_right(&case.model, case.point);
+    note(rt, Comparison::Refusals, refused, line, tally)
 }
 
 // Compares the answer that a line says with what the case gives.
 fn judge_line(
     rt: &impl Print,
-    case: Case,
-    line: Line,
-    number: u64,
-    cases: &mut [u64; 5],
-    wrong: &mut [u64; 5],
+    case: &Case,
+    said: Option<Line>,
+    line: usize,
+    tally: &mut Tally<4>,
 ) -> io::Result<()>
-    ensures cases { cases.new ≡ cases_after line cases.old }
-    ensures wrong { wrong.new ≡ wrong_after line case wrong.old }
+    ensures cases { tally.new.cases ≡ cases_after said tally.old.cases }
+    ensures wrong { tally.new.wrong ≡ wrong_after said case.now tally.old.wrong }
+    ensures off { tally.new.off ≡ off_after said tally.old.off }
 {
-    match line {
-        Line::Point(_) => Ok(()),
-        Line::Component(_) => Ok(()),
-        Line::Value(stored) => judge_value(rt, case, stored, number, cases, wrong),
-        Line::Refused => judge_refusal(rt, case, number, cases, wrong),
-        Line::Off => tally::note_off(rt, number, cases),
+    match said {
+        Some(Line::Point(_) | Line::Component(_)) => Ok(()),
+        Some(Line::Value(stored)) => judge_value(rt, case, stored, line, tally),
+        Some(Line::Refused) => judge_refusal(rt, case, line, tally),
+        None => note_off(rt, line, tally),
     }
 }
 
 // The case after a line: a point starts one, and a part goes to its model.
-fn case_after(case: Case, line: Line) -> Case
-    ensures { result ≡ case_after line case }
+fn case_after(case: Case, said: Option<Line>) -> Case
+    ensures { result ≡ case_after said case }
 {
-    match line {
-        Line::Point(p) => case::start(p),
-        Line::Component(part) => case::with_part(case, part),
-        Line::Value(_) => case,
-        Line::Refused => case,
-        Line::Off => case,
+    match said {
+        Some(Line::Point(p)) => case::start(p),
+        Some(Line::Component(part)) => case::with_part(case, part),
+        Some(Line::Value(_) | Line::Refused) | None => case,
     }
 }
 
-fn take_lines(rt: &impl Print, text: &[u8]) -> io::Result<()> {
-    let mut cases = [0u64; 5];
-    let mut wrong = [0u64; 5];
+fn take_lines(rt: &(impl Print + AllocGlobal), text: &[u8]) -> io::Result<()> {
+    let mut tally = Tally::new();
     let mut case = case::start(geometry::Vec3::new(0.0, 0.0, 0.0));
-    let mut number: u64 = 0;
-    let mut at = 0;
-    while at < text.len() {
-        let end = vectors::line_end(text, at);
-        number = std::num::wrapping_add_u64(number, 1);
-        let read = line::read(&text[at..end]);
-        judge_line(rt, case, read, number, &mut cases, &mut wrong)?;
-        case = case_after(case, read);
-        at = end;
+    for (place, line) in Lines::new(text).enumerate() {
+        let said = line::read(rt.alloc(), line)?;
+        judge_line(rt, &case, said, place.wrapping_add(1), &mut tally)?;
+        case = case_after(case, said);
     }
-    tally::report(rt, &cases, &wrong)
-}
-
-// Room for the whole of standard input.
-fn room() -> [u8; 524288] {
-    [0; 524288]
+    tally.report(rt, &NAMES)
 }
 
 fn main(rt: HostRuntime) -> io::Result<()> {
-    let mut text = room();
-    let n = streams::read_text(&mut rt.stdin(), &mut text)?;
-    take_lines(&rt, &text[..n])
+    let mut text = Vec::new(rt.alloc());
+    rt.stdin().read_to_end(&mut text)?;
+    take_lines(&rt, &text)
 }

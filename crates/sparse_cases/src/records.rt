@@ -1,114 +1,132 @@
-// Records and inputs, from and to the numbers that a list holds.
-ghost use Rattle.std.specs.Prelude.{◌+◌, ◌≤◌};
-
-use crate::held::{COUNTS, CURSOR, INPUT, JOB, LENGTHS, NEXT, copy};
-use crate::numbers;
+// Records and inputs, from and to numbers. A record is its flag, its input, its lengths, its counts and
+// its cursor (a kind and three numbers). An input is GRID MIN MAX COUNT, 12 numbers, and five numbers
+// for each of 64 parts.
+use cases::{Answer, Numbers};
 use grid::GridCounts;
 use input::{Band, Input, Lengths};
-use model::ModelComponent;
+use model::{ImplicitModel, ModelComponent};
 use schedule::{Counts, Cursor, Job, Record};
+use std::alloc::{AllocError, Global};
 
-// The input whose numbers begin at a place.
-fn input_at(held: &[u64; 686], at: usize) -> Input
-    requires { at + 332 ≤ 686 }
-{
+// How many numbers a record is.
+pub const RECORD_NUMBERS: usize = 347;
+
+// GRID MIN MAX COUNT: the input with these parts.
+pub fn input_of(numbers: &mut Numbers, parts: [ModelComponent; 64]) -> Input {
     Input {
-        grid: cases::grid_at(held, at),
+        grid: numbers.grid(),
         band: Band {
-            min: cases::float_at(held, at + 9),
-            max: cases::float_at(held, at + 10),
+            min: numbers.float(),
+            max: numbers.float(),
         },
-        model: cases::model_at(held, at + 12, 64, cases::short(held[at + 11])),
+        model: ImplicitModel {
+            parts,
+            count: numbers.short(),
+        },
     }
 }
 
-// The input of the next open.
-pub fn next_input(held: &[u64; 686]) -> Input {
-    input_at(held, NEXT)
+// The input of a record.
+fn whole_input_of(numbers: &mut Numbers) -> Input {
+    let mut head = *numbers;
+    for _ in 0..12 {
+        numbers.number();
+    }
+    let model = numbers.model(64, 0);
+    input_of(&mut head, model.parts)
 }
 
-fn lengths_in(held: &[u64; 686]) -> Lengths {
+fn lengths_of(numbers: &mut Numbers) -> Lengths {
     Lengths {
-        kinds: cases::place(held[LENGTHS]),
-        numbers: cases::place(held[LENGTHS + 1]),
-        places: cases::place(held[LENGTHS + 2]),
-        store: cases::place(held[LENGTHS + 3]),
-        corners: cases::place(held[LENGTHS + 4]),
+        kinds: numbers.place(),
+        numbers: numbers.place(),
+        places: numbers.place(),
+        store: numbers.place(),
+        corners: numbers.place(),
     }
 }
 
-fn counts_in(held: &[u64; 686]) -> Counts {
+fn counts_of(numbers: &mut Numbers) -> Counts {
     Counts {
         grid: GridCounts {
-            nodes: held[COUNTS],
-            active: held[COUNTS + 1],
+            nodes: numbers.number(),
+            active: numbers.number(),
         },
-        leaves: held[COUNTS + 2],
-        sampled: held[COUNTS + 3],
-        evaluations: held[COUNTS + 4],
+        leaves: numbers.number(),
+        sampled: numbers.number(),
+        evaluations: numbers.number(),
     }
 }
 
-// The cursor: 0 is the end, 1 a corner, any other kind a point.
-fn cursor_in(held: &[u64; 686]) -> Cursor {
-    let a = cases::place(held[CURSOR + 1]);
-    let b = cases::place(held[CURSOR + 2]);
-    if held[CURSOR] == 0 {
-        return Cursor::End;
+// A cursor: 0 is the end, 1 a corner, any other kind a point.
+fn cursor_of(numbers: &mut Numbers) -> Cursor {
+    let kind = numbers.number();
+    let a = numbers.place();
+    let b = numbers.place();
+    let c = numbers.place();
+    match kind {
+        0 => Cursor::End,
+        1 => Cursor::Corner(a, b),
+        _ => Cursor::Point(a, b, c),
     }
-    if held[CURSOR] == 1 {
-        return Cursor::Corner(a, b);
-    }
-    Cursor::Point(a, b, cases::place(held[CURSOR + 3]))
 }
 
-pub fn record_in(held: &[u64; 686]) -> Record {
+pub fn record_of(mut numbers: Numbers) -> Record {
     Record {
-        opened: held[JOB] != 0,
+        opened: numbers.number() != 0,
         job: Job {
-            input: input_at(held, INPUT),
-            lengths: lengths_in(held),
-            counts: counts_in(held),
-            cursor: cursor_in(held),
+            input: whole_input_of(&mut numbers),
+            lengths: lengths_of(&mut numbers),
+            counts: counts_of(&mut numbers),
+            cursor: cursor_of(&mut numbers),
         },
     }
 }
 
-fn put_parts(parts: [ModelComponent; 64], held: &mut [u64; 686]) {
-    let mut p: usize = 0;
-    while p < 64 {
-        let component = parts[p];
-        let part = component.part;
-        let five = numbers::part_numbers(part);
-        copy(&five, 0, 5, held, INPUT + 12 + 5 * p);
-        p += 1;
+fn put_input(input: Input, numbers: &mut Answer) -> Result<(), AllocError> {
+    numbers.grid(input.grid)?;
+    numbers.float(input.band.min)?;
+    numbers.float(input.band.max)?;
+    numbers.number(u64::from(input.model.count))?;
+    for component in input.model.parts {
+        numbers.part(component.part)?;
     }
+    Ok(())
 }
 
-fn put_input(input: Input, held: &mut [u64; 686]) {
-    let band = input.band;
-    let model = input.model;
-    let parts = model.parts;
-    let grid = numbers::grid_numbers(input.grid);
-    let rest = [
-        float::to_bits(band.min),
-        float::to_bits(band.max),
-        model.count as u64,
-    ];
-    copy(&grid, 0, 9, held, INPUT);
-    copy(&rest, 0, 3, held, INPUT + 9);
-    put_parts(parts, held);
+fn put_lengths(lengths: Lengths, numbers: &mut Answer) -> Result<(), AllocError> {
+    numbers.place(lengths.kinds)?;
+    numbers.place(lengths.numbers)?;
+    numbers.place(lengths.places)?;
+    numbers.place(lengths.store)?;
+    numbers.place(lengths.corners)
 }
 
-pub fn put_record(record: Record, held: &mut [u64; 686]) {
+pub fn put_counts(counts: Counts, numbers: &mut Answer) -> Result<(), AllocError> {
+    numbers.number(counts.grid.nodes)?;
+    numbers.number(counts.grid.active)?;
+    numbers.number(counts.leaves)?;
+    numbers.number(counts.sampled)?;
+    numbers.number(counts.evaluations)
+}
+
+// A cursor: 0 is the end, 1 a corner, 2 a point; and its place.
+pub fn put_cursor(cursor: Cursor, numbers: &mut Answer) -> Result<(), AllocError> {
+    let site = match cursor {
+        Cursor::End => [0, 0, 0, 0],
+        Cursor::Corner(a, b) => [1, a as u64, b as u64, 0],
+        Cursor::Point(a, b, c) => [2, a as u64, b as u64, c as u64],
+    };
+    numbers.copied(&site)
+}
+
+pub fn record_numbers(alloc: Global, record: Record) -> Result<Vec<u64>, AllocError> {
     let job = record.job;
-    let cursor = job.cursor;
-    let lengths = numbers::length_numbers(job.lengths);
-    let counts = numbers::count_numbers(job.counts);
-    let site = numbers::cursor_numbers(cursor);
-    held[JOB] = if record.opened { 1 } else { 0 };
-    put_input(job.input, held);
-    copy(&lengths, 0, 5, held, LENGTHS);
-    copy(&counts, 0, 5, held, COUNTS);
-    copy(&site, 0, 4, held, CURSOR);
+    let mut numbers = Answer::new(alloc);
+    numbers.flag(record.opened)?;
+    put_input(job.input, &mut numbers)?;
+    put_lengths(job.lengths, &mut numbers)?;
+    put_counts(job.counts, &mut numbers)?;
+    put_cursor(job.cursor, &mut numbers)?;
+    Ok(numbers.numbers)
 }

@@ -3,104 +3,57 @@
 // their digest. Where the first line is `full` the answers are written instead.
 #![tactic(auto)]
 
-mod calls; // calls.rt: open, step and drop
+mod list; // list.rt: what a list holds, and what its lines do with it
 
+use cases::{Fault, Numbers};
+use list::List;
+use sparse_cases::{Output, Word};
+use std::alloc::Global;
 use std::io;
-use std::io::Print;
+use std::io::Read;
+use vectors::{Lines, OFF};
 
-// What a line does with the elements of the slices, slice after slice.
-fn touch(
-    rt: &impl Print,
-    word: u64,
-    fields: &[u64; 160],
-    held: &mut [u64; 686],
-    kinds: &mut [u8],
-    numbers: &mut [f64],
-    places: &mut [u32],
-    store: &mut [f64],
-    corners: &mut [f64],
-) -> io::Result<()> {
-    sparse_cases::touch_kinds(rt, word, fields, held, kinds)?;
-    sparse_cases::touch_floats(rt, word, fields, 1, held, numbers)?;
-    sparse_cases::touch_places(rt, word, fields, held, places)?;
-    sparse_cases::touch_floats(rt, word, fields, 3, held, store)?;
-    sparse_cases::touch_floats(rt, word, fields, 4, held, corners)
+// A line's word and its numbers.
+fn read(alloc: Global, text: &[u8]) -> Result<(Word, Vec<u64>), Fault> {
+    let line = cases::read_line(alloc, text)?;
+    let word = Word::named(line.word).ok_or(Fault::Off)?;
+    if !word.takes(line.numbers.len()) {
+        return Err(Fault::Off);
+    }
+    Ok((word, line.numbers))
 }
 
 fn take_line(
-    rt: &impl Print,
-    line: &[u8],
-    held: &mut [u64; 686],
-    kinds: &mut [u8],
-    numbers: &mut [f64],
-    places: &mut [u32],
-    store: &mut [f64],
-    corners: &mut [f64],
-) -> io::Result<()> {
-    let mut fields = vectors::zeros();
-    let word = sparse_cases::begin(rt, line, &mut fields, held)?;
-    touch(
-        rt, word, &fields, held, kinds, numbers, places, store, corners,
-    )?;
-    if sparse_cases::is_call(word) {
-        return calls::call(
-            rt, word, fields[0], held, kinds, numbers, places, store, corners,
-        );
-    }
-    Ok(())
-}
-
-fn take_lines(
-    rt: &impl Print,
+    rt: &(impl Print + AllocGlobal),
     text: &[u8],
-    held: &mut [u64; 686],
-    kinds: &mut [u8],
-    numbers: &mut [f64],
-    places: &mut [u32],
-    store: &mut [f64],
-    corners: &mut [f64],
+    list: &mut List,
+    output: &mut Output,
 ) -> io::Result<()> {
-    let mut at = 0;
-    while at < text.len() {
-        let end = vectors::line_end(text, at);
-        take_line(
-            rt,
-            &text[at..end],
-            held,
-            kinds,
-            numbers,
-            places,
-            store,
-            corners,
-        )?;
-        sparse_cases::close(rt, text, end, held)?;
-        at = end;
+    match read(rt.alloc(), text) {
+        Ok((word, numbers)) => list.take(rt, word, Numbers::new(&numbers), output),
+        Err(Fault::Off) => output.take(rt, &[OFF]),
+        Err(Fault::NoMemory(e)) => Err(e.into()),
     }
-    Ok(())
 }
 
-// Room for the whole of standard input.
-fn room() -> [u8; 1048576] {
-    [0; 1048576]
+// Takes all lines. A list ends before the next line that lends, and at the end of the text.
+fn take_lines(rt: &(impl Print + AllocGlobal), text: &[u8]) -> io::Result<()> {
+    let mut list = List::new(rt.alloc())?;
+    let mut output = Output::new();
+    for (place, line) in Lines::new(text).enumerate() {
+        if place > 0 && line.starts_with(b"lend ") {
+            output.close(rt)?;
+        }
+        take_line(rt, line, &mut list, &mut output)?;
+    }
+    if text.is_empty() {
+        return Ok(());
+    }
+    output.close(rt)
 }
 
 fn main(rt: HostRuntime) -> io::Result<()> {
-    let mut text = room();
-    let mut held = sparse_cases::start();
-    let mut kinds = [0u8; 1024];
-    let mut numbers = [0.0; 1024];
-    let mut places = [0u32; 1024];
-    let mut store = [0.0; 8192];
-    let mut corners = [0.0; 1024];
-    let n = streams::read_text(&mut rt.stdin(), &mut text)?;
-    take_lines(
-        &rt,
-        &text[..n],
-        &mut held,
-        &mut kinds,
-        &mut numbers,
-        &mut places,
-        &mut store,
-        &mut corners,
-    )
+    let mut text = Vec::new(rt.alloc());
+    rt.stdin().read_to_end(&mut text)?;
+    take_lines(&rt, &text)
 }

@@ -1,14 +1,11 @@
--- Laws of the definitions in specs/Text: a byte and its place, a digit, and one step of reading a number or a word.
-use Rattle.std.proofs.Common.{◌≡◌, ℕ, zero, suc, ◌+◌, ◌-◌, ◌*◌, ◌^◌, ◌<◌, ◌≤◌, Bool, true, false, ltb, List, [], ◌∷◌, length, get_or, drop, refl, mul-le-mul_right, mul-le-mul_left, add-one, arith, drop-cons, ltb-false, ltb-true, le-ltb, lt-ltb, eq-eqb, ne_eqb}
+-- Laws of the definitions in specs/Text: a byte and its place, one step of reading a number, a row.
+use Rattle.std.proofs.Common.{◌≡◌, ℕ, zero, suc, ◌+◌, ◌-◌, ◌*◌, ◌^◌, ◌<◌, ◌≤◌, Bool, true, false, Option, Some, None, ltb, List, [], ◌∷◌, length, get_or, refl, sym, ◌∙◌, ap, mul-le-mul_right, mul-le-mul_left, add-one, arith, ltb-false, ltb-true, ne_eqb}
 use native.Mathlib.Nat.{one-le-pow, pow-succ'}
-use mathlib.Core.Bool.{and-false}
 use lib.ListN.{get_or-eq_default}
-use lib.Seq.{drop-length}
-use Rattle.forms.specs.Digits.{digit_of}
-use Rattle.forms.proofs.DigitLaws.{digit_above}
-use Rattle.vectors.specs.declared.Hex.TheVariants.{Number, NoNumber}
-use Rattle.vectors.specs.declared.Row.TheVariants.{NoRow}
-use Rattle.vectors.specs.Text.{byte_at, pick_hex, hex_from, hex_at, has_word, joined, row_at}
+use Rattle.std.specs.Option.{option_and_then}
+use mathlib.Core.Bool.{and-false}
+use Rattle.vectors.specs.Text.{byte_at, digit_of, hex_from, hex_at, joined, row_at}
+use Rattle.vectors.specs.Inner.{IsPart}
 
 -- ---- bytes
 
@@ -22,100 +19,85 @@ pub byte_outside : (s : List ℕ) (at : ℕ) → length s ≤ at → byte_at s a
 unfolding byte_at
 byte_outside s at past = get_or-eq_default s 256 past
 
--- a byte that is below 256 has a place inside
-pub inside : (s : List ℕ) (at : ℕ) → byte_at s at < 256 → at < length s
-inside s at small = by (ltb at (length s)) refl
-  where
-    by : (b : Bool) → ltb at (length s) ≡ b → at < length s
-    by true e = ltb-true at (length s) e
-    by false e = absurd (omega (arith, byte_outside s at (ltb-false at (length s) e)))
+-- ---- a number
 
-pub same_inside : (s : List ℕ) (at b : ℕ) → byte_at s at ≡ b → b < 256 → at < length s
-same_inside s at b same small = inside s at (omega arith)
+pub digit_small : (b d : ℕ) → digit_of b ≡ Some d → d < 16
+digit_small b d is = grind arith
 
--- ---- digits
+-- a text that ends before the digits do has no number there
+module _ (k : ℕ) (s : List ℕ) (at n : ℕ) (rest : (m : ℕ) → at < length s → hex_from k s (suc at) m ≡ None) where
+  no_next : (o : Option ℕ) → at < length s → option_and_then (λ d. hex_from k s (suc at) (n * 16 + d)) o ≡ None
+  no_next None below = refl
+  no_next (Some d) below = rest (n * 16 + d) below
 
--- a digit is a byte
-pub digit_small : (b : ℕ) → digit_of b < 16 → b < 256
-digit_small b small = by (ltb b 256) refl
-  where
-    by : (t : Bool) → ltb b 256 ≡ t → b < 256
-    by true e = ltb-true b 256 e
-    by false e = absurd (omega (arith, digit_above b (omega (arith, ltb-false b 256 e))))
+  no_digit : (t : Bool) → ltb at (length s) ≡ t → hex_from (suc k) s at n ≡ None
+  unfolding hex_from
+  no_digit true e = no_next (digit_of (byte_at s at)) (ltb-true at (length s) e)
+  no_digit false e = rw (byte_outside s at (ltb-false at (length s) e))
 
--- ---- one digit of a number
+pub hex_short : (k : ℕ) (s : List ℕ) (at n : ℕ) → 0 < k → length s < at + k → hex_from k s at n ≡ None
+hex_short zero s at n some short = absurd (omega arith)
+hex_short (suc k) s at n some short =
+    no_digit k s at n (λ m below. hex_short k s (suc at) m (omega arith) (omega arith)) (ltb at (length s)) refl
 
-hex_next : (s : List ℕ) (at n k : ℕ) → 0 < k
-    → hex_from k s at n ≡ pick_hex (ltb (digit_of (byte_at s at)) 16) (hex_from (k - 1) s (at + 1) (n * 16 + digit_of (byte_at s at))) NoNumber
-unfolding hex_from
-hex_next s at n zero some = absurd (omega arith)
-hex_next s at n (suc k) some = let less : suc k - 1 ≡ k = omega arith in rw (less, add-one at)
-
-module _ (s : List ℕ) (at n k d : ℕ) (some : 0 < k) (is : d ≡ digit_of (byte_at s at)) where
-  pub hex_step : d < 16 → hex_from k s at n ≡ hex_from (k - 1) s (at + 1) (n * 16 + d)
-  hex_step digit = rw (hex_next s at n k some, ← is, lt-ltb d 16 digit)
-
-  pub hex_stop : 16 ≤ d → hex_from k s at n ≡ NoNumber
-  hex_stop other = rw (hex_next s at n k some, ← is, le-ltb d 16 other)
-
-pub hex_done : (s : List ℕ) (at n k : ℕ) → k ≤ 0 → hex_from k s at n ≡ Number n
+pub hex_done : (s : List ℕ) (at n k : ℕ) → k ≡ 0 → hex_from k s at n ≡ Some n
 unfolding hex_from
 hex_done s at n zero none = refl
 hex_done s at n (suc k) none = absurd (omega arith)
 
-pub digit_inside : (s : List ℕ) (at d : ℕ) → d ≡ digit_of (byte_at s at) → d < 16 → at < length s
-digit_inside s at d is digit = inside s at (digit_small (byte_at s at) (omega arith))
+-- one digit more, where i of the 16 are read
+module _ (s part : List ℕ) (at n i : ℕ) (is : IsPart s at 16 part) (more : i < length part) where
+  here : byte_at s (at + i) ≡ get_or part i 0
+  here = byte_inside s (at + i) (omega (arith, is.inside, is.counted)) ∙ sym (is.same i (omega (arith, is.counted)))
 
--- room for k more digits is room for one, and for k - 1 after it
-pub room_one : (n k : ℕ) → 0 < k → (n + 1) * 16 ^ k ≤ 2 ^ 64 → (n + 1) * 16 ≤ 2 ^ 64
-room_one n zero some room = absurd (omega arith)
-room_one n (suc k) some room =
-    let power : 16 ^ suc k ≡ 16 * 16 ^ k = pow-succ' 16 k in
-    let one : 1 ≤ 16 ^ k = one-le-pow k 16 (omega arith) in
-    omega (arith, rw power at room, mul-le-mul_left n one)
+  left : 16 - i ≡ suc (16 - (i + 1))
+  left = omega (arith, is.counted)
 
-pub room_step : (n k d : ℕ) → 0 < k → d < 16 → (n + 1) * 16 ^ k ≤ 2 ^ 64 → (n * 16 + d + 1) * 16 ^ (k - 1) ≤ 2 ^ 64
-room_step n zero d some digit room = absurd (omega arith)
-room_step n (suc k) d some digit room =
-    let power : 16 ^ suc k ≡ 16 * 16 ^ k = pow-succ' 16 k in
-    let less : suc k - 1 ≡ k = omega arith in
-    let most : d ≤ 15 = omega arith in
-    rw less (omega (arith, rw power at room, mul-le-mul_right (16 ^ k) most))
+  pub turn : (d : ℕ) → digit_of (get_or part i 0) ≡ Some d → hex_from (16 - i) s (at + i) n ≡ hex_from (16 - (i + 1)) s (at + (i + 1)) (n * 16 + d)
+  unfolding hex_from
+  turn d digit = let next : at + (i + 1) ≡ suc (at + i) = omega arith in rw (left, here, digit, next)
 
--- ---- one byte of a word
+  pub stop : digit_of (get_or part i 0) ≡ None → hex_from (16 - i) s (at + i) n ≡ None
+  unfolding hex_from
+  stop other = rw (left, here, other)
 
-module _ (s : List ℕ) (at : ℕ) (word : List ℕ) (i : ℕ) (more : i < length word) where
-  pub word_step : byte_at s at ≡ get_or word i 0 → has_word s at (drop i word) ≡ has_word s (at + 1) (drop (i + 1) word)
-  unfolding has_word
-  word_step same = rw (drop-cons word i 0 more, eq-eqb (byte_at s at) (get_or word i 0) same, add-one at, add-one i)
+  -- room for the digits that are left is room for one, and for the others after it
+  power : 16 ^ (16 - i) ≡ 16 * 16 ^ (16 - (i + 1))
+  power = rw left (pow-succ' 16 (16 - (i + 1)))
 
-  pub word_stop : (byte_at s at ≡ get_or word i 0 → ⊥) → has_word s at (drop i word) ≡ false
-  unfolding has_word
-  word_stop other = rw (drop-cons word i 0 more, ne_eqb (byte_at s at) (get_or word i 0) other)
+  pub room_one : (n + 1) * 16 ^ (16 - i) ≤ 2 ^ 64 → (n + 1) * 16 ≤ 2 ^ 64
+  room_one room =
+      let one : 1 ≤ 16 ^ (16 - (i + 1)) = one-le-pow (16 - (i + 1)) 16 (omega arith) in
+      omega (arith, rw power at room, mul-le-mul_left n one)
 
-pub word_done : (s : List ℕ) (at : ℕ) (word : List ℕ) (i : ℕ) → i ≤ length word → length word ≤ i → has_word s at (drop i word) ≡ true
-unfolding has_word
-word_done s at word i most least = let all : i ≡ length word = omega arith in rw (all, drop-length word)
+  pub room_step : (d : ℕ) → d < 16 → (n + 1) * 16 ^ (16 - i) ≤ 2 ^ 64 → (n * 16 + d + 1) * 16 ^ (16 - (i + 1)) ≤ 2 ^ 64
+  room_step d digit room =
+      let most : d ≤ 15 = omega arith in
+      omega (arith, rw power at room, mul-le-mul_right (16 ^ (16 - (i + 1))) most)
 
 -- ---- a row
 
-module _ (s : List ℕ) (at : ℕ) where
-  pub row_first : (byte_at s (at + 16) ≡ 32 → ⊥) → row_at s at ≡ NoRow
-  unfolding row_at
-  row_first other = rw (ne_eqb (byte_at s (at + 16)) 32 other)
+pub row_short : (s : List ℕ) (at : ℕ) → length s < at + 51 → row_at s at ≡ None
+unfolding row_at
+row_short s at short = rw (byte_outside s (at + 50) (omega arith), and-false)
 
-  pub row_second : (byte_at s (at + 33) ≡ 32 → ⊥) → row_at s at ≡ NoRow
-  unfolding row_at
-  row_second other = rw (ne_eqb (byte_at s (at + 33)) 32 other, and-false)
+module _ (s part : List ℕ) (at : ℕ) (is : IsPart s at 51 part) where
+  in_row : (k : ℕ) → k < 51 → byte_at s (at + k) ≡ get_or part k 0
+  in_row k below = byte_inside s (at + k) (omega (arith, is.inside)) ∙ sym (is.same k below)
 
-  pub row_third : (byte_at s (at + 50) ≡ 10 → ⊥) → row_at s at ≡ NoRow
+  pub row_first : (get_or part 16 0 ≡ 32 → ⊥) → row_at s at ≡ None
   unfolding row_at
-  row_third other = rw (ne_eqb (byte_at s (at + 50)) 10 other, and-false)
+  row_first other = rw (in_row 16 (omega arith), ne_eqb (get_or part 16 0) 32 other)
 
-  pub row_whole : byte_at s (at + 16) ≡ 32 → byte_at s (at + 33) ≡ 32 → byte_at s (at + 50) ≡ 10
+  pub row_second : (get_or part 33 0 ≡ 32 → ⊥) → row_at s at ≡ None
+  unfolding row_at
+  row_second other = rw (in_row 33 (omega arith), ne_eqb (get_or part 33 0) 32 other, and-false)
+
+  pub row_third : (get_or part 50 0 ≡ 10 → ⊥) → row_at s at ≡ None
+  unfolding row_at
+  row_third other = rw (in_row 50 (omega arith), ne_eqb (get_or part 50 0) 10 other, and-false)
+
+  pub row_whole : get_or part 16 0 ≡ 32 → get_or part 33 0 ≡ 32 → get_or part 50 0 ≡ 10
       → row_at s at ≡ joined (hex_at s at) (hex_at s (at + 17)) (hex_at s (at + 34))
   unfolding row_at
-  row_whole first second third = rw (first, second, third)
-
-  pub row_short : length s ≤ at + 50 → row_at s at ≡ NoRow
-  row_short short = row_third λ same. omega (arith, byte_outside s (at + 50) short)
+  row_whole first second third = rw (in_row 16 (omega arith), in_row 33 (omega arith), in_row 50 (omega arith), first, second, third)

@@ -1,5 +1,5 @@
 -- The digest of a text, so that a stored answer may be short: FNV-1a of 64 bits.
-use Rattle.std.specs.Prelude.{ℕ, ◌*◌, ◌%◌, ◌^◌, List, [], ◌∷◌, bit_xor}
+use Rattle.std.specs.Prelude.{ℕ, ◌*◌, ◌%◌, ◌^◌, List, fold, bit_xor}
 
 -- the digest of no bytes
 abbrev pub no_bytes : ℕ
@@ -9,10 +9,9 @@ abbrev pub prime : ℕ
 prime = 0x100000001b3
 
 -- the digest of a text and one byte more, where n is the text's
-unfoldable pub with_byte : ℕ → ℕ → ℕ
+abbrev pub with_byte : ℕ → ℕ → ℕ
 with_byte n b = (bit_xor n b * prime) % 2 ^ 64
 
 -- the same for more bytes
-unfoldable pub with_bytes : ℕ → List ℕ → ℕ
-with_bytes n [] = n
-with_bytes n (b ∷ bytes) = with_bytes (with_byte n b) bytes
+abbrev pub with_bytes : ℕ → List ℕ → ℕ
+with_bytes n bytes = fold with_byte n bytes

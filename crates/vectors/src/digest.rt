@@ -1,8 +1,8 @@
 // The digest of a text: FNV-1a of 64 bits, byte by byte.
-ghost use Rattle.std.specs.Prelude.{◌≡◌, ◌*◌, ◌%◌, ◌^◌};
-ghost use Rattle.vectors.specs.Digest.{no_bytes, prime, with_bytes};
+ghost use Rattle.std.specs.Prelude.{◌≡◌};
+ghost use Rattle.vectors.specs.Digest.{no_bytes, with_byte, with_bytes};
 
-use crate::digits::wide;
+const PRIME: u64 = 0x0000_0100_0000_01b3;
 
 // The digest of no bytes.
 pub fn digest_start() -> u64
@@ -11,26 +11,16 @@ pub fn digest_start() -> u64
     0xcbf2_9ce4_8422_2325
 }
 
-// The lower 64 bits of a number times the prime, which is 2^40 + 435. Of the upper half of the number and
-// of 2^40 times it only the lower 32 bits count.
-fn times_prime(n: u64) -> u64
-    ensures { result ≡ (n * prime) % 2 ^ 64 }
+// The digest of a text whose digest so far is known, and of one byte more.
+fn digest_byte(digest: u64, b: u8) -> u64
+    ensures { result ≡ with_byte digest b }
 {
-    let low = n % 4294967296;
-    let high = n / 4294967296;
-    let upper = (high * 435 + low * 256) % 4294967296;
-    std::num::wrapping_add_u64(upper * 4294967296, low * 435)
+    (digest ^ u64::from(b)).wrapping_mul(PRIME)
 }
 
 // The digest of a text whose digest so far is known, and of more bytes.
 pub fn digest_with(digest: u64, bytes: &[u8]) -> u64
     ensures { result ≡ with_bytes digest bytes.now }
 {
-    let mut sum = digest;
-    let mut i = 0;
-    while i < bytes.len() {
-        sum = times_prime(sum ^ wide(bytes[i]));
-        i += 1;
-    }
-    sum
+    bytes.iter().fold(digest, |sum, b| digest_byte(sum, *b))
 }

@@ -1,113 +1,77 @@
 // The numbers of a stored case, and those of its answer: at most 160 to a line, each 16 digits.
-ghost use Rattle.std.specs.Prelude.{◌≡◌, ◌+◌, ◌<◌, ◌≤◌, length};
+ghost use Rattle.std.specs.Prelude.{◌≡◌, ◌+◌, ◌*◌, ◌≤◌, length, vec_len, IfOk, IfSome, OnSome};
 
-use crate::Hex;
 use crate::digest::digest_with;
-use crate::digits::byte_at;
 use crate::numbers::hex16;
-use std::io;
-use std::io::Print;
+use std::alloc::{AllocError, Global};
+use std::{fmt, io};
 
 // The answer to a line that is no case: a number that no call gives.
-const OFF: u64 = 0xffff_ffff_ffff_ffff;
+pub const OFF: u64 = 0xffff_ffff_ffff_ffff;
 
-// Room for the numbers of a case or of an answer. As a call's result it is an array of which a proof
-// knows the length alone.
-pub fn zeros() -> [u64; 160] {
-    [0; 160]
-}
+// The most numbers of a line.
+pub const MOST_NUMBERS: usize = 160;
 
-// Puts the answer to a line that is no case.
-pub fn put_off(answers: &mut [u64; 160]) -> usize
-    ensures { result ≡ 1 }
+// How many bytes a number takes, with its space.
+const WIDTH: usize = 17;
+
+// The numbers after a line's word, each a space and its digits, up to the line's byte 10. None where
+// the line is off its form.
+pub fn read_numbers(alloc: Global, rest: &[u8]) -> Result<Option<Vec<u64>>, AllocError>
+    ensures few { IfOk result (λ found. IfSome found (λ numbers. vec_len numbers ≤ 160)) }
+    ensures whole { IfOk result (λ found. IfSome found (λ numbers. length rest.now ≡ 17 * vec_len numbers + 1)) }
 {
-    answers[0] = OFF;
-    1
-}
-
-// Reads the numbers from a place on into the fields, each a space and its digits, up to the line's
-// byte 10. Returns how many, or 161 where the line is off its form.
-pub fn read_fields(line: &[u8], at: usize, fields: &mut [u64; 160]) -> usize
-    requires { at ≤ 64 }
-    ensures { result ≤ 161 }
-{
-    let mut place = at;
-    let mut count: usize = 0;
-    while byte_at(line, place) == 32 {
-        if count >= 160 {
-            return 161;
-        }
-        let Hex::Number(n) = hex16(line, place + 1) else {
-            return 161;
+    let Some(fields) = rest.strip_suffix(b"\n") else {
+        return Ok(None);
+    };
+    if fields.len() > WIDTH * MOST_NUMBERS {
+        return Ok(None);
+    }
+    let mut numbers = Vec::new(alloc);
+    for field in fields.chunks(WIDTH) {
+        let Some(n) = field_number(field) else {
+            return Ok(None);
         };
-        fields[count] = n;
-        count += 1;
-        place += 17;
+        numbers.push(n)?;
     }
-    if byte_at(line, place) != 10 {
-        return 161;
+    Ok(Some(numbers))
+}
+
+// The number of a field, which has a space before its digits.
+fn field_number(field: &[u8]) -> Option<u64>
+    ensures { OnSome result (length field.now ≡ 17) }
+{
+    if field.len() != WIDTH || field[0] != b' ' {
+        return None;
     }
-    count
+    hex16(field, 1)
 }
 
-// The byte of a digit.
-fn digit_byte(d: u64) -> u8
-    requires { d < 16 }
-{
-    if d < 10 { 48 + d as u8 } else { 87 + d as u8 }
-}
+// The numbers of an answer, with single spaces between.
+#[derive(Clone, Copy)]
+struct Numbers<'a>(&'a [u64]);
 
-// Puts a number's 16 digits at a place of a line.
-fn put_number(n: u64, at: usize, line: &mut [u8])
-    requires { at + 16 ≤ length line.old }
-    ensures { length line.new ≡ length line.old }
-{
-    let mut rest = n;
-    let mut left: usize = 16;
-    while left > 0 {
-        left -= 1;
-        line[at + left] = digit_byte(rest % 16);
-        rest /= 16;
+impl fmt::Display for Numbers<'_> {
+    fn fmt<W: fmt::Write>(&self, f: &mut fmt::Formatter<W>) -> fmt::Result {
+        for (place, n) in self.0.iter().enumerate() {
+            if place > 0 {
+                f.write_str(" ")?;
+            }
+            write!(f, "{n:016x}")?;
+        }
+        Ok(())
     }
 }
 
-// Puts the first numbers of the answers at the front of a line of spaces, ends them with byte 10,
-// and returns where that ends.
-fn put_line(answers: &[u64; 160], count: usize, line: &mut [u8]) -> usize
-    requires { (0 < count) × (count ≤ 160) × (2720 ≤ length line.old) }
-    ensures { result ≤ length line.new }
-{
-    let mut k: usize = 0;
-    while k < count {
-        put_number(answers[k], k * 17, line);
-        k += 1;
-    }
-    let end = count * 17;
-    line[end - 1] = 10;
-    end
+// Writes a line to standard output: the numbers of an answer.
+pub fn write_numbers(rt: &impl Print, numbers: &[u64]) -> io::Result<()> {
+    let line = Numbers(numbers);
+    println!(rt; "{line}")
 }
 
-// Writes a line to standard output: the first numbers of the answers, with single spaces between.
-pub fn write_fields(rt: &impl Print, answers: &[u64; 160], count: usize) -> io::Result<()>
-    requires { (0 < count) × (count ≤ 160) }
-{
-    let mut line = [32u8; 2720];
-    let end = put_line(answers, count, &mut line);
-    rt.write_all(&line[..end])
-}
-
-// The digest of a text whose digest so far is known, and of the line that `write_fields` would write.
-pub fn digest_fields(answers: &[u64; 160], count: usize, digest: u64) -> u64
-    requires { (0 < count) × (count ≤ 160) }
-{
-    let mut line = [32u8; 2720];
-    let end = put_line(answers, count, &mut line);
-    digest_with(digest, &line[..end])
-}
-
-// Writes a line of one number to standard output.
-pub fn write_number(rt: &impl Print, n: u64) -> io::Result<()> {
-    let mut answers = zeros();
-    answers[0] = n;
-    write_fields(rt, &answers, 1)
+// The digest of a text whose digest so far is known, and of the line that `write_numbers` would write.
+pub fn digest_numbers(alloc: Global, digest: u64, numbers: &[u64]) -> Result<u64, AllocError> {
+    let line = Numbers(numbers);
+    let text = format!(in alloc; "{line}\n")?;
+    Ok(digest_with(digest, text.as_bytes()))
 }

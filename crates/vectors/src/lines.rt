@@ -1,18 +1,49 @@
 // The lines of a text.
-ghost use Rattle.std.specs.Prelude.{◌<◌, length};
-ghost use Rattle.vectors.specs.Line.{LineEnd};
+ghost use Rattle.std.specs.Prelude.{◌≡◌, ◌<◌, ◌==◌, length, position};
+ghost use Rattle.std.specs.Iterator.{at_most};
+ghost use Rattle.vectors.specs.Line.{LineEnd, IsFirstLine};
+
+// The place of the first byte 10.
+fn first_end(s: &[u8]) -> Option<usize>
+    ensures { result ≡ position (λ b. b == 10) s.now }
+{
+    s.iter().position(|b| *b == b'\n')
+}
 
 // Where the line that holds a place ends: past its byte 10, or at the end of the text.
 pub fn line_end(s: &[u8], at: usize) -> usize
     requires { at < length s.now }
     ensures { LineEnd s.now at result }
 {
-    let mut k = at;
-    while k < s.len() {
-        if s[k] == 10 {
-            return k + 1;
-        }
-        k += 1;
+    match first_end(&s[at..]) {
+        Some(k) => at + k + 1,
+        None => s.len(),
     }
-    k
+}
+
+// The lines of a text that are left, each with its byte 10.
+#[derive(Clone, Copy, Debug)]
+pub struct Lines<'a>(&'a [u8]);
+
+impl<'a> Lines<'a> {
+    pub fn new(text: &'a [u8]) -> Lines<'a> {
+        Lines(text)
+    }
+}
+
+impl<'a> Iterator for Lines<'a> {
+    type Item = &'a [u8];
+
+    ghost next_gives = { λ s r t. IsFirstLine s.0.now r t.0.now };
+
+    ghost remaining = { λ s. at_most (length s.0.now) };
+
+    fn next(&mut self) -> Option<&'a [u8]> {
+        if self.0.is_empty() {
+            return None;
+        }
+        let (line, rest) = self.0.split_at(line_end(self.0, 0));
+        self.0 = rest;
+        Some(line)
+    }
 }

@@ -1,86 +1,52 @@
 // Numbers in a text: 16 hexadecimal digits, three such to a line, and decimal numbers.
-ghost use Rattle.std.specs.Prelude.{◌≡◌};
-ghost use Rattle.vectors.specs.Text.{hex_at, joined, row_at};
+ghost use Rattle.std.specs.Prelude.{◌≡◌, ◌+◌, ◌<◌, length, MatchOption};
+ghost use Rattle.vectors.specs.Inner.{IsPart};
+ghost use Rattle.vectors.specs.Text.{hex_at, row_at};
 
-use crate::digits::{byte_at, hex_digit, wide};
-use crate::{Decimal, Hex, Row};
+use crate::digits::hex_digit;
 
-// The number that 16 hexadecimal digits make.
-pub fn hex16(s: &[u8], at: usize) -> Hex
-    ensures { result ≡ hex_at s.now at }
+// So many bytes from a place on, if the text has them.
+fn part_at(s: &[u8], at: usize, count: usize) -> Option<&[u8]>
+    ensures { MatchOption result (length s.now < at + count) (λ part. IsPart s.now at count part.now) }
 {
-    let mut n: u64 = 0;
-    let mut place = at;
-    let mut left: u64 = 16;
-    while left > 0 {
-        let d = hex_digit(byte_at(s, place));
-        if d > 15 {
-            return Hex::NoNumber;
-        }
-        n = n * 16 + d;
-        place += 1;
-        left -= 1;
-    }
-    Hex::Number(n)
+    s.get(at..)?.get(..count)
 }
 
-fn join(a: Hex, b: Hex, c: Hex) -> Row
-    ensures { result ≡ joined a b c }
+// The number that 16 hexadecimal digits make.
+pub fn hex16(s: &[u8], at: usize) -> Option<u64>
+    ensures { result ≡ hex_at s.now at }
 {
-    let Hex::Number(x) = a else {
-        return Row::NoRow;
-    };
-    let Hex::Number(y) = b else {
-        return Row::NoRow;
-    };
-    let Hex::Number(z) = c else {
-        return Row::NoRow;
-    };
-    Row::Numbers(x, y, z)
+    let digits = part_at(s, at, 16)?;
+    let mut n: u64 = 0;
+    for b in digits {
+        n = n * 16 + u64::from(hex_digit(*b)?);
+    }
+    Some(n)
 }
 
 // The three numbers that end a line, from the first one's place on.
-pub fn three_numbers(s: &[u8], at: usize) -> Row
+pub fn three_numbers(s: &[u8], at: usize) -> Option<(u64, u64, u64)>
     ensures { result ≡ row_at s.now at }
 {
-    if s.len() < 51 {
-        return Row::NoRow;
+    let row = part_at(s, at, 51)?;
+    if row[16] != b' ' || row[33] != b' ' || row[50] != b'\n' {
+        return None;
     }
-    if at > s.len() - 51 {
-        return Row::NoRow;
-    }
-    if byte_at(s, at + 16) != 32 {
-        return Row::NoRow;
-    }
-    if byte_at(s, at + 33) != 32 {
-        return Row::NoRow;
-    }
-    if byte_at(s, at + 50) != 10 {
-        return Row::NoRow;
-    }
-    join(hex16(s, at), hex16(s, at + 17), hex16(s, at + 34))
+    Some((hex16(s, at)?, hex16(s, at + 17)?, hex16(s, at + 34)?))
 }
 
 // The number that the bytes of a whole slice make: decimal digits without leading zeros.
-pub fn decimal_number(s: &[u8]) -> Decimal {
-    if s.len() == 0 {
-        return Decimal::NoDecimal;
+pub fn decimal_number(s: &[u8]) -> Option<u32> {
+    match s {
+        [] | [b'0', _, ..] => None,
+        _ => s.iter().try_fold(0u32, |n, b| more_decimal(n, *b)),
     }
-    if s.len() > 1 && s[0] == 48 {
-        return Decimal::NoDecimal;
+}
+
+// The decimal number with one digit more.
+fn more_decimal(n: u32, b: u8) -> Option<u32> {
+    if !b.is_ascii_digit() {
+        return None;
     }
-    let mut n: u64 = 0;
-    let mut k = 0;
-    while k < s.len() {
-        let d = hex_digit(wide(s[k]));
-        if d > 9 {
-            return Decimal::NoDecimal;
-        }
-        n = n * 10 + d;
-        if n > 4294967295 {
-            return Decimal::NoDecimal;
-        }
-        k += 1;
-    }
-    Decimal::Whole(n as u32)
+    n.checked_mul(10)?.checked_add(u32::from(b - b'0'))
 }

@@ -1,32 +1,43 @@
--- `hex16` meets its contract. The invariant: what is left to read gives what the whole gives, and the number has room for the digits left.
-use Rattle.std.proofs.Common.{◌<◌, sym, ap, ◌∙◌, arith}
-use Rattle.forms.specs.Digits.{digit_of}
-use Rattle.vectors.proofs.Reading.{digit_inside, hex_step, hex_stop, hex_done, room_one, room_step}
+-- `hex16` meets its contract.
+use Rattle.std.proofs.Common.{◌≡◌, ◌+◌, ◌*◌, ◌<◌, Some, None, get_or, sym, ◌∙◌, arith}
+use Rattle.vectors.specs.Text.{digit_of}
+use Rattle.vectors.proofs.Reading.{digit_small, hex_short, hex_done, turn, stop, room_one, room_step}
 use Rattle.vectors.proofs.numbers.hex16.Goals as goal
 
-pub returns-then-d-gt15 : goal.returns-then-d-gt15
-returns-then-d-gt15 c =
-    let read = c.hex_digit-d.ensures ∙ ap digit_of c.byte_at.ensures in
-    sym (hex_stop _ _ _ _ _ c.loop-left-test.true read c.if-d-gt15.true)
-    ∙ c.loop-left.invariant.0
+pub returns-in_err-digits : goal.returns-in_err-digits
+returns-in_err-digits c = c.from_residual.ensures ∙ sym (hex_short 16 c.args.s.now c.args.at 0 (omega arith) c.in_err-digits.ensures)
 
 pub overflow_mul-n : goal.overflow_mul-n
-overflow_mul-n c = omega (arith, room_one _ _ c.loop-left-test.true c.loop-left.invariant.1)
+overflow_mul-n c = omega (arith, room_one _ _ _ _ _ c.in_ok-digits.ensures c.loop-b-test.true c.loop-b.invariant.room)
+
+pub returns-in_err-hex_digit : goal.returns-in_err-hex_digit
+returns-in_err-hex_digit c =
+    c.from_residual-in_err-hex_digit.ensures
+    ∙ sym (stop _ _ _ _ _ c.in_ok-digits.ensures c.loop-b-test.true (sym c.in_err-hex_digit.ensures))
+    ∙ c.loop-b.invariant.rest
 
 pub overflow_add-n : goal.overflow_add-n
-overflow_add-n c = omega (arith, room_one _ _ c.loop-left-test.true c.loop-left.invariant.1)
+overflow_add-n c =
+    let d = c.in_ok-hex_digit.field-0 in
+    let b = get_or c.in_ok-digits.digits.now c.loop-b.b-index 0 in
+    let read : digit_of b ≡ Some d = sym c.in_ok-hex_digit.ensures in
+    let small : d < 16 = digit_small b d read in
+    let same : c.from.result ≡ d = c.from.ensures in
+    omega (arith, room_one _ _ _ _ _ c.in_ok-digits.ensures c.loop-b-test.true c.loop-b.invariant.room)
 
-pub overflow_add-place : goal.overflow_add-place
-overflow_add-place c = omega (arith, digit_inside _ _ _ (c.hex_digit-d.ensures ∙ ap digit_of c.byte_at.ensures) (omega arith))
-
-pub loop-left-preserved : goal.loop-left-preserved
-loop-left-preserved c =
-    let digit : c.hex_digit-d.result < 16 = omega arith in
-    let read = c.hex_digit-d.ensures ∙ ap digit_of c.byte_at.ensures in (
-      sym (hex_step _ _ _ _ _ c.loop-left-test.true read digit)
-          ∙ c.loop-left.invariant.0,
-      room_step _ _ _ c.loop-left-test.true digit c.loop-left.invariant.1,
-    )
+pub loop-b-preserved : goal.loop-b-preserved
+loop-b-preserved c =
+    let d = c.in_ok-hex_digit.field-0 in
+    let b = get_or c.in_ok-digits.digits.now c.loop-b.b-index 0 in
+    let read : digit_of b ≡ Some d = sym c.in_ok-hex_digit.ensures in
+    let small : d < 16 = digit_small b d read in
+    let same : c.from.result ≡ d = c.from.ensures in
+    record {
+      rest = rw same (sym (turn _ _ _ _ _ c.in_ok-digits.ensures c.loop-b-test.true d read) ∙ c.loop-b.invariant.rest);
+      room = rw same (room_step _ _ _ _ _ c.in_ok-digits.ensures c.loop-b-test.true d small c.loop-b.invariant.room);
+    }
 
 pub returns : goal.returns
-returns c = sym (hex_done _ _ _ _ c.loop-left-test.false) ∙ c.loop-left.invariant.0
+returns c =
+    let sixteen = c.in_ok-digits.ensures.counted in
+    sym (hex_done _ _ _ _ (omega (arith, sixteen))) ∙ c.loop-b.invariant.rest

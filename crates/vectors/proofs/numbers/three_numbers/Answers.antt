@@ -1,31 +1,37 @@
 -- `three_numbers` meets its contract: a law for each byte that may be off, and one for a whole row.
-use Rattle.std.proofs.Common.{sym, ◌∙◌, arith}
+use Rattle.std.proofs.Common.{sym, ◌∙◌}
 use Rattle.vectors.proofs.Reading.{row_short, row_first, row_second, row_third, row_whole}
 use Rattle.vectors.proofs.numbers.three_numbers.Goals as goal
+use Rattle.vectors.proofs.numbers.three_numbers.Goals.{then-row-ne32-via-then-row-ne32, then-row-ne32-via-else-row-ne32+then-row-ne32-2, then-row-ne32-via-else-row-ne32+else-row-ne32-2+then-row-ne10}
 
-pub returns-then-s-lt51 : goal.returns-then-s-lt51
-returns-then-s-lt51 c = sym (row_short c.args.s.now c.args.at (omega arith))
+pub returns-in_err-row : goal.returns-in_err-row
+returns-in_err-row c = c.from_residual.ensures ∙ sym (row_short c.args.s.now c.args.at c.in_err-row.ensures)
 
-pub returns-then-at-s : goal.returns-then-at-s
-returns-then-at-s c = sym (row_short c.args.s.now c.args.at (omega arith))
+pub returns-then-row-ne32 : goal.returns-then-row-ne32
+returns-then-row-ne32 c =
+    elim c.then-row-ne32.branch [
+      | then-row-ne32-via-then-row-ne32 w ↦ sym (row_first _ _ _ c.in_ok-row.ensures w.if-row-ne32.true)
+      | then-row-ne32-via-else-row-ne32+then-row-ne32-2 w ↦ sym (row_second _ _ _ c.in_ok-row.ensures w.if-row-ne32-2.true)
+      | then-row-ne32-via-else-row-ne32+else-row-ne32-2+then-row-ne10 w ↦ sym (row_third _ _ _ c.in_ok-row.ensures w.if-row-ne10.true)
+    ]
 
-pub returns-then-byte_at-ne32 : goal.returns-then-byte_at-ne32
-returns-then-byte_at-ne32 c = sym (row_first _ _ λ same. c.if-byte_at-ne32.true (c.byte_at.ensures ∙ same))
+pub returns-in_err-hex16 : goal.returns-in_err-hex16
+returns-in_err-hex16 c =
+    c.from_residual-in_err-hex16.ensures
+    ∙ sym (row_whole _ _ _ c.in_ok-row.ensures c.if-row-ne32.false c.if-row-ne32-2.false c.if-row-ne10.false ∙ rw (sym c.in_err-hex16.ensures))
 
-pub returns-then-byte_at-ne32-2 : goal.returns-then-byte_at-ne32-2
-returns-then-byte_at-ne32-2 c = sym (row_second _ _ λ same. c.if-byte_at-ne32-2.true (c.byte_at-2.ensures ∙ same))
+pub returns-in_err-hex16-2 : goal.returns-in_err-hex16-2
+returns-in_err-hex16-2 c =
+    c.from_residual-in_err-hex16-2.ensures
+    ∙ sym (row_whole _ _ _ c.in_ok-row.ensures c.if-row-ne32.false c.if-row-ne32-2.false c.if-row-ne10.false ∙ rw (sym c.in_ok-hex16.ensures, sym c.in_err-hex16-2.ensures))
 
-pub returns-then-byte_at-ne10 : goal.returns-then-byte_at-ne10
-returns-then-byte_at-ne10 c = sym (row_third _ _ λ same. c.if-byte_at-ne10.true (c.byte_at-3.ensures ∙ same))
+pub returns-in_err-hex16-3 : goal.returns-in_err-hex16-3
+returns-in_err-hex16-3 c =
+    c.from_residual-in_err-hex16-3.ensures
+    ∙ sym (row_whole _ _ _ c.in_ok-row.ensures c.if-row-ne32.false c.if-row-ne32-2.false c.if-row-ne10.false
+    ∙ rw (sym c.in_ok-hex16.ensures, sym c.in_ok-hex16-2.ensures, sym c.in_err-hex16-3.ensures))
 
 pub returns : goal.returns
 returns c =
-    let third = c.before.before.before.before in
-    let second = third.before.before in
-    let first = second.before.before in
-    let a = first.args in
-    cc
-    (row_whole a.s.now a.at
-    (sym first.byte_at.ensures ∙ first.if-byte_at-ne32.false)
-    (sym second.byte_at-2.ensures ∙ second.if-byte_at-ne32-2.false)
-    (sym third.byte_at-3.ensures ∙ third.if-byte_at-ne10.false))
+    sym (row_whole _ _ _ c.in_ok-row.ensures c.if-row-ne32.false c.if-row-ne32-2.false c.if-row-ne10.false
+    ∙ rw (sym c.in_ok-hex16.ensures, sym c.in_ok-hex16-2.ensures, sym c.in_ok-hex16-3.ensures))

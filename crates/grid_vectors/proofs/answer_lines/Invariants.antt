@@ -1,9 +1,0 @@
--- The place stays within the text, and each line ends after its place.
-use Rattle.std.proofs.Common.{length, ◌-◌, ◌≤◌}
-use Rattle.grid_vectors.proofs.answer_lines.Given as goal
-
-abbrev pub invariant-loop-at : goal.invariant-loop-at
-invariant-loop-at g l = l.at ≤ length l.text
-
-abbrev pub decreases-loop-at : goal.decreases-loop-at
-decreases-loop-at g l = length l.text - l.at

@@ -1,9 +1,0 @@
--- `put_places` stays within the places and the answers.
-use Rattle.std.proofs.Common.{◌-◌, ◌≤◌}
-use Rattle.sparse_cases.proofs.elements.put_places.Given as goal
-
-abbrev pub invariant-loop-i : goal.invariant-loop-i
-invariant-loop-i l = l.i ≤ l.count
-
-abbrev pub decreases-loop-i : goal.decreases-loop-i
-decreases-loop-i l = l.count - l.i

@@ -1,9 +1,0 @@
--- `word_of` is safe and ends: each turn takes one letter.
-use Rattle.std.proofs.Common.{◌-◌, ◌≤◌}
-use Rattle.vectors.proofs.words.word_of.Given as goal
-
-abbrev pub invariant-loop-place : goal.invariant-loop-place
-invariant-loop-place l = l.place ≤ 8
-
-abbrev pub decreases-loop-place : goal.decreases-loop-place
-decreases-loop-place l = 8 - l.place
