@@ -16,7 +16,7 @@ use geometry::{PointRow, Vec3, Vec3i};
 use model::ImplicitModel;
 
 // Where a field's points stand: its origin, its cell's size and its numbers of points.
-#[derive(Clone, Copy)]
+#[derive(Clone, Copy, Debug, PartialEq)]
 struct Lattice {
     origin: Vec3,
     cell: f64,

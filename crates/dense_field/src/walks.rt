@@ -27,84 +27,81 @@ fn walk_refused(least: usize, n: Vec3i, cursor: Vec3i) -> bool
         || cursor.j >= n.j
 }
 
-// A walk over a grid that fills a box: how many places it has along each axis, and where it stands.
-#[derive(Clone, Copy)]
-struct Walk {
+// The place after the one at the cursor of a walk, or none where k has gone through. Refused by 1,
+// then 11.
+// Kept: bounds, n and cursor stay three parameters. With a struct of them and methods a step of a walk
+// over points took 1.3 times as long, and one over cells 1.5 times.
+#[tactic(auto, using(crate::proofs::WalkLaws::walk_passed), unfolding(crate::specs::Walks::next_place, causes::specs::First::first_of))]
+fn next_place(
+    least: usize,
     bounds: BoundingBox,
     n: Vec3i,
     cursor: Vec3i,
+) -> Result<Option<Vec3i>, Cause>
+    ensures next { result ≡ next_place least bounds n cursor }
+    ensures counted { IfOk result (λ place. IfSome place (λ _. (least ≤ n.i) × (least ≤ n.j) × (least ≤ n.k))) }
+{
+    if geometry::box_refused(bounds) {
+        return Err(Cause::Bounds);
+    }
+    if walk_refused(least, n, cursor) {
+        return Err(Cause::Walk);
+    }
+    if cursor.k >= n.k {
+        return Ok(None);
+    }
+    Ok(Some(geometry::next_indices(cursor, n.i, n.j)))
 }
 
-impl Walk {
-    // The place after the one at the cursor, or none where k has gone through. Refused by 1, then 11.
-    #[tactic(auto, using(crate::proofs::WalkLaws::walk_passed), unfolding(crate::specs::Walks::next_place, causes::specs::First::first_of))]
-    fn next_place(self, least: usize) -> Result<Option<Vec3i>, Cause>
-        ensures next { result ≡ next_place least self.bounds self.n self.cursor }
-        ensures counted { IfOk result (λ place. IfSome place
-            (λ _. (least ≤ self.n.i) × (least ≤ self.n.j) × (least ≤ self.n.k))) }
-    {
-        let (n, at) = (self.n, self.cursor);
-        if geometry::box_refused(self.bounds) {
-            return Err(Cause::Bounds);
-        }
-        if walk_refused(least, n, at) {
-            return Err(Cause::Walk);
-        }
-        if at.k >= n.k {
-            return Ok(None);
-        }
-        Ok(Some(geometry::next_indices(at, n.i, n.j)))
-    }
+// The point at a cursor. The first point of an axis is its least end and the last its most.
+#[tactic(auto, unfolding(crate::specs::Walks::walk_point))]
+fn walk_point(bounds: BoundingBox, n: Vec3i, cursor: Vec3i) -> Vec3
+    requires { (1 ≤ n.i) × (1 ≤ n.j) × (1 ≤ n.k) }
+    ensures { result ≡ walk_point bounds n cursor }
+{
+    let min = bounds.min;
+    let max = bounds.max;
+    Vec3::new(
+        geometry::along(min.x, max.x, (n.i - 1) as u64, cursor.i as u64),
+        geometry::along(min.y, max.y, (n.j - 1) as u64, cursor.j as u64),
+        geometry::along(min.z, max.z, (n.k - 1) as u64, cursor.k as u64),
+    )
+}
 
-    // The point at the cursor. The first point of an axis is its least end and the last its most.
-    #[tactic(auto, unfolding(crate::specs::Walks::walk_point))]
-    fn point(self) -> Vec3
-        requires { (1 ≤ self.n.i) × (1 ≤ self.n.j) × (1 ≤ self.n.k) }
-        ensures { result ≡ walk_point self.bounds self.n self.cursor }
-    {
-        let (min, max, n, at) = (self.bounds.min, self.bounds.max, self.n, self.cursor);
+// The box of the cell at a cursor.
+#[tactic(auto, unfolding(crate::specs::Walks::walk_cell))]
+fn walk_cell(bounds: BoundingBox, n: Vec3i, cursor: Vec3i) -> BoundingBox
+    ensures { result ≡ walk_cell bounds n cursor }
+{
+    let min = bounds.min;
+    let max = bounds.max;
+    let (nx, ny, nz) = (n.i as u64, n.j as u64, n.k as u64);
+    let (i, j, k) = (cursor.i as u64, cursor.j as u64, cursor.k as u64);
+    BoundingBox::new(
         Vec3::new(
-            geometry::along(min.x, max.x, (n.i - 1) as u64, at.i as u64),
-            geometry::along(min.y, max.y, (n.j - 1) as u64, at.j as u64),
-            geometry::along(min.z, max.z, (n.k - 1) as u64, at.k as u64),
-        )
-    }
-
-    // The box of the cell at the cursor.
-    #[tactic(auto, unfolding(crate::specs::Walks::walk_cell))]
-    fn cell(self) -> BoundingBox
-        ensures { result ≡ walk_cell self.bounds self.n self.cursor }
-    {
-        let (min, max, n, at) = (self.bounds.min, self.bounds.max, self.n, self.cursor);
-        BoundingBox::new(
-            Vec3::new(
-                geometry::along(min.x, max.x, n.i as u64, at.i as u64),
-                geometry::along(min.y, max.y, n.j as u64, at.j as u64),
-                geometry::along(min.z, max.z, n.k as u64, at.k as u64),
-            ),
-            Vec3::new(
-                geometry::along_end(min.x, max.x, n.i as u64, at.i as u64),
-                geometry::along_end(min.y, max.y, n.j as u64, at.j as u64),
-                geometry::along_end(min.z, max.z, n.k as u64, at.k as u64),
-            ),
-        )
-    }
+            geometry::along(min.x, max.x, nx, i),
+            geometry::along(min.y, max.y, ny, j),
+            geometry::along(min.z, max.z, nz, k),
+        ),
+        Vec3::new(
+            geometry::along_end(min.x, max.x, nx, i),
+            geometry::along_end(min.y, max.y, ny, j),
+            geometry::along_end(min.z, max.z, nz, k),
+        ),
+    )
 }
 
 // The point at the cursor and the next cursor, or none past the last point. There are n.i by n.j by
 // n.k points.
 // Kept: `cell_step` differs in its least count and in what stands at a cursor, and each says both in
-// its last line.
+// its one line.
 pub fn point_step(bounds: BoundingBox, n: Vec3i, cursor: Vec3i) -> Result<Option<Step<Vec3>>, Cause>
     ensures { result ≡ point_step bounds n cursor }
 {
-    let walk = Walk { bounds, n, cursor };
-    Ok(
-        walk.next_place(2)?.map(|next| Step {
-            found: walk.point(),
-            next,
-        }),
-    )
+    Ok(next_place(2, bounds, n, cursor)?.map(|next| Step {
+        found: walk_point(bounds, n, cursor),
+        next,
+    }))
 }
 
 // The box of the cell at the cursor and the next cursor, or none past the last cell. There are n.i by
@@ -116,11 +113,8 @@ pub fn cell_step(
 ) -> Result<Option<Step<BoundingBox>>, Cause>
     ensures { result ≡ cell_step bounds n cursor }
 {
-    let walk = Walk { bounds, n, cursor };
-    Ok(
-        walk.next_place(1)?.map(|next| Step {
-            found: walk.cell(),
-            next,
-        }),
-    )
+    Ok(next_place(1, bounds, n, cursor)?.map(|next| Step {
+        found: walk_cell(bounds, n, cursor),
+        next,
+    }))
 }

@@ -60,6 +60,7 @@ pub fn jisampode_sample(
 }
 
 // Every point on the outside set to a value. Refused by 9.
+// Kept: C calls padding and threshold by names of their own, and each leaves other values.
 pub fn jisampode_padding(nx: usize, ny: usize, nz: usize, value: f64, values: &mut [f64]) -> u32
     ensures answer { result ≡ outcome_number (outcome_of (vec3i nx ny nz) (length values.old)) }
     ensures values { values.new

@@ -55,6 +55,7 @@ pub extern "C" fn jisampode_sample(
 }
 
 // Every point on the outside set to a value. Refused by 9.
+// Kept: C calls padding and threshold by names of their own, and each leaves other values.
 #[unsafe(no_mangle)]
 pub extern "C" fn jisampode_padding(
     nx: usize,
