@@ -4,5 +4,6 @@ pub mod Fronts
 pub mod Forms
 pub mod Fitting
 pub mod Answers
+pub mod Stores
 pub mod Sinks
 pub mod Inner

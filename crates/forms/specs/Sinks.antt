@@ -3,7 +3,7 @@ use Rattle.std.specs.Prelude.{◌≡◌, ℕ, ◌+◌, ◌^◌, ◌<◌, ◌≤�
 use Rattle.std.proofs.Common.{arith, length-append, ◌∙◌}
 use Rattle.std.proofs.lemmas.List.Edits.{sets}
 use Rattle.std.proofs.Math.Seq.{length-sets}
-use Rattle.forms.specs.Inner.Stores.{sets_append}
+use Rattle.forms.specs.Stores.{sets_append}
 use Rattle.forms.specs.declared.sink.Count.{Count}
 use Rattle.forms.specs.declared.sink.Cursor.{Cursor}
 
