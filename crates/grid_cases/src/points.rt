@@ -58,7 +58,8 @@ impl Row {
     // Puts the first points.
     fn put(&self, count: usize, answer: &mut Answer) -> Result<(), AllocError>
         requires { count ≤ 50 }
-        ensures { OnOk result (vec_len answer.new.numbers ≡ vec_len answer.old.numbers + 3 * count) }
+        ensures { OnOk result (vec_len answer.new.numbers
+            ≡ vec_len answer.old.numbers + 3 * count) }
     {
         for q in 0..count {
             answer.vector(Vec3::new(self.xs[q], self.ys[q], self.zs[q]))?;
