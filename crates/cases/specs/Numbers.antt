@@ -1,5 +1,5 @@
 -- What the first of the numbers that are left stand for. Past the last each is 0.
-use Rattle.std.specs.Prelude.{ℕ, ◌+◌, ◌*◌, min, List, drop, slice_index, Float, from_bits}
+use Rattle.std.specs.Prelude.{ℕ, ◌+◌, min, List, slice_index, Float, from_bits}
 use Rattle.std.specs.Float.{binary64}
 use Rattle.geometry.specs.declared.Vec3.{Vec3}
 use Rattle.geometry.specs.declared.Vec3i.{Vec3i}

@@ -1,5 +1,5 @@
 -- A part of a model as five numbers: its kind, and four that say the rest.
-use Rattle.std.specs.Prelude.{ℕ, ◌+◌, min, if◌then◌else◌, List, ◌==◌, slice_index}
+use Rattle.std.specs.Prelude.{ℕ, ◌+◌, if◌then◌else◌, List, ◌==◌, slice_index}
 use Rattle.model.specs.declared.Part.{Part}
 use Rattle.model.specs.declared.Part.TheVariants.{Constant, Sphere, Plane, Min, Max, Add, Sub, Neg}
 use Rattle.cases.specs.Numbers.{short_at, float_at, vector_at}

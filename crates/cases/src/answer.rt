@@ -100,7 +100,8 @@ impl Answer {
     }
 
     pub fn floats(&mut self, xs: &[f64]) -> Result<(), AllocError>
-        ensures { OnOk result (self.new.numbers.items ≡ self.old.numbers.items ++ map bits_of xs.now) }
+        ensures { OnOk result (self.new.numbers.items ≡ self.old.numbers.items
+            ++ map bits_of xs.now) }
     {
         for x in xs {
             self.float(*x)?;

@@ -11,6 +11,7 @@ use std::alloc::AllocError;
 
 impl Numbers<'_> {
     // A part: 0 is a constant, 1 a sphere, 2 a plane, 3 to 6 min, max, add and sub, any other kind neg.
+    // Kept: the kinds are the numbers that the cases have.
     pub fn part(&mut self) -> Part
         ensures value { result ≡ part_at self.old.left.now 0 }
         ensures rest { self.new.left.now ≡ drop 5 self.old.left.now }

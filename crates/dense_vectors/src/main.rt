@@ -2,6 +2,7 @@
 // The check compares them with the stored ones.
 #![tactic(auto)]
 
+ghost use Rattle.std.specs.Prelude.{◌<◌, ◌≤◌, vec_len, IfOk};
 ghost use Rattle.cases.specs.Answer.{Answers};
 
 mod sampling; // sampling.rt: a model, sampled
@@ -36,7 +37,9 @@ fn answer(alloc: Global, word: Word, numbers: Numbers, answer: &mut Answer) -> R
 }
 
 // The answer to a line.
-fn answer_to(alloc: Global, text: &[u8]) -> Result<Answer, Fault> {
+fn answer_to(alloc: Global, text: &[u8]) -> Result<Answer, Fault>
+    ensures { IfOk result (λ given. (0 < vec_len given.numbers) × (vec_len given.numbers ≤ 160)) }
+{
     let line = cases::read_line(alloc, text)?;
     let word = Word::named(line.word).ok_or(Fault::Off)?;
     let mut given = Answer::new(alloc);

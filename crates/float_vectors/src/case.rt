@@ -22,6 +22,7 @@ pub struct Verdict {
 }
 
 // The operation that a line names.
+// Kept: a word counts with the space after it, so a `match` on the line's first field says less.
 pub fn named_operation(line: &[u8]) -> Option<Operation>
     ensures { result ≡ operation_of line.now }
 {

@@ -58,6 +58,7 @@ fn call(n: u32, kinds: &[u8], end: usize, answer: &mut Answer) -> Result<(), Fau
     requires { end ≤ 800 }
     ensures { Answers result answer.old answer.new }
 {
+    // Kept: the call is lent a part of the list, and what lies past it is answered too.
     let mut list = [BEFORE; LONGEST];
     let found = grid::corner_list(n, kinds, &mut list[..end]);
     match found {

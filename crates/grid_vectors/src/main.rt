@@ -1,6 +1,7 @@
 // Answers the stored cases of the grid that standard input holds: a line each, and a line for each.
 #![tactic(auto)]
 
+ghost use Rattle.std.specs.Prelude.{◌<◌, ◌≤◌, vec_len, IfOk};
 ghost use Rattle.cases.specs.Answer.{Answers};
 
 mod corners; // corners.rt: the corner list
@@ -40,7 +41,9 @@ fn answer(word: Word, numbers: Numbers, answer: &mut Answer) -> Result<(), Fault
 }
 
 // The answer to a line.
-fn answer_to(alloc: Global, text: &[u8]) -> Result<Answer, Fault> {
+fn answer_to(alloc: Global, text: &[u8]) -> Result<Answer, Fault>
+    ensures { IfOk result (λ given. (0 < vec_len given.numbers) × (vec_len given.numbers ≤ 160)) }
+{
     let line = cases::read_line(alloc, text)?;
     let word = Word::named(line.word).ok_or(Fault::Off)?;
     if line.numbers.len() != word.count() {

@@ -48,6 +48,7 @@ fn write_digest(rt: &impl Print, listing: &[u8]) -> io::Result<()> {
 
 // Writes the answer to one text, or its digest.
 fn list_text(rt: &impl Print, text: &[u8], whole: bool) -> io::Result<()> {
+    // Kept: `listing` writes into lent bytes, since its crates have no heap.
     let mut out = [0u8; LONGEST];
     let end = listing::list_whole(text, &mut out);
     if whole {

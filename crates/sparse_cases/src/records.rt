@@ -26,14 +26,17 @@ pub fn input_of(numbers: &mut Numbers, parts: [ModelComponent; 64]) -> Input {
     }
 }
 
-// The input of a record.
+// The input of a record: GRID MIN MAX COUNT, and its parts.
 fn whole_input_of(numbers: &mut Numbers) -> Input {
-    let mut head = *numbers;
-    for _ in 0..12 {
-        numbers.number();
+    let grid = numbers.grid();
+    let min = numbers.float();
+    let max = numbers.float();
+    let count = numbers.short();
+    Input {
+        grid,
+        band: Band { min, max },
+        model: numbers.model(64, count),
     }
-    let model = numbers.model(64, 0);
-    input_of(&mut head, model.parts)
 }
 
 fn lengths_of(numbers: &mut Numbers) -> Lengths {

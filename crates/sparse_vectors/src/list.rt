@@ -14,7 +14,8 @@ const LAST_PLACE: usize = 33;
 
 #[derive(Drop)]
 pub struct List {
-    // The record that calls hand on, as numbers, any of which a line may forge.
+    // The record that calls hand on. Kept: as numbers, since a line may forge any of them, also to what
+    // no record says.
     record: Vec<u64>,
     // The parts of the next open.
     parts: [ModelComponent; 64],

@@ -1,5 +1,5 @@
 -- Where a line ends, by the first byte 10 from a place on.
-use Rattle.std.proofs.Common.{◌≡◌, ℕ, ◌+◌, ◌-◌, ◌<◌, ◌≤◌, Bool, true, false, Option, Some, None, List, length, get_or, drop, eqb, ltb, refl, sym, arith, length-drop, eq-eqb, eqb-true, ltb-false, ◌∙◌}
+use Rattle.std.proofs.Common.{◌≡◌, ℕ, ◌+◌, ◌-◌, ◌<◌, ◌≤◌, Bool, true, false, Some, None, List, length, get_or, drop, eqb, ltb, refl, sym, arith, length-drop, eq-eqb, eqb-true, ltb-false, ◌∙◌}
 use Rattle.std.proofs.lemmas.Bool.{false≢true}
 use Rattle.std.specs.Prelude.{position}
 use Rattle.std.specs.List.{position_or_len}

@@ -1,5 +1,5 @@
 -- Laws of the definitions in specs/Text: a byte and its place, one step of reading a number, a row.
-use Rattle.std.proofs.Common.{◌≡◌, ℕ, zero, suc, ◌+◌, ◌-◌, ◌*◌, ◌^◌, ◌<◌, ◌≤◌, Bool, true, false, Option, Some, None, ltb, List, [], ◌∷◌, length, get_or, refl, sym, ◌∙◌, ap, mul-le-mul_right, mul-le-mul_left, add-one, arith, ltb-false, ltb-true, ne_eqb}
+use Rattle.std.proofs.Common.{◌≡◌, ℕ, zero, suc, ◌+◌, ◌-◌, ◌*◌, ◌^◌, ◌<◌, ◌≤◌, Bool, true, false, Option, Some, None, ltb, List, [], ◌∷◌, length, get_or, refl, sym, ◌∙◌, mul-le-mul_right, mul-le-mul_left, arith, ltb-false, ltb-true, ne_eqb}
 use native.Mathlib.Nat.{one-le-pow, pow-succ'}
 use lib.ListN.{get_or-eq_default}
 use Rattle.std.specs.Option.{option_and_then}

@@ -1,5 +1,5 @@
 -- A list of cases as text: a word, then numbers of 16 lowercase hexadecimal digits, single spaces between them, byte 10 at a line's end.
-use Rattle.std.specs.Prelude.{ℕ, zero, suc, ◌+◌, ◌-◌, ◌*◌, Bool, ◌&&◌, if◌then◌else◌, Option, Some, None, List, ◌==◌, nat_lt, nat_le, nat_eq, drop, slice_index_or}
+use Rattle.std.specs.Prelude.{ℕ, zero, suc, ◌+◌, ◌-◌, ◌*◌, Bool, ◌&&◌, if◌then◌else◌, Option, Some, None, List, ◌==◌, nat_le, nat_eq, drop, slice_index_or}
 use Rattle.std.specs.Option.{option_and_then}
 use Rattle.std.specs.List.{starts_with}
 

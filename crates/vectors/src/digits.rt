@@ -3,6 +3,7 @@ ghost use Rattle.std.specs.Prelude.{◌≡◌};
 ghost use Rattle.vectors.specs.Text.{digit_of};
 
 // What a byte counts as a hexadecimal digit. No upper-case letter is one.
+// Kept: `forms` has the same and does not export it, and std's digits take upper-case letters.
 pub fn hex_digit(b: u8) -> Option<u8>
     ensures { result ≡ digit_of b }
 {

@@ -19,7 +19,8 @@ const WIDTH: usize = 17;
 // the line is off its form.
 pub fn read_numbers(alloc: Global, rest: &[u8]) -> Result<Option<Vec<u64>>, AllocError>
     ensures few { IfOk result (λ found. IfSome found (λ numbers. vec_len numbers ≤ 160)) }
-    ensures whole { IfOk result (λ found. IfSome found (λ numbers. length rest.now ≡ 17 * vec_len numbers + 1)) }
+    ensures whole { IfOk result
+        (λ found. IfSome found (λ numbers. length rest.now ≡ 17 * vec_len numbers + 1)) }
 {
     let Some(fields) = rest.strip_suffix(b"\n") else {
         return Ok(None);

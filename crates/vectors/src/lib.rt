@@ -8,7 +8,7 @@ mod fields; // fields.rt: a line's numbers, read and written
 mod lines; // lines.rt: the lines of a text
 mod numbers; // numbers.rt: hexadecimal and decimal numbers
 mod tally; // tally.rt: counts of cases, and their report
-mod words; // words.rt: a word at a place, and the word that begins a line
+mod words; // words.rt: the word that begins a line
 
 pub use digest::{digest_start, digest_with};
 pub use digits::hex_digit;
@@ -16,4 +16,4 @@ pub use fields::{MOST_NUMBERS, OFF, digest_numbers, read_numbers, write_numbers}
 pub use lines::{Lines, line_end};
 pub use numbers::{decimal_number, hex16, three_numbers};
 pub use tally::{SHOWN, Tally, total};
-pub use words::{has_word, word_end};
+pub use words::word_end;

@@ -23,27 +23,31 @@ pub fn line_end(s: &[u8], at: usize) -> usize
 
 // The lines of a text that are left, each with its byte 10.
 #[derive(Clone, Copy, Debug)]
-pub struct Lines<'a>(&'a [u8]);
+pub struct Lines<'a> {
+    pub left: &'a [u8],
+}
 
 impl<'a> Lines<'a> {
-    pub fn new(text: &'a [u8]) -> Lines<'a> {
-        Lines(text)
+    pub fn new(text: &'a [u8]) -> Lines<'a>
+        ensures { result.left.now ≡ text.entry.now }
+    {
+        Lines { left: text }
     }
 }
 
 impl<'a> Iterator for Lines<'a> {
     type Item = &'a [u8];
 
-    ghost next_gives = { λ s r t. IsFirstLine s.0.now r t.0.now };
+    ghost next_gives = { λ s r t. IsFirstLine s.left.now r t.left.now };
 
-    ghost remaining = { λ s. at_most (length s.0.now) };
+    ghost remaining = { λ s. at_most (length s.left.now) };
 
     fn next(&mut self) -> Option<&'a [u8]> {
-        if self.0.is_empty() {
+        if self.left.is_empty() {
             return None;
         }
-        let (line, rest) = self.0.split_at(line_end(self.0, 0));
-        self.0 = rest;
+        let (line, rest) = self.left.split_at(line_end(self.left, 0));
+        self.left = rest;
         Some(line)
     }
 }

@@ -7,7 +7,8 @@ use crate::digits::hex_digit;
 
 // So many bytes from a place on, if the text has them.
 fn part_at(s: &[u8], at: usize, count: usize) -> Option<&[u8]>
-    ensures { MatchOption result (length s.now < at + count) (λ part. IsPart s.now at count part.now) }
+    ensures { MatchOption result (length s.now < at + count)
+        (λ part. IsPart s.now at count part.now) }
 {
     s.get(at..)?.get(..count)
 }

@@ -1,5 +1,5 @@
 // Counts of stored cases, one for each kind, and their report.
-ghost use Rattle.std.specs.Prelude.{◌≡◌, ◌<◌};
+ghost use Rattle.std.specs.Prelude.{◌≡◌, ◌<◌, replicate};
 ghost use Rattle.vectors.specs.Tally.{counted, plus, total_of, wrong_if};
 
 use std::io;
@@ -18,7 +18,11 @@ pub struct Tally<const N: usize> {
 
 impl<const N: usize> Tally<N> {
     // No case.
-    pub fn new() -> Self {
+    pub fn new() -> Self
+        ensures cases { result.cases ≡ replicate N 0 }
+        ensures wrong { result.wrong ≡ replicate N 0 }
+        ensures off { result.off ≡ 0 }
+    {
         Tally {
             cases: [0; N],
             wrong: [0; N],

@@ -1,5 +1,5 @@
 -- `line_end` meets its contract.
-use Rattle.std.proofs.Common.{◌≡◌, ◌-◌, Some, None, length, drop, take, sym, ap, ◌∙◌, arith, length-drop}
+use Rattle.std.proofs.Common.{◌-◌, length, drop, sym, ap, ◌∙◌, arith, length-drop}
 use Rattle.std.specs.Prelude.{position}
 use Rattle.std.proofs.lemmas.List.{take_all}
 use Rattle.vectors.proofs.Ends.{is_end, ends_at, ends_last}

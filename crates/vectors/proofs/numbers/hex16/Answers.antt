@@ -1,5 +1,5 @@
 -- `hex16` meets its contract.
-use Rattle.std.proofs.Common.{◌≡◌, ◌+◌, ◌*◌, ◌<◌, Some, None, get_or, sym, ◌∙◌, arith}
+use Rattle.std.proofs.Common.{◌≡◌, ◌<◌, Some, get_or, sym, ◌∙◌, arith}
 use Rattle.vectors.specs.Text.{digit_of}
 use Rattle.vectors.proofs.Reading.{digit_small, hex_short, hex_done, turn, stop, room_one, room_step}
 use Rattle.vectors.proofs.numbers.hex16.Goals as goal
