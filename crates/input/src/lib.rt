@@ -5,11 +5,11 @@
 use grid::Grid;
 use model::ImplicitModel;
 
-mod refusals; // refusals.rt: the causes of open
 mod needed; // needed.rt: how long the slices have to be
+mod refusals; // refusals.rt: the causes of open
 
-pub use refusals::open_refusal;
 pub use needed::needed_lengths;
+pub use refusals::open_refusal;
 
 // What a job is made from.
 #[derive(Clone, Copy)]

@@ -27,14 +27,7 @@ fn cause_six(g: Grid, lengths: Lengths) -> bool
 
 // The first cause by which open refuses an input and the lengths of the slices lent. A later test may go
 // by what the earlier ones have ruled out.
-#[tactic(
-    auto,
-    unfolding(
-        crate::specs::Causes::refusal_of,
-        crate::specs::Causes::open_causes,
-        causes::specs::First::first_of
-    )
-)]
+#[tactic(auto, unfolding(crate::specs::Causes::refusal_of, crate::specs::Causes::open_causes, causes::specs::First::first_of))]
 pub fn open_refusal(input: &Input, lengths: Lengths) -> Result<(), Cause>
     ensures { result ≡ refusal_of input.now lengths }
 {
