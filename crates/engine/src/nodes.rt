@@ -105,7 +105,7 @@ fn clear_corners(used: usize, corners: &mut [f64])
     requires { (used ≤ length corners.old) × ZeroFrom used corners.old }
     ensures { corners.new ≡ replicate (length corners.old) plus_zero }
 {
-    slices::zero_floats(&mut corners[..used]);
+    corners[..used].fill(0.0);
 }
 
 // What is left from where a job stands. A node's corners are cleared past its last child: at first all

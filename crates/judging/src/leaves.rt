@@ -14,12 +14,10 @@ fn count_nonzero(kinds: &[u8]) -> u64
     ensures { result ≡ count_nonzero kinds.now }
 {
     let mut count: u64 = 0;
-    let mut i: usize = 0;
-    while i < kinds.len() {
+    for i in 0..kinds.len() {
         if kinds[i] != 0 {
             count += 1;
         }
-        i += 1;
     }
     count
 }

@@ -45,14 +45,12 @@ fn slab_right(n: usize, xs: &[bool; 64], ys: &[bool; 64], met: bool, slab: &[u8]
     if !met {
         return all_zero(slab);
     }
-    let mut j: usize = 0;
-    while j < n {
+    for j in 0..n {
         let from = j * n;
         let to = from + n;
         if !row_right(xs, ys[j], &slab[from..to]) {
             return false;
         }
-        j += 1;
     }
     true
 }
@@ -63,14 +61,12 @@ fn slabs_right(n: usize, xs: &[bool; 64], ys: &[bool; 64], zs: &[bool; 64], part
     ensures { result ≡ agrees_from (node_test n xs.now ys.now zs.now) 0 part.now }
 {
     let area = n * n;
-    let mut k: usize = 0;
-    while k < n {
+    for k in 0..n {
         let from = k * area;
         let to = from + area;
         if !slab_right(n, xs, ys, zs[k], &part[from..to]) {
             return false;
         }
-        k += 1;
     }
     true
 }
@@ -99,14 +95,12 @@ fn nodes_right(g: Grid, kinds: &[u8]) -> bool
 {
     let nodes = grid::node_total(g);
     let children = grid::cube_of(g.inner as usize);
-    let mut v: usize = 0;
-    while v < nodes {
+    for v in 0..nodes {
         let from = v * children;
         let to = from + children;
         if !node_right(g, v, &kinds[from..to]) {
             return false;
         }
-        v += 1;
     }
     true
 }

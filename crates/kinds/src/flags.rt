@@ -26,13 +26,11 @@ fn set_row(xs: &[bool; 64], met: bool, row: &mut [u8])
     ensures { row.new ≡ flags_from (λ i. met && table_test xs.now i) (length row.old) 0 }
 {
     if !met {
-        slices::zero_bytes(row);
+        row.fill(0);
         return;
     }
-    let mut i: usize = 0;
-    while i < row.len() {
+    for i in 0..row.len() {
         row[i] = flag(xs[i]);
-        i += 1;
     }
 }
 
@@ -42,15 +40,13 @@ fn set_slab(n: usize, xs: &[bool; 64], ys: &[bool; 64], met: bool, slab: &mut [u
     ensures { slab.new ≡ flags_from (λ p. met && slab_test n xs.now ys.now p) (n * n) 0 }
 {
     if !met {
-        slices::zero_bytes(slab);
+        slab.fill(0);
         return;
     }
-    let mut j: usize = 0;
-    while j < n {
+    for j in 0..n {
         let from = j * n;
         let to = from + n;
         set_row(xs, ys[j], &mut slab[from..to]);
-        j += 1;
     }
 }
 
@@ -60,12 +56,10 @@ fn set_slabs(n: usize, xs: &[bool; 64], ys: &[bool; 64], zs: &[bool; 64], part: 
     ensures { part.new ≡ flags_from (node_test n xs.now ys.now zs.now) (cube n) 0 }
 {
     let area = n * n;
-    let mut k: usize = 0;
-    while k < n {
+    for k in 0..n {
         let from = k * area;
         let to = from + area;
         set_slab(n, xs, ys, zs[k], &mut part[from..to]);
-        k += 1;
     }
 }
 
@@ -93,12 +87,10 @@ fn set_nodes(g: Grid, kinds: &mut [u8])
 {
     let nodes = grid::node_total(g);
     let children = grid::cube_of(g.inner as usize);
-    let mut v: usize = 0;
-    while v < nodes {
+    for v in 0..nodes {
         let from = v * children;
         let to = from + children;
         set_node(g, v, &mut kinds[from..to]);
-        v += 1;
     }
 }
 
@@ -109,5 +101,5 @@ pub fn set_kinds(g: Grid, kinds: &mut [u8])
 {
     let total = grid::child_total(g);
     set_nodes(g, &mut kinds[..total]);
-    slices::zero_bytes(&mut kinds[total..]);
+    kinds[total..].fill(0);
 }

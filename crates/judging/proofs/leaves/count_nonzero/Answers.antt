@@ -1,4 +1,4 @@
--- `count_nonzero` meets its contract: the kinds passed so far are counted.
+-- A kind more.
 use mathlib.Core.Path.{◌≡◌, refl, ap, ◌∙◌}
 use native.Mathlib.Omega.{arith}
 use lib.ListN.{length, get_or}
@@ -10,16 +10,15 @@ use Rattle.judging.proofs.leaves.count_nonzero.Goals.{then-kinds-i-ne0, else-kin
 
 pub loop-i-init : goal.loop-i-init
 unfolding sum_from
-loop-i-init c = (omega arith, omega arith, refl)
+loop-i-init c = (omega arith, refl)
 
 pub loop-i-preserved : goal.loop-i-preserved
 loop-i-preserved c =
     let l = c.args.kinds.now in (
-      omega arith,
       elim c.if-kinds-i-ne0.branch [ then-kinds-i-ne0 w ↦ omega arith | else-kinds-i-ne0 w ↦ omega arith ],
       elim c.if-kinds-i-ne0.branch [
-        | then-kinds-i-ne0 w ↦ count_more l c.loop-i.i c.loop-i.invariant.2 w.if-kinds-i-ne0.true w.count-is
-        | else-kinds-i-ne0 w ↦ count_skip l c.loop-i.i c.loop-i.invariant.2 w.if-kinds-i-ne0.false w.count-is
+        | then-kinds-i-ne0 w ↦ count_more l c.loop-i.i c.loop-i.invariant.1 w.if-kinds-i-ne0.true w.count-is
+        | else-kinds-i-ne0 w ↦ count_skip l c.loop-i.i c.loop-i.invariant.1 w.if-kinds-i-ne0.false w.count-is
       ],
     )
 
@@ -28,4 +27,4 @@ returns c =
     let l = c.loop-i in
     let a = c.args.kinds.now in
     let all : l.i ≡ length a = omega arith in
-    l.invariant.2 ∙ ap (sum_below (λ p. bit (nonzero (get_or a p 0)))) all
+    l.invariant.1 ∙ ap (sum_below (λ p. bit (nonzero (get_or a p 0)))) all
