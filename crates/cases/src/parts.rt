@@ -35,16 +35,16 @@ impl Numbers<'_> {
         }
     }
 
-    // A model that counts so many parts. Those that are given are read; the others are constants of +0.
+    // A model that counts so many parts. Those that are given are read, 64 at most; the others are
+    // constants of +0.
     pub fn model(&mut self, given: usize, count: u32) -> ImplicitModel
-        requires { given ≤ 64 }
         ensures { result.count ≡ count }
     {
         let none = ModelComponent {
             part: Part::Constant(0.0),
         };
         let mut parts = [none; 64];
-        for component in &mut parts[..given] {
+        for component in &mut parts[..given.min(64)] {
             component.part = self.part();
         }
         ImplicitModel { parts, count }

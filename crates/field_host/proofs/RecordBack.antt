@@ -3,10 +3,10 @@
 use mathlib.Core.Path.{◌≡◌, refl, sym, ◌∙◌}
 use mathlib.Core.Bool.{Bool, true, false}
 use mathlib.Core.List.{List, [], ◌∷◌, map}
-use Prim.Native.Nat.{ℕ, ◌<◌}
+use Prim.Native.Nat.{ℕ, ◌<◌, ◌≤◌}
 use native.Mathlib.Omega.{arith}
-use lib.ListN.{length, get_or-map}
-use lib.Seq.{ext_get_or}
+use lib.ListN.{length, take, get_or-map}
+use lib.Seq.{ext_get_or, get_or-take, length-take-le}
 use borrow.Author.Tests.{lt-ltb}
 use Rattle.lists.specs.Tabulate.{tabulate}
 use Rattle.lists.proofs.Tables.{length_tabulate, get_d_tabulate}
@@ -51,6 +51,18 @@ part_back parts p h =
     let z = row_entry parts number_entries 2 p number_of past (omega arith) h in
     let w = row_entry parts number_entries 3 p number_of past (omega arith) h in
     (λ i. part_coded (code i) (vec3 (x i) (y i) (z i)) (w i) (first i) (second i)) ∙ coded_entries (part_of parts p)
+
+-- laying parts out and reading them back gives them, whether or not cause 4 refuses their model
+pub read_back : (parts : List Part) (count : ℕ) → count ≤ 64 → count ≤ length parts → tabulate count (part_given (layout_of parts)) ≡ take count parts
+read_back parts count few long =
+    let given = part_given (layout_of parts) in
+    ext_get_or (Constant plus_zero) (tabulate count given) (take count parts)
+    (length_tabulate count given ∙ sym (length-take-le count parts long))
+    (λ p h.
+    let below : p < count = omega (arith, length_tabulate count given) in
+    get_d_tabulate count given p (Constant plus_zero) below
+    ∙ part_back parts p (omega arith)
+    ∙ sym (get_or-take count parts p (Constant plus_zero) below))
 
 -- what stands past a list of parts
 abbrev none : ModelComponent

@@ -2,6 +2,5 @@ pub mod Grid
 pub mod Inverse
 pub mod Next
 pub mod PointRows
-pub mod CauseLists
 pub mod Literals
 pub mod Division

@@ -1,7 +1,6 @@
 pub mod Values
 pub mod Distance
 pub mod Box
-pub mod Causes
 pub mod Index
 pub mod Axis
 pub mod Octet

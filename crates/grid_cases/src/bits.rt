@@ -1,5 +1,6 @@
 // Sets of places as bits, 64 to a number, the first place in the lowest bit.
-ghost use Rattle.std.specs.Prelude.{◌≡◌, ◌*◌, ◌/◌, ◌%◌, ◌^◌, ◌<◌, ◌↔◌, IsTrue, IsBitSet, bit_or, length, slice_index, slice_set};
+ghost use Rattle.std.specs.Prelude.{◌≡◌, ◌*◌, ◌/◌, ◌%◌, ◌^◌, ◌<◌, ◌↔◌};
+ghost use Rattle.std.specs.Prelude.{IsTrue, IsBitSet, bit_or, length, slice_index, slice_set};
 
 // Sets the bit of a place.
 pub fn set_bit(bits: &mut [u64], place: usize)
