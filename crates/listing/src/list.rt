@@ -29,7 +29,7 @@ fn list_read(job: Job, out: &mut [u8]) -> Result<usize, Unlisted>
         &mut corners,
     );
     if let Err(cause) = opened.answer {
-        return writing::write_refusal(cause, out);
+        return writing::write_refusal(cause.number(), out);
     }
     let done = sparse_field::step(
         opened.next,

@@ -1,6 +1,5 @@
 // The listing of a record's job, over lent bytes.
 ghost use Rattle.std.specs.Prelude.{◌≡◌, false, [], ◌∷◌, ◌<◌, ◌≤◌, length};
-ghost use Rattle.causes.specs.Number.{number_of};
 ghost use Rattle.schedule.specs.Possible.{impossible};
 ghost use Rattle.schedule.specs.Lent.{memory_of};
 ghost use Rattle.plans.specs.Sparse.{sparse};
@@ -110,14 +109,14 @@ pub fn write_listing(
     write_possible(job, nan, kinds, numbers, places, store, corners, out)
 }
 
-// Writes the line of a refusal by a cause.
-pub fn write_refusal(cause: Cause, out: &mut [u8]) -> Result<usize, Unlisted>
-    ensures answer { result ≡ put_answer (spell refused_form (number_of cause ∷ [])) out.old }
-    ensures out { out.new ≡ put_bytes (spell refused_form (number_of cause ∷ [])) out.old }
+// Writes the line of a refusal by the number of its cause.
+pub fn write_refusal(number: u32, out: &mut [u8]) -> Result<usize, Unlisted>
+    ensures answer { result ≡ put_answer (spell refused_form (number ∷ [])) out.old }
+    ensures out { out.new ≡ put_bytes (spell refused_form (number ∷ [])) out.old }
 {
     let line = Line {
         form: b"(refused D)\n",
-        numbers: &[u64::from(cause.number())],
+        numbers: &[u64::from(number)],
     };
     text::write(&line, out)
 }
