@@ -4,7 +4,17 @@ use super::ROW;
 use crate::models::Part;
 
 extern "C" {
-    fn bench_evaluate(
+    fn bench_evaluate_row(
+        words: &[u32; 3 * ROW],
+        numbers: &[f64; 4 * ROW],
+        count: usize,
+        px: &[f64; ROW],
+        py: &[f64; ROW],
+        pz: &[f64; ROW],
+        n: usize,
+        values: &mut [f64; ROW * ROW],
+    );
+    fn bench_values(
         words: &[u32; 3 * ROW],
         numbers: &[f64; 4 * ROW],
         count: u32,
@@ -16,15 +26,6 @@ extern "C" {
         pz_length: usize,
         results: *mut f64,
         results_length: usize,
-    );
-    fn bench_evaluate_row(
-        words: &[u32; 3 * ROW],
-        numbers: &[f64; 4 * ROW],
-        count: u32,
-        px: &[f64; ROW],
-        py: &[f64; ROW],
-        pz: &[f64; ROW],
-        results: &mut [f64; ROW],
     );
 }
 
@@ -74,7 +75,7 @@ impl Layout {
 /// The model's values at points, one after the other. The model is made of its arrays once.
 pub fn evaluate(l: &Layout, [px, py, pz]: [&[f64]; 3], results: &mut [f64]) {
     unsafe {
-        bench_evaluate(
+        bench_values(
             &l.words,
             &l.numbers,
             l.count as u32,
@@ -90,7 +91,7 @@ pub fn evaluate(l: &Layout, [px, py, pz]: [&[f64]; 3], results: &mut [f64]) {
     }
 }
 
-/// The model's values at a row of points, part by part.
-pub fn evaluate_row(l: &Layout, [px, py, pz]: [&[f64; ROW]; 3], results: &mut [f64; ROW]) {
-    unsafe { bench_evaluate_row(&l.words, &l.numbers, l.count as u32, px, py, pz, results) }
+/// The values of the parts at a row of points, part by part.
+pub fn evaluate_row(l: &Layout, [px, py, pz]: [&[f64; ROW]; 3], values: &mut [f64; ROW * ROW]) {
+    unsafe { bench_evaluate_row(&l.words, &l.numbers, l.count, px, py, pz, ROW, values) }
 }

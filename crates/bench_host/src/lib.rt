@@ -1,12 +1,12 @@
 // What the benchmark calls beyond the C interface: each function is one call, exported under a C name.
 #![tactic(auto)]
 
-ghost use Rattle.std.specs.Prelude.{◌≡◌, map, min, length};
+ghost use Rattle.std.specs.Prelude.{◌≡◌, map, ◌++◌, min, drop, length};
 ghost use Rattle.lists.specs.Filled.{filled};
 ghost use Rattle.root.specs.Root.{square_root};
 ghost use Rattle.model.specs.Flat.{flat_in};
-ghost use Rattle.model.specs.Model.{parts_in};
-ghost use Rattle.model.specs.Row.{model_row};
+ghost use Rattle.model.specs.Model.{values_to, parts_in, parts_of, parts_value};
+ghost use Rattle.model.specs.Row.{evaluated_rows};
 ghost use Rattle.field_host.specs.Given.{model_given};
 ghost use Rattle.bench_host.specs.Points.{value_at};
 
@@ -32,10 +32,55 @@ pub extern "C" fn bench_sqrt_row(xs: &mut [f64])
     root::sqrt_row(xs);
 }
 
+// The value at a point of the first `count` parts of flat arrays, 64 at most, with the parts' values left in `values`.
+#[unsafe(no_mangle)]
+pub extern "C" fn bench_evaluate(
+    words: &[u32; 192],
+    numbers: &[f64; 256],
+    count: usize,
+    x: f64,
+    y: f64,
+    z: f64,
+    values: &mut [f64; 64],
+) -> f64
+    ensures answer { let m = model_given (flat_in words numbers) (min count 64) in
+        result ≡ parts_value (parts_in m) (min m.count 64) x y z }
+    ensures values { let m = model_given (flat_in words numbers) (min count 64) in
+        values.new ≡ values_to (parts_of (parts_in m) (min m.count 64)) x y z (min m.count 64) ++ drop (min m.count 64) values.old }
+{
+    let model = field_host::model_given(words, numbers, count.min(64) as u32);
+    model::evaluate_parts(&model, Vec3::new(x, y, z), values)
+}
+
+// The values of the first `count` parts at n points, 64 at most of each: part p's value at point i is left at p * 64 + i.
+#[unsafe(no_mangle)]
+pub extern "C" fn bench_evaluate_row(
+    words: &[u32; 192],
+    numbers: &[f64; 256],
+    count: usize,
+    px: &[f64; 64],
+    py: &[f64; 64],
+    pz: &[f64; 64],
+    n: usize,
+    values: &mut [f64; 4096],
+)
+    ensures { let m = model_given (flat_in words numbers) (min count 64) in
+        values.new ≡ evaluated_rows (parts_in m) (min m.count 64) (min n 64)
+        (record { xs = px.now; ys = py.now; zs = pz.now }) values.old }
+{
+    let model = field_host::model_given(words, numbers, count.min(64) as u32);
+    let points = PointRow {
+        xs: *px,
+        ys: *py,
+        zs: *pz,
+    };
+    model::evaluate_row(&model, &points, n, values);
+}
+
 // The values of a model at points, one after the other, as many as the shortest list has. The model is
 // made of flat arrays, once.
 #[unsafe(no_mangle)]
-pub extern "C" fn bench_evaluate(
+pub extern "C" fn bench_values(
     words: &[u32; 192],
     numbers: &[f64; 256],
     count: u32,
@@ -54,29 +99,4 @@ pub extern "C" fn bench_evaluate(
     for k in 0..points {
         results[k] = model::evaluate_parts(&model, Vec3::new(px[k], py[k], pz[k]), &mut values);
     }
-}
-
-// The values of a model at a row of 64 points, part by part.
-#[unsafe(no_mangle)]
-pub extern "C" fn bench_evaluate_row(
-    words: &[u32; 192],
-    numbers: &[f64; 256],
-    count: u32,
-    px: &[f64; 64],
-    py: &[f64; 64],
-    pz: &[f64; 64],
-    results: &mut [f64; 64],
-)
-    ensures { results.new
-        ≡ model_row (parts_in (model_given (flat_in words numbers) count)) (min count 64) 64
-        (record { xs = px.now; ys = py.now; zs = pz.now }) results.old }
-{
-    let model = field_host::model_given(words, numbers, count);
-    let points = PointRow {
-        xs: *px,
-        ys: *py,
-        zs: *pz,
-    };
-    let mut values = [0.0; 4096];
-    model::evaluate_row_into(&model, &points, 64, &mut values, results);
 }

@@ -5,7 +5,7 @@ use Rattle.lists.proofs.Filling.{filled_none, front_store, filled_done}
 use Rattle.geometry.specs.declared.Vec3.{Vec3}
 use Rattle.model.specs.Model.{parts_in, parts_value}
 use Rattle.bench_host.specs.Points.{value_at}
-use Rattle.bench_host.proofs.bench_evaluate.Goals as goal
+use Rattle.bench_host.proofs.bench_values.Goals as goal
 
 pub loop-k-init : goal.loop-k-init
 loop-k-init c = sym (filled_none _ _ _)
