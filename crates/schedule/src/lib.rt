@@ -1,10 +1,15 @@
 // The schedule of a job as a list of events, the ledger, and their laws, over any plan: see
 // specs/Lib.antt and proofs/Lib.antt. The code has the words that the definitions share with calls:
-// what a record counts, where a job stands, and the record itself.
+// what a job counts, where it stands, the job itself, and the slices that it is lent. What calls hand on
+// is an `Option<Job>` (rule R1).
 #![tactic(auto)]
 
 use grid::GridCounts;
 use input::{Input, Lengths};
+
+mod slices; // slices.rt: the five slices that a job is lent
+
+pub use slices::{Slices, View};
 
 // What a record counts: of its grid, leaves so far, their points, and evaluations so far (rule R2).
 #[derive(Clone, Copy, Debug, PartialEq, Eq)]
@@ -31,12 +36,4 @@ pub struct Job {
     pub lengths: Lengths,
     pub counts: Counts,
     pub cursor: Cursor,
-}
-
-// What calls hand on: whether a job is open, and the job. Where none is, the job counts for nothing
-// (rules R1 and R4).
-#[derive(Clone, Copy)]
-pub struct Record {
-    pub opened: bool,
-    pub job: Job,
 }
