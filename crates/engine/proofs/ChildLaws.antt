@@ -31,7 +31,7 @@ use Rattle.schedule.proofs.Sums.{before_below, before_most}
 use Rattle.lists.proofs.Sums.{sum_from_most, sum_bits_most}
 use Rattle.engine.specs.declared.Progress.{Progress}
 use Rattle.schedule.specs.declared.Cursor.TheVariants.{Point}
-use Rattle.engine.specs.declared.Stop.TheVariants.{Through, At}
+use Rattle.std.specs.Prelude.{Some, None}
 use Rattle.schedule.specs.Lent.{memory_of}
 use Rattle.plans.specs.Plan.{box_of, plan_with}
 use Rattle.geometry.specs.Values.{at}
@@ -44,24 +44,24 @@ module _ (leaves b v c p points next : ℕ) (filled : next ≡ p + min b (points
   left_over : b - (next - p) ≡ b - min b (points - p)
   left_over = omega (arith, filled)
 
-  pub leaf_stopped : next < points → progress leaves (b - (next - p)) (At (Point v c next)) ≡ leaf_progress leaves b v c p points
+  pub leaf_stopped : next < points → progress leaves (b - (next - p)) (Some (Point v c next)) ≡ leaf_progress leaves b v c p points
   unfolding leaf_progress
   leaf_stopped short =
       let so : ltb (p + min b (points - p)) points ≡ true = sym (ap (λ n. ltb n points) filled) ∙ lt-ltb next points short in
       λ i. record {
         leaves = leaves;
         left = left_over i;
-        stop = (ap (λ n. At (Point v c n)) filled ∙ sym (ap (λ x. cond x (At (Point v c (p + min b (points - p)))) Through) so)) i;
+        stop = (ap (λ n. Some (Point v c n)) filled ∙ sym (ap (λ x. cond x (Some (Point v c (p + min b (points - p)))) None) so)) i;
       }
 
-  pub leaf_through : points ≤ next → progress leaves (b - (next - p)) Through ≡ leaf_progress leaves b v c p points
+  pub leaf_through : points ≤ next → progress leaves (b - (next - p)) None ≡ leaf_progress leaves b v c p points
   unfolding leaf_progress
   leaf_through long =
       let so : ltb (p + min b (points - p)) points ≡ false = sym (ap (λ n. ltb n points) filled) ∙ le-ltb next points long in
       λ i. record {
         leaves = leaves;
         left = left_over i;
-        stop = sym (ap (λ x. cond x (At (Point v c (p + min b (points - p)))) Through) so) i;
+        stop = sym (ap (λ x. cond x (Some (Point v c (p + min b (points - p)))) None) so) i;
       }
 
 -- ---- a child's place
@@ -91,7 +91,7 @@ leaves_few g decide value v c leaves m sized below ready =
 
 -- a child without points: its turn is through, and the store is as it was
 pub without_points : (P : Plan) (v c b leaves : ℕ) {m m₁ : Memory} {after : List Float} {r : Progress}
-    → ChildrenAdvanced P v c (suc c) b leaves m m₁ (progress leaves b Through) → (r ≡ progress leaves b Through) × (after ≡ m₁.store)
+    → ChildrenAdvanced P v c (suc c) b leaves m m₁ (progress leaves b None) → (r ≡ progress leaves b None) × (after ≡ m₁.store)
     → ChildrenAdvanced P v c (suc c) b leaves m (memory_of m₁.kinds m₁.numbers m₁.places after m₁.corners) r
 without_points P v c b leaves {m} {m₁} {r = r} done none =
     subst (λ l. ChildrenAdvanced P v c (suc c) b leaves m (memory_of m₁.kinds m₁.numbers m₁.places l m₁.corners) r) (sym none.1)
@@ -108,7 +108,7 @@ module _ (g : Grid) (decide : BoundingBox → List Float → Verdict) (value : F
   kind_read = ap (λ n. get_or m.kinds (v * n + c) 0) cubed
 
   -- a child that is not active
-  pub skipped : get_or m.kinds (v * r + c) 0 ≡ 0 → ChildrenAdvanced P v c (suc c) b leaves m m (progress leaves b Through)
+  pub skipped : get_or m.kinds (v * r + c) 0 ≡ 0 → ChildrenAdvanced P v c (suc c) b leaves m m (progress leaves b None)
   unfolding plan_with
   skipped none =
       turn_skip P v c b leaves m ready below (sym (turn_active P v c b leaves m ready below) ∙ ap nonzero (sym kind_read ∙ none))
@@ -133,12 +133,12 @@ module _ (g : Grid) (decide : BoundingBox → List Float → Verdict) (value : F
     -- a child that becomes a constant
     pub constant_turn : {k : Kind} {x : Float} → verdict ≡ Constant k x → 0 < kind_number k
         → ChildrenAdvanced P v c (suc c) b leaves m
-        (memory_of (set m.kinds (v * r + c) (kind_number k)) (set m.numbers (v * r + c) x) m.places m.store m.corners) (progress leaves b Through)
+        (memory_of (set m.kinds (v * r + c) (kind_number k)) (set m.numbers (v * r + c) x) m.places m.store m.corners) (progress leaves b None)
     unfolding plan_with
     constant_turn {k} {x} is kind =
         let turn = turn_constant P v c b leaves m ready below is_active k x kind (decided ∙ is) in
         subst (λ n. ChildrenAdvanced P v c (suc c) b leaves m
-        (memory_of (set m.kinds (v * n + c) (kind_number k)) (set m.numbers (v * n + c) x) m.places m.store m.corners) (progress leaves b Through)) (sym cubed)
+        (memory_of (set m.kinds (v * n + c) (kind_number k)) (set m.numbers (v * n + c) x) m.places m.store m.corners) (progress leaves b None)) (sym cubed)
         turn
 
     -- a leaf more is one of all active children

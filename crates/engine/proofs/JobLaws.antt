@@ -11,7 +11,7 @@ use Rattle.schedule.specs.Totals.{active_all}
 use Rattle.input.specs.declared.Input.{Input}
 use Rattle.engine.specs.declared.Progress.{Progress}
 use Rattle.rows.specs.Inner.ModelValue.{model_at}
-use Rattle.plans.specs.Plan.{plan_with, plan_of, value_of, decide_by}
+use Rattle.plans.specs.Plan.{plan_with, plan_of, decide_by}
 use Rattle.engine.specs.Inner.Progress.{Advanced, reading_in}
 
 -- a model of any contents has an accepted one's value, so it gives the input's plan

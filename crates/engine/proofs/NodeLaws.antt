@@ -32,31 +32,21 @@ use Rattle.schedule.specs.Opened.{ActiveKinds}
 use Rattle.schedule.proofs.Sums.{before_all, before_most}
 use Rattle.schedule.proofs.Next.{corner_evaluate, corner_last, node_first, node_last}
 use Rattle.engine.specs.declared.Progress.{Progress}
-use Rattle.engine.specs.declared.Standing.{Standing}
-use Rattle.engine.specs.declared.Visit.{Visit}
-use Rattle.engine.specs.declared.Turn.{Turn}
-use Rattle.engine.specs.declared.Turn.TheVariants.{Stopped, Children}
 use Rattle.schedule.specs.declared.Cursor.{Cursor}
 use Rattle.schedule.specs.declared.Cursor.TheVariants.{End, Corner, Point}
-use Rattle.engine.specs.declared.Stop.TheVariants.{Through, At}
+use Rattle.std.specs.Prelude.{Some, None}
 use Rattle.schedule.specs.Lent.{memory_of}
 use Rattle.rows.specs.Inner.CornerRun.{CornerRun, needed_from, evaluated_from}
 use Rattle.geometry.specs.Values as values
 use Rattle.plans.specs.Plan.{plan_with, box_of}
 use Rattle.engine.specs.Inner.Runs.{run_of}
-use Rattle.engine.specs.Inner.Progress.{Sized, Lent, progress, state_in, Advanced, Ready, reading_in, ZeroCorners, NodeAdvanced, leaf_progress}
+use Rattle.engine.specs.Inner.Progress.{Sized, Lent, progress, state_in, after_stop, IfThrough, Advanced, Ready, reading_in, ZeroCorners, NodeAdvanced, leaf_progress}
+use Rattle.engine.specs.declared.Standing.{Standing}
 use Rattle.engine.specs.Inner.Startable.{Startable}
-use Rattle.engine.specs.Inner.Turns.{Standable, Begun, Came, TurnMade}
+use Rattle.engine.specs.Inner.Turns.{Standable, NodesReady, Continued, SameBehind}
 use Rattle.plans.proofs.NodeKinds.{part_needed}
 use Rattle.engine.proofs.RunLaws.{run_corners}
-use Rattle.engine.proofs.Turns.{stopped, advanced_start, advanced_through, came_through, filled_store, turn_points}
-
--- a standing and a visit by their parts
-abbrev standing : Cursor → (leaves left : ℕ) → Standing
-standing a leaves left = record { cursor = a; leaves = leaves; left = left }
-
-abbrev visit : ℕ → BoundingBox → (place leaves left : ℕ) → Visit
-visit v box place leaves left = record { node = v; bounds = box; place = place; leaves = leaves; left = left }
+use Rattle.engine.proofs.Turns.{stopped, advanced_start, filled_store, turn_points}
 
 -- ---- the kinds of one node
 
@@ -106,6 +96,10 @@ run_past {test} {value} {total} {i} {b} {next} {left} {before} run j behind =
     ap (λ l. get_or l j plus_zero) run.written
     ∙ evaluated_past test value (next - i) i before j (omega (arith, run.from, run.within))
 
+run_long : {test : ℕ → Bool} {value : ℕ → Float} {total i b next left : ℕ} {before after : List Float}
+    → CornerRun test value total i b next left before after → length after ≡ length before
+run_long {test} {value} {i = i} {next = next} {before = before} run = ap length run.written ∙ evaluated_length test value (next - i) i before
+
 module _ (P : Plan) (v i b leaves next left : ℕ) (m : Memory) (after : List Float) (lent : Lent P m)
     (run : CornerRun (P.needed v) (P.corner_value v) P.corners i b next left m.corners after) where
   -- the memory after the run
@@ -137,7 +131,7 @@ module _ (P : Plan) (v i b leaves next left : ℕ) (m : Memory) (after : List Fl
 
   -- it stops before a corner
   pub corners_stopped : {to : List Event} {most : ℕ} → next < P.corners
-      → Advanced P b leaves m cornered (events_from P (Corner v i) (reading_in m)) to (progress leaves left (At (Corner v next))) most
+      → Advanced P b leaves m cornered (events_from P (Corner v i) (reading_in m)) to (progress leaves left (Some (Corner v next))) most
   corners_stopped short =
       let stop : (left ≡ 0) × (P.needed v next ≡ true) = ⊎_elim (λ (e : next ≡ P.corners). absurd (omega arith)) (λ p. p) run.stops in
       record {
@@ -151,7 +145,7 @@ module _ (P : Plan) (v i b leaves next left : ℕ) (m : Memory) (after : List Fl
 
   -- it comes to the children
   pub corners_through : PlanLaws P → v < P.nodes → P.corners ≤ next → leaves ≤ active_before P v 0
-      → Advanced P b leaves m cornered (events_from P (Corner v i) (reading_in m)) (children_left P v 0 (reading_in cornered)) (progress leaves left Through)
+      → Advanced P b leaves m cornered (events_from P (Corner v i) (reading_in m)) (children_left P v 0 (reading_in cornered)) (progress leaves left None)
       (active_before P v 0)
   corners_through laws node last most = record {
     same = corners_run_lem ∙ ap (λ es. run_of P left es (state_in cornered leaves)) (corner_last P v laws node next last (reading_in cornered));
@@ -165,28 +159,51 @@ module _ (P : Plan) (v i b leaves next left : ℕ) (m : Memory) (after : List Fl
 pub node_begins : (P : Plan) (v : ℕ) (m : Memory) → v < P.nodes → ZeroCorners m → nodes_left P v ≡ events_from P (Corner v 0) (reading_in m)
 node_begins P v m below cleared = node_first P v below ∙ ap (events_from P (Corner v 0)) (sym (fun_ext cleared))
 
+-- a node that is done lets the next one begin, if there is one
+pub node_ready : (P : Plan) (v b leaves : ℕ) {m m₁ : Memory} {from : List Event} {r : Progress} → NodeAdvanced P v b leaves m m₁ from r
+    → NodesReady P (suc v) r m₁
+node_ready P v b leaves node = record { lent = node.advanced.lent; at_most = node.advanced.at_most; cleared = node.cleared }
+
+-- work that has gone so far, before it goes on
+pub continued_start : (P : Plan) (r : Progress) (m : Memory) (es : List Event) (most : ℕ) → Lent P m → IfThrough r.stop (r.leaves ≤ most)
+    → Continued P r m m es es r most
+continued_start P r m es most lent below = record { same = refl; lent = lent; at_most = below }
+
+-- work that has gone on to a node, and then through it
+pub continued_node : (P : Plan) (v : ℕ) {r₀ r r₁ : Progress} {m m₁ m₂ : Memory} {from : List Event} {most : ℕ}
+    → Continued P r₀ m m₁ from (nodes_left P v) r most → r.stop ≡ None → v < P.nodes → ZeroCorners m₁
+    → NodeAdvanced P v r.left r.leaves m₁ m₂ (events_from P (Corner v 0) (reading_in m₁)) r₁
+    → Continued P r₀ m m₂ from (nodes_left P (suc v)) r₁ (active_before P (suc v) 0)
+continued_node P v {r = r} {m₁ = m₁} so through below cleared node = record {
+  same = so.same
+      ∙ ap (λ x. after_stop P (state_in m₁ r.leaves) r.left x (nodes_left P v)) through
+      ∙ ap (λ es. run_of P r.left es (state_in m₁ r.leaves)) (node_begins P v m₁ below cleared)
+      ∙ node.advanced.same;
+  lent = node.advanced.lent;
+  at_most = node.advanced.at_most;
+}
+
+-- work that has stopped leaves nothing to the next
+pub continued_stopped : (P : Plan) {r₀ r : Progress} {m m₁ : Memory} {from mid to : List Event} {most most₂ : ℕ} (a : Cursor)
+    → Continued P r₀ m m₁ from mid r most → r.stop ≡ Some a → Continued P r₀ m m₁ from to r most₂
+continued_stopped P {r = r} {m₁ = m₁} {mid = mid} {to = to} {most₂ = most₂} a so stopped = record {
+  same = so.same ∙ ap (λ x. after_stop P (state_in m₁ r.leaves) r.left x mid) stopped
+      ∙ sym (ap (λ x. after_stop P (state_in m₁ r.leaves) r.left x to) stopped);
+  lent = so.lent;
+  at_most = subst (λ x. IfThrough x (r.leaves ≤ most₂)) (sym stopped) tt;
+}
+
 -- after the last node nothing is left
-pub nodes_end : (P : Plan) (v b leaves : ℕ) (m m₁ : Memory) (from : List Event) (r : Progress) → v ≡ P.nodes
-    → Advanced P b leaves m m₁ from (nodes_left P v) r (active_before P v 0) → Advanced P b leaves m m₁ from [] r (active_all P)
-nodes_end P v b leaves m m₁ from r last done =
-    subst (λ n. Advanced P b leaves m m₁ from [] r n) (ap (λ u. active_before P u 0) last ∙ before_all P P.active)
-    (subst (λ es. Advanced P b leaves m m₁ from es r (active_before P v 0)) (node_last P v (omega arith)) done)
+pub continued_end : (P : Plan) (v : ℕ) {r₀ r : Progress} {m m₁ : Memory} {from : List Event} → v ≡ P.nodes
+    → Continued P r₀ m m₁ from (nodes_left P v) r (active_before P v 0) → Continued P r₀ m m₁ from [] r (active_all P)
+continued_end P v {r₀} {r} {m} {m₁} {from} last so =
+    subst (λ n. Continued P r₀ m m₁ from [] r n) (ap (λ u. active_before P u 0) last ∙ before_all P P.active)
+    (subst (λ es. Continued P r₀ m m₁ from es r (active_before P v 0)) (node_last P v (omega arith)) so)
 
--- fewer leaves than some are fewer than more
-pub advanced_most : (P : Plan) {b leaves made left most most₂ : ℕ} {m m₁ : Memory} {from to : List Event} → most ≤ most₂
-    → Advanced P b leaves m m₁ from to (progress made left Through) most → Advanced P b leaves m m₁ from to (progress made left Through) most₂
-advanced_most P more done = record { same = done.same; lent = done.lent; at_most = omega (arith, done.at_most) }
-
--- past a node's children the next node begins, with corners that are cleared
-pub node_next : (P : Plan) (v n b leaves : ℕ) {m m₁ : Memory} {from : List Event} {r : Progress} → NodeAdvanced P v b leaves m m₁ from r
-    → r.stop ≡ Through → n ≡ suc v → n < P.nodes
-    → Advanced P b leaves m m₁ from (events_from P (Corner n 0) (reading_in m₁)) (progress r.leaves r.left Through) (active_before P n 0)
-node_next P v n b leaves {m} {m₁} {from} {r} node through next below =
-    let here : Advanced P b leaves m m₁ from (nodes_left P n) (progress r.leaves r.left Through) (active_before P n 0) =
-    subst (λ u. Advanced P b leaves m m₁ from (nodes_left P u) (progress r.leaves r.left Through) (active_before P u 0)) (sym next)
-    (advanced_through P node.advanced through) in
-    subst (λ es. Advanced P b leaves m m₁ from es (progress r.leaves r.left Through) (active_before P n 0))
-    (node_begins P n m₁ below (came_through _ node.cleared through)) here
+-- a node, and what follows it
+pub node_then : (P : Plan) (v b leaves : ℕ) {m m₁ m₂ : Memory} {from to : List Event} {r r₁ : Progress} {most : ℕ}
+    → NodeAdvanced P v b leaves m m₁ from r → Continued P r m₁ m₂ (nodes_left P (suc v)) to r₁ most → Advanced P b leaves m m₂ from to r₁ most
+node_then P v b leaves node so = record { same = node.advanced.same ∙ so.same; lent = so.lent; at_most = so.at_most }
 
 -- ---- the same, from what the code reads
 
@@ -199,6 +216,14 @@ nodes_few g sized =
 -- a node's kinds are inside the slice
 pub node_few : (g : Grid) (v : ℕ) → Sized g → v < nodes_of g → v * cube g.inner + cube g.inner ≤ nodes_of g * cube g.inner
 node_few g v sized below = omega (arith, mul-le-mul_right (cube g.inner) below)
+
+-- the same by a number that is read
+module _ (g : Grid) (v : ℕ) (sized : Sized g) (below : v < nodes_of g) {r : ℕ} (cubed : r ≡ cube g.inner) where
+  pub part_few : v * r + r ≤ 16777216
+  part_few = omega (arith, ap (λ n. v * n) cubed, cubed, sized.children, node_few g v sized below)
+
+  pub part_inside : (l : List ℕ) → nodes_of g * cube g.inner ≤ length l → v * r + r ≤ length l
+  part_inside l long = omega (arith, ap (λ n. v * n) cubed, cubed, long, node_few g v sized below)
 
 -- a part of a list
 pub part_long : (l : List ℕ) (first n : ℕ) → first + n ≤ length l → length (take (first + n - first) (drop first l)) ≡ n
@@ -221,30 +246,26 @@ module _ (g : Grid) (decide : BoundingBox → List Float → Verdict) (value : F
       plan_corners g decide value m.kinds ready.lent.active_kinds ready.lent.kinds v ready.node (ap (λ k. v * k) cubed) size boxed run
 
   -- the corners past the node's are as they were
-  pub node_past : (j : ℕ) → P.corners ≤ j → get_or after j plus_zero ≡ get_or m.corners j plus_zero
-  node_past = run_past planned
+  pub node_past : SameBehind (cube (g.inner + 1)) m.corners after
+  unfolding plan_with
+  node_past = record { long = run_long planned; same = run_past planned }
 
   -- the code's corners stop before one that is needed
-  pub node_at_corner : next < cube (g.inner + 1)
-      → Advanced P b leaves m (memory_of m.kinds m.numbers m.places m.store after) (events_from P (Corner v i) (reading_in m)) []
-      (progress leaves left (At (Corner v next))) (active_all P)
+  pub node_at_corner : {to : List Event} {most : ℕ} → next < cube (g.inner + 1)
+      → Advanced P b leaves m (memory_of m.kinds m.numbers m.places m.store after) (events_from P (Corner v i) (reading_in m)) to
+      (progress leaves left (Some (Corner v next))) most
   unfolding plan_with
   node_at_corner short = corners_stopped P v i b leaves next left m after ready.lent planned short
 
   -- or come to the children
   pub node_past_corners : PlanLaws P → cube (g.inner + 1) ≤ next
-      → Begun g P (standing (Corner v i) leaves b) m (memory_of m.kinds m.numbers m.places m.store after) (visit v box 0 leaves left)
+      → Advanced P b leaves m (memory_of m.kinds m.numbers m.places m.store after) (events_from P (Corner v i) (reading_in m))
+      (children_left P v 0 (λ j. get_or after j plus_zero)) (progress leaves left None) (active_before P v 0)
   unfolding plan_with
-  node_past_corners laws last = record {
-    advanced = corners_through P v i b leaves next left m after ready.lent planned laws ready.node last ready.at_most;
-    same = refl;
-    inside = ready.node;
-    place = omega arith;
-    boxed = boxed;
-  }
+  node_past_corners laws last = corners_through P v i b leaves next left m after ready.lent planned laws ready.node last ready.at_most
 
 module _ (g : Grid) (decide : BoundingBox → List Float → Verdict) (value : Float → Float → Float → Float) (v c p b leaves : ℕ) (m : Memory)
-    (ready : Ready (plan_with g decide value) v (suc c) leaves m) (below : c < cube g.inner) where
+    (ready : Ready (plan_with g decide value) v (c + 1) leaves m) (below : c < cube g.inner) where
   abbrev Q : Plan
   Q = plan_with g decide value
 
@@ -252,7 +273,7 @@ module _ (g : Grid) (decide : BoundingBox → List Float → Verdict) (value : F
   pub leaves_inside : leaves * cube g.leaf ≤ length m.store
   unfolding plan_with
   leaves_inside =
-      let few : leaves ≤ active_all Q = omega (arith, ready.at_most, before_most Q Q.active v (suc c) ready.node (omega arith)) in
+      let few : leaves ≤ active_all Q = omega (arith, ready.at_most, before_most Q Q.active v (c + 1) ready.node (omega arith)) in
       omega (arith, ready.lent.store, mul-le-mul_right (cube g.leaf) few)
 
   -- points of the last leaf, that of child c
@@ -262,58 +283,28 @@ module _ (g : Grid) (decide : BoundingBox → List Float → Verdict) (value : F
       → store ≡ filled ((leaves - 1) * cube g.leaf + p) (min b (cube g.leaf - p))
       (λ q. values.at value (leaf_point child g.leaf (q - (leaves - 1) * cube g.leaf))) m.store
       → Advanced Q b leaves m (memory_of m.kinds m.numbers m.places store m.corners) (events_from Q (Point v c p) (reading_in m))
-      (children_left Q v (suc c) (reading_in m)) turn (active_before Q v (suc c))
+      (children_left Q v (c + 1) (reading_in m)) turn (active_before Q v (c + 1))
   unfolding plan_with box_of
   node_points {box} {child} {store} {turn} within boxed lies goes stored =
       let lies' : child ≡ child_box (node_box g v) g.inner c = lies ∙ ap (λ x. child_box x g.inner c) boxed in
       let stored' : store ≡ filled_store Q v c p b leaves m.store =
       stored ∙ ap (λ x. filled ((leaves - 1) * cube g.leaf + p) (min b (cube g.leaf - p))
       (λ q. values.at value (leaf_point x g.leaf (q - (leaves - 1) * cube g.leaf))) m.store) lies' in
-      subst (λ l. Advanced Q b leaves m (memory_of m.kinds m.numbers m.places l m.corners) (events_from Q (Point v c p) (reading_in m))
+      let next : suc c ≡ c + 1 = sym (add-one c) in
+      subst (λ n. Advanced Q b leaves m (memory_of m.kinds m.numbers m.places store m.corners) (events_from Q (Point v c p) (reading_in m))
+      (children_left Q v n (reading_in m)) turn (active_before Q v n)) next
+      (subst (λ l. Advanced Q b leaves m (memory_of m.kinds m.numbers m.places l m.corners) (events_from Q (Point v c p) (reading_in m))
       (children_left Q v (suc c) (reading_in m)) turn (active_before Q v (suc c))) (sym stored')
       (subst (λ t. Advanced Q b leaves m (memory_of m.kinds m.numbers m.places (filled_store Q v c p b leaves m.store) m.corners)
       (events_from Q (Point v c p) (reading_in m)) (children_left Q v (suc c) (reading_in m)) t (active_before Q v (suc c))) (sym goes)
-      (turn_points Q v c p b leaves m ready.lent ready.at_most within))
+      (turn_points Q v c p b leaves m ready.lent (subst (λ n. leaves ≤ active_before Q v n) (add-one c) ready.at_most) within)))
 
-  -- they come through to the children after it
-  pub node_past_points : {box : BoundingBox} {m₁ : Memory} {turn : Progress} → box ≡ node_box g v
-      → Advanced Q b leaves m m₁ (events_from Q (Point v c p) (reading_in m)) (children_left Q v (suc c) (reading_in m₁)) turn (active_before Q v (suc c))
-      → turn.stop ≡ Through → Begun g Q (standing (Point v c p) leaves b) m m₁ (visit v box (c + 1) turn.leaves turn.left)
-  unfolding plan_with
-  node_past_points {box} {m₁} {turn} boxed points through = record {
-    advanced = subst (λ n. Advanced Q b leaves m m₁ (events_from Q (Point v c p) (reading_in m)) (children_left Q v n (reading_in m₁))
-        (progress turn.leaves turn.left Through) (active_before Q v n)) (sym (add-one c)) (advanced_through Q points through);
-    same = refl;
-    inside = ready.node;
-    place = omega arith;
-    boxed = boxed;
-  }
-
--- ---- from a cursor on
-
-module _ (P : Plan) (at : Standing) {x : Cursor} (known : at.cursor ≡ x) where
-  -- a job that may go on at a cursor that is known
-  pub known_start : {m : Memory} → Standable P at m → Startable P x at.leaves
-  known_start ok = subst (λ y. Startable P y at.leaves) known ok.startable
-
-  -- what is left there
-  pub at_cursor : {m m₁ : Memory} {r : Progress} {most : ℕ} → Advanced P at.left at.leaves m m₁ (events_from P x (reading_in m)) [] r most
-      → Advanced P at.left at.leaves m m₁ (events_from P at.cursor (reading_in m)) [] r most
-  at_cursor {m} {m₁} {r} {most} = subst (λ y. Advanced P at.left at.leaves m m₁ (events_from P y (reading_in m)) [] r most) (sym known)
-
-  pub begun_at : (g : Grid) {m m₁ : Memory} {w : Visit} → Begun g P (standing x at.leaves at.left) m m₁ w → Begun g P at m m₁ w
-  begun_at g {m} {m₁} {w} = subst (λ y. Begun g P (standing y at.leaves at.left) m m₁ w) (sym known)
+-- a job that may go on at a cursor that is known
+pub known_start : (P : Plan) (at : Standing) {x : Cursor} → at.cursor ≡ x → {m : Memory} → Standable P at m → Startable P x at.leaves
+known_start P at known ok = subst (λ y. Startable P y at.leaves) known ok.startable
 
 -- at the end nothing is left
 pub at_end_lem : (P : Plan) (b leaves : ℕ) (m : Memory) → Lent P m → leaves ≤ active_all P
-    → Advanced P b leaves m m (events_from P End (reading_in m)) [] (progress leaves b Through) (active_all P)
+    → Advanced P b leaves m m (events_from P End (reading_in m)) [] (progress leaves b None) (active_all P)
 unfolding events_from
 at_end_lem P b leaves m lent most = advanced_start P b leaves m [] (active_all P) lent most
-
--- what a turn that is known has come to
-module _ {g : Grid} {P : Plan} {at : Standing} {m m₁ : Memory} {turn : Turn} (made : TurnMade g P at m m₁ turn) where
-  pub turn_stopped : {r : Progress} → turn ≡ Stopped r → Advanced P at.left at.leaves m m₁ (events_from P at.cursor (reading_in m)) [] r (active_all P)
-  turn_stopped known = subst (Came g P at m m₁) known made.came
-
-  pub turn_begun : {w : Visit} → turn ≡ Children w → Begun g P at m m₁ w
-  turn_begun known = subst (Came g P at m m₁) known made.came

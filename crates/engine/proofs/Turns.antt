@@ -29,27 +29,42 @@ use Rattle.schedule.proofs.StopFacts.{get_or_equal}
 use Rattle.engine.specs.declared.Progress.{Progress}
 use Rattle.schedule.specs.declared.Cursor.{Cursor}
 use Rattle.schedule.specs.declared.Cursor.TheVariants.{Point}
-use Rattle.engine.specs.declared.Stop.{Stop}
-use Rattle.engine.specs.declared.Stop.TheVariants.{Through, At}
-use Rattle.schedule.specs.Lent.{memory_of}
+use Rattle.std.specs.Prelude.{Option, Some, None, is_some}
+use Rattle.schedule.specs.declared.slices.Slices.{Slices}
+use Rattle.schedule.specs.Lent.{memory_of, SameSlices}
 use Rattle.engine.specs.Inner.Runs.{run_of}
 use Rattle.engine.specs.Inner.Progress.{Lent, after_stop, IfThrough, progress, state_in, reading_in, leaf_progress}
 use Rattle.engine.specs.Inner.Progress.{Advanced, Ready, ChildrenAdvanced, NodeAdvanced}
 use Rattle.engine.proofs.RunLaws.{run_work, run_stop, run_points}
 
 -- a fact holds where a function has come through, if it holds at all
-pub if_through : {A : Type 0} (x : Stop) → A → IfThrough x A
-if_through Through a = a
-if_through (At c) a = tt
+pub if_through : {A : Type 0} (x : Option Cursor) → A → IfThrough x A
+if_through None a = a
+if_through (Some c) a = tt
 
 -- where it has come through, what is claimed holds
-pub came_through : (A : Type 0) {x : Stop} → IfThrough x A → x ≡ Through → A
+pub came_through : (A : Type 0) {x : Option Cursor} → IfThrough x A → x ≡ None → A
 came_through A claim through = subst (λ x. IfThrough x A) through claim
+
+-- slices that stay the same stay the same through two calls
+pub same_then : {a b c : Slices} → SameSlices a b → SameSlices b c → SameSlices a c
+same_then first then = record {
+  kinds = then.kinds ∙ first.kinds;
+  numbers = then.numbers ∙ first.numbers;
+  places = then.places ∙ first.places;
+  store = then.store ∙ first.store;
+  corners = then.corners ∙ first.corners;
+}
+
+-- a stop that is none
+pub none_stop : {x : Option Cursor} → is_some x ≡ false → x ≡ None
+none_stop {x = None} none = refl
+none_stop {x = Some a} none = cc
 
 module _ (P : Plan) where
   -- one function after another that has come through
   pub advanced_then : {b leaves : ℕ} {m m₁ m₂ : Memory} {from mid to : List Event} {r₁ r₂ : Progress} {most₁ most₂ : ℕ}
-      → Advanced P b leaves m m₁ from mid r₁ most₁ → r₁.stop ≡ Through → Advanced P r₁.left r₁.leaves m₁ m₂ mid to r₂ most₂
+      → Advanced P b leaves m m₁ from mid r₁ most₁ → r₁.stop ≡ None → Advanced P r₁.left r₁.leaves m₁ m₂ mid to r₂ most₂
       → Advanced P b leaves m m₂ from to r₂ most₂
   advanced_then {m₁ = m₁} {mid = mid} {r₁ = r₁} first through then = record {
     same = first.same ∙ ap (λ x. after_stop P (state_in m₁ r₁.leaves) r₁.left x mid) through ∙ then.same;
@@ -59,18 +74,18 @@ module _ (P : Plan) where
 
   -- one that has come through, by its parts
   pub advanced_through : {b leaves : ℕ} {m m₁ : Memory} {from to : List Event} {r : Progress} {most : ℕ}
-      → Advanced P b leaves m m₁ from to r most → r.stop ≡ Through → Advanced P b leaves m m₁ from to (progress r.leaves r.left Through) most
+      → Advanced P b leaves m m₁ from to r most → r.stop ≡ None → Advanced P b leaves m m₁ from to (progress r.leaves r.left None) most
   advanced_through {b} {leaves} {m} {m₁} {from} {to} {r} {most} first through =
       subst (λ x. Advanced P b leaves m m₁ from to (progress r.leaves r.left x) most) through first
 
   -- before a function has begun
   pub advanced_start : (b leaves : ℕ) (m : Memory) (es : List Event) (most : ℕ) → Lent P m → leaves ≤ most
-      → Advanced P b leaves m m es es (progress leaves b Through) most
+      → Advanced P b leaves m m es es (progress leaves b None) most
   advanced_start b leaves m es most lent below = record { same = refl; lent = lent; at_most = below }
 
   -- a function that has stopped leaves nothing to the next
   pub advanced_stopped : {b leaves : ℕ} {m m₁ : Memory} {from mid to : List Event} {r : Progress} {most most₂ : ℕ} (a : Cursor)
-      → Advanced P b leaves m m₁ from mid r most → r.stop ≡ At a → Advanced P b leaves m m₁ from to r most₂
+      → Advanced P b leaves m m₁ from mid r most → r.stop ≡ Some a → Advanced P b leaves m m₁ from to r most₂
   advanced_stopped {m₁ = m₁} {mid = mid} {to = to} {r = r} {most₂ = most₂} a first stopped = record {
     same = first.same ∙ ap (λ x. after_stop P (state_in m₁ r.leaves) r.left x mid) stopped
         ∙ sym (ap (λ x. after_stop P (state_in m₁ r.leaves) r.left x to) stopped);
@@ -95,7 +110,7 @@ module _ (P : Plan) where
         ∙ active_at_lem P v c ready.node below
 
     -- a child that is not active
-    pub turn_skip : P.active v c ≡ false → ChildrenAdvanced P v c (suc c) b leaves m m (progress leaves b Through)
+    pub turn_skip : P.active v c ≡ false → ChildrenAdvanced P v c (suc c) b leaves m m (progress leaves b None)
     turn_skip none = record {
       same = ap (λ es. run_of P b es (state_in m leaves)) (child_skip P v c below none (reading_in m));
       lent = ready.lent;
@@ -106,7 +121,7 @@ module _ (P : Plan) where
     pub turn_constant : P.active v c ≡ true → (k : Kind) (x : Float) → 0 < kind_number k → P.decide v c (reading_in m) ≡ Constant k x
         → ChildrenAdvanced P v c (suc c) b leaves m
         (memory_of (set m.kinds (v * P.children + c) (kind_number k)) (set m.numbers (v * P.children + c) x) m.places m.store m.corners)
-        (progress leaves b Through)
+        (progress leaves b None)
     unfolding apply
     turn_constant active k x above decided = record {
       same = ap (λ es. run_of P b es (state_in m leaves)) (child_constant P v c below active (reading_in m) k x decided)
@@ -152,7 +167,7 @@ module _ (P : Plan) where
       one : (x : Bool) → ltb (p + min b (P.leaf_points - p)) P.leaf_points ≡ x
           → run_of P (b - min b (P.leaf_points - p)) (events_from P (Point v c (p + min b (P.leaf_points - p))) (reading_in m)) (leaf_state v c p b n m)
           ≡ after_stop P (leaf_state v c p b n m)
-          (b - min b (P.leaf_points - p)) (cond x (At (Point v c (p + min b (P.leaf_points - p)))) Through) (children_left P v (suc c) (reading_in m))
+          (b - min b (P.leaf_points - p)) (cond x (Some (Point v c (p + min b (P.leaf_points - p)))) None) (children_left P v (suc c) (reading_in m))
       one true e =
           let next : ℕ = p + min b (P.leaf_points - p) in
           let short : next < P.leaf_points = ltb-true next P.leaf_points e in
@@ -223,7 +238,7 @@ module _ (P : Plan) where
 
   -- past its last child a node's corners are cleared
   pub turn_clear : (v b leaves c : ℕ) (m m₁ : Memory) (r : Progress) {cleared : List Float}
-      → ChildrenAdvanced P v c P.children b leaves m m₁ r → r.stop ≡ Through → cleared ≡ replicate (length m₁.corners) plus_zero
+      → ChildrenAdvanced P v c P.children b leaves m m₁ r → r.stop ≡ None → cleared ≡ replicate (length m₁.corners) plus_zero
       → NodeAdvanced P v b leaves m (memory_of m₁.kinds m₁.numbers m₁.places m₁.store cleared) (children_left P v c (reading_in m)) r
   unfolding apply
   turn_clear v b leaves c m m₁ r {cleared} children through zeroed =

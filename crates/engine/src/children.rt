@@ -1,25 +1,25 @@
 // A node's children, in order: each active one is decided, and a leaf's points are evaluated into
 // the stretch of the store that is its own (rule S8).
-ghost use Rattle.std.specs.Prelude.{◌≡◌, List, ◌+◌, ◌-◌, ◌*◌, ◌≤◌, ◌<◌, min, length, Float};
+ghost use Rattle.std.specs.Prelude.{◌≡◌, ◌+◌, ◌-◌, ◌*◌, ◌≤◌, ◌<◌, min, length};
 ghost use Rattle.lists.specs.Filled.{filled};
 ghost use Rattle.grid.specs.Blocks.{cube};
 ghost use Rattle.grid.specs.Boxes.{node_box};
 ghost use Rattle.grid.specs.Leaves.{leaf_point};
-ghost use Rattle.schedule.specs.Lent.{memory_of};
+ghost use Rattle.schedule.specs.Lent.{held, SameSlices};
 ghost use Rattle.rows.specs.Inner.ModelValue.{model_at};
 ghost use Rattle.geometry.specs.Values.{at};
-ghost use Rattle.engine.specs.Inner.Progress.{plan, plan_by, Sized, Ready, ChildrenAdvanced, leaf_progress};
-ghost use Rattle.engine.specs.Inner.Children.{Decidable, Decided, Fits, PointsMade};
+ghost use Rattle.engine.specs.Inner.Progress.{plan, Sized, Ready, ChildrenAdvanced, leaf_progress};
+ghost use Rattle.engine.specs.Inner.Children.{Decidable, leaf_box, decided};
 
-use crate::{Decision, LeafVisit, Progress, Stop, Task, Visit};
+use crate::{LeafVisit, Progress, Task, Visit};
 use geometry::BoundingBox;
-use grid::Verdict;
+use grid::{Kind, Verdict};
 use model::ImplicitModel;
-use schedule::Cursor;
+use schedule::{Cursor, Slices};
 
 // Evaluates points of a leaf that has the box b, from point p on while the budget lasts, into the
 // stretch of the store that its ordinal names. Answers the next point.
-pub fn fill_leaf(
+fn fill_leaf(
     model: &ImplicitModel,
     b: BoundingBox,
     l: u32,
@@ -69,91 +69,78 @@ pub fn leaf_from(
     let ordinal = (leaves as usize) - 1;
     let next = fill_leaf(model, b, l, p, ordinal, budget, scratch, store);
     let left = budget - ((next - p) as u64);
-    if next < grid::cube_of(l as usize) {
-        let stop = Stop::At(Cursor::Point(leaf.node, leaf.child, next));
-        return Progress { leaves, left, stop };
-    }
-    Progress {
-        leaves,
-        left,
-        stop: Stop::Through,
-    }
+    let stop = if next < grid::cube_of(l as usize) {
+        Some(Cursor::Point(leaf.node, leaf.child, next))
+    } else {
+        None
+    };
+    Progress { leaves, left, stop }
 }
 
-// The child at a visit's place. An active child becomes a constant or a leaf.
-fn decide_at(
-    task: Task,
-    visit: Visit,
-    kinds: &mut [u8],
-    numbers: &mut [f64],
-    places: &mut [u32],
-    corners: &[f64],
-) -> Decision
-    requires sized { Sized task.grid × (visit.bounds ≡ node_box task.grid visit.node) × (visit.place < cube task.grid.inner) }
-    requires decidable { Decidable task visit kinds.old numbers.old places.old corners.now }
-    ensures { (value : Float → Float → Float → Float) (store : List Float)
-        → Ready (plan_by task value) visit.node visit.place visit.leaves
-        (memory_of kinds.old numbers.old places.old store corners.now)
-        → Decided task value visit (memory_of kinds.old numbers.old places.old store corners.now)
-        (memory_of kinds.new numbers.new places.new store corners.now) result }
+// Decides the child at a visit's place. An active child becomes a constant or a leaf, and the answer is
+// the box of a leaf.
+fn decide_at(task: Task, visit: Visit, slices: &mut Slices) -> Option<BoundingBox>
+    requires { Decidable task visit (held slices.old) }
+    ensures slices { SameSlices slices.old slices.new }
+    ensures answer { result ≡ leaf_box task visit (held slices.old) }
+    ensures memory { held slices.new ≡ decided task visit (held slices.old) }
 {
     let n = task.grid.inner;
     let c = visit.place;
     let j = visit.node * grid::cube_of(n as usize) + c;
-    let empty = kinds[j] == 0;
+    let empty = slices.kinds[j] == 0;
     if empty {
-        return Decision::Passed;
+        return None;
     }
     let band = task.band;
     let child = grid::child_box(visit.bounds, n, c);
-    let octet = grid::octet_values(corners, n, c);
+    let octet = grid::octet_values(slices.view().corners, n, c);
     let verdict = grid::decide_child(band.min, band.max, child, octet);
     match verdict {
         Verdict::Constant(kind, number) => {
-            kinds[j] = kind.number();
-            numbers[j] = number;
-            Decision::Passed
+            slices.kinds[j] = kind.number();
+            slices.numbers[j] = number;
+            None
         }
         Verdict::Leaf => {
-            kinds[j] = grid::Kind::Leaf.number();
-            places[j] = visit.leaves as u32;
-            Decision::Leaf(child)
+            slices.kinds[j] = Kind::Leaf.number();
+            slices.places[j] = visit.leaves as u32;
+            Some(child)
         }
     }
 }
 
-// The points of that child, if it has become a leaf, while the budget lasts.
-fn points_of(
+// The child at a visit's place: it is decided, and the points of a leaf are evaluated while the budget
+// lasts.
+fn run_child(
     task: Task,
     visit: Visit,
-    decision: Decision,
     model: &ImplicitModel,
     scratch: &mut [f64; 4096],
-    store: &mut [f64],
+    slices: &mut Slices,
 ) -> Progress
-    requires sized { Sized task.grid × (visit.leaves ≤ 16777216) }
-    requires fits { Fits task.grid visit decision store.old }
-    ensures { PointsMade task.grid (model_at model.now) visit decision store.old store.new result }
+    requires sized { Sized task.grid × (visit.bounds ≡ node_box task.grid visit.node) × (visit.place < cube task.grid.inner) }
+    requires ready { Ready (plan task model.now) visit.node visit.place visit.leaves (held slices.old) }
+    ensures slices { SameSlices slices.old slices.new }
+    ensures advanced { ChildrenAdvanced (plan task model.now) visit.node visit.place (visit.place + 1) visit.left visit.leaves
+        (held slices.old) (held slices.new) result }
+    ensures corners { (held slices.new).corners ≡ (held slices.old).corners }
 {
-    let left = visit.left;
-    match decision {
-        Decision::Passed => {
-            let leaves = visit.leaves;
-            let stop = Stop::Through;
-            Progress { leaves, left, stop }
-        }
-        Decision::Leaf(child) => {
-            let leaves = visit.leaves + 1;
-            let leaf = LeafVisit {
-                node: visit.node,
-                child: visit.place,
-                point: 0,
-                leaves,
-                left,
-            };
-            leaf_from(model, child, task.grid.leaf, leaf, scratch, store)
-        }
-    }
+    let Some(child) = decide_at(task, visit, slices) else {
+        return Progress {
+            leaves: visit.leaves,
+            left: visit.left,
+            stop: None,
+        };
+    };
+    let leaf = LeafVisit {
+        node: visit.node,
+        child: visit.place,
+        point: 0,
+        leaves: visit.leaves + 1,
+        left: visit.left,
+    };
+    leaf_from(model, child, task.grid.leaf, leaf, scratch, slices.store)
 }
 
 // The children of a node, from the one at a visit's place on.
@@ -162,46 +149,31 @@ pub fn run_children(
     visit: Visit,
     model: &ImplicitModel,
     scratch: &mut [f64; 4096],
-    kinds: &mut [u8],
-    numbers: &mut [f64],
-    places: &mut [u32],
-    store: &mut [f64],
-    corners: &[f64],
+    slices: &mut Slices,
 ) -> Progress
     requires sized { Sized task.grid × (visit.bounds ≡ node_box task.grid visit.node) × (visit.place ≤ cube task.grid.inner) }
-    requires ready { Ready (plan task model.now) visit.node visit.place visit.leaves
-        (memory_of kinds.old numbers.old places.old store.old corners.now) }
-    ensures { ChildrenAdvanced (plan task model.now) visit.node visit.place (cube task.grid.inner) visit.left visit.leaves
-        (memory_of kinds.old numbers.old places.old store.old corners.now)
-        (memory_of kinds.new numbers.new places.new store.new corners.now) result }
+    requires ready { Ready (plan task model.now) visit.node visit.place visit.leaves (held slices.old) }
+    ensures slices { SameSlices slices.old slices.new }
+    ensures advanced { ChildrenAdvanced (plan task model.now) visit.node visit.place (cube task.grid.inner) visit.left visit.leaves
+        (held slices.old) (held slices.new) result }
+    ensures corners { (held slices.new).corners ≡ (held slices.old).corners }
 {
-    let g = task.grid;
-    let children = grid::cube_of(g.inner as usize);
-    let bounds = visit.bounds;
-    let mut place = visit.place;
-    let mut leaves = visit.leaves;
-    let mut left = visit.left;
-    while place < children {
+    let mut done = Progress {
+        leaves: visit.leaves,
+        left: visit.left,
+        stop: None,
+    };
+    for place in visit.place..grid::cube_of(task.grid.inner as usize) {
         let child = Visit {
-            node: visit.node,
-            bounds,
             place,
-            leaves,
-            left,
+            leaves: done.leaves,
+            left: done.left,
+            ..visit
         };
-        let decision = decide_at(task, child, kinds, numbers, places, corners);
-        let turn = points_of(task, child, decision, model, scratch, store);
-        leaves = turn.leaves;
-        left = turn.left;
-        let stop = turn.stop;
-        if let Stop::At(_) = stop {
-            return turn;
+        done = run_child(task, child, model, scratch, slices);
+        if done.stop.is_some() {
+            return done;
         }
-        place += 1;
     }
-    Progress {
-        leaves,
-        left,
-        stop: Stop::Through,
-    }
+    done
 }

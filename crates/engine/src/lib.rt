@@ -14,23 +14,32 @@ mod nodes; // nodes.rt: node after node, from a cursor on
 pub use jobs::run_job;
 
 // What the work is about, beside its model: the grid and the band.
-#[derive(Clone, Copy)]
+#[derive(Clone, Copy, Debug, PartialEq)]
 pub struct Task {
     pub grid: Grid,
     pub band: Band,
 }
 
 // Where a job goes on: its cursor, the leaves so far, and the budget that is left.
-#[derive(Clone, Copy)]
+#[derive(Clone, Copy, Debug, PartialEq, Eq)]
 pub struct Standing {
     pub cursor: Cursor,
     pub leaves: u64,
     pub left: u64,
 }
 
-// A node at work: its number and its box, the child that comes next, the leaves so far, and the
-// budget that is left.
-#[derive(Clone, Copy)]
+// A node's corners at work: the corner that comes next, the leaves so far, and the budget that is left.
+#[derive(Clone, Copy, Debug, PartialEq, Eq)]
+pub struct CornerVisit {
+    pub node: usize,
+    pub corner: usize,
+    pub leaves: u64,
+    pub left: u64,
+}
+
+// A node's children at work: its number and its box, the child that comes next, the leaves so far, and
+// the budget that is left.
+#[derive(Clone, Copy, Debug, PartialEq)]
 pub struct Visit {
     pub node: usize,
     pub bounds: BoundingBox,
@@ -41,7 +50,7 @@ pub struct Visit {
 
 // A leaf at work, the last of so many: its node and its child, the point that comes next, and the
 // budget that is left.
-#[derive(Clone, Copy)]
+#[derive(Clone, Copy, Debug, PartialEq, Eq)]
 pub struct LeafVisit {
     pub node: usize,
     pub child: usize,
@@ -50,31 +59,11 @@ pub struct LeafVisit {
     pub left: u64,
 }
 
-// What a child has become in its turn: nothing or a constant, or a leaf that has a box.
-#[derive(Clone, Copy)]
-pub enum Decision {
-    Passed,
-    Leaf(BoundingBox),
-}
-
-// Whether a function came through to its end, or stopped before an evaluation.
-#[derive(Clone, Copy)]
-pub enum Stop {
-    Through,
-    At(Cursor),
-}
-
-// How many leaves there are, how much of the budget is left, and where it stopped.
-#[derive(Clone, Copy)]
+// How many leaves there are, how much of the budget is left, and before which evaluation the work has
+// stopped, if it has not come through.
+#[derive(Clone, Copy, Debug, PartialEq, Eq)]
 pub struct Progress {
     pub leaves: u64,
     pub left: u64,
-    pub stop: Stop,
-}
-
-// The evaluations at a cursor have stopped, or come to the children of a node.
-#[derive(Clone, Copy)]
-pub enum Turn {
-    Stopped(Progress),
-    Children(Visit),
+    pub stop: Option<Cursor>,
 }

@@ -1,80 +1,251 @@
 // A job's work from a cursor on, while the budget lasts: the corners or points at the cursor, then the
 // node's children, then the next node.
-ghost use Rattle.std.specs.Prelude.{◌≡◌, [], List, ℕ, ◌≤◌, length, replicate, Float};
+ghost use Rattle.std.specs.Prelude.{◌≡◌, [], ◌+◌, ◌≤◌, ◌<◌, length, replicate};
 ghost use Rattle.float.specs.Zero.{plus_zero};
-ghost use Rattle.schedule.specs.Resume.{events_from};
-ghost use Rattle.schedule.specs.Totals.{active_all};
-ghost use Rattle.schedule.specs.Lent.{memory_of};
-ghost use Rattle.engine.specs.Inner.Progress.{plan, Sized, Advanced, ZeroFrom, reading_in};
-ghost use Rattle.engine.specs.Inner.Turns.{Standable, Evaluable, TurnMade};
+ghost use Rattle.grid.specs.Blocks.{cube};
+ghost use Rattle.grid.specs.Boxes.{node_box};
+ghost use Rattle.grid.specs.Nodes.{nodes_of};
+ghost use Rattle.schedule.specs.declared.Cursor.TheVariants.{Corner, Point};
+ghost use Rattle.schedule.specs.Resume.{events_from, children_left, nodes_left};
+ghost use Rattle.schedule.specs.Totals.{active_all, active_before};
+ghost use Rattle.schedule.specs.Lent.{held, SameSlices};
+ghost use Rattle.engine.specs.Inner.Progress.{plan, Sized, Ready, Advanced, NodeAdvanced, reading_in};
+ghost use Rattle.engine.specs.Inner.Turns.{Standable, NodesReady, Continued, SameBehind, CleanBehind};
 
-use crate::{LeafVisit, Progress, Standing, Stop, Task, Turn, Visit, children};
+use crate::{CornerVisit, LeafVisit, Progress, Standing, Task, Visit, children};
 use model::ImplicitModel;
-use schedule::Cursor;
+use schedule::{Cursor, Slices};
 
-// The evaluations at a job's cursor: the corners of its node from there on, or the points of its leaf.
-// It stops before one, at the end of the budget or of the job, or comes to the node's children.
-fn evaluate_from(
+// A node's corners, from one on.
+fn run_corners(
+    task: Task,
+    visit: CornerVisit,
+    model: &ImplicitModel,
+    scratch: &mut [f64; 4096],
+    slices: &mut Slices,
+) -> Progress
+    requires sized { Sized task.grid × (visit.corner ≤ cube (task.grid.inner + 1)) }
+    requires ready { Ready (plan task model.now) visit.node 0 visit.leaves (held slices.old) }
+    ensures slices { SameSlices slices.old slices.new }
+    ensures advanced { Advanced (plan task model.now) visit.left visit.leaves (held slices.old) (held slices.new)
+        (events_from (plan task model.now) (Corner visit.node visit.corner) (reading_in (held slices.old)))
+        (children_left (plan task model.now) visit.node 0 (reading_in (held slices.new))) result
+        (active_before (plan task model.now) visit.node 0) }
+    ensures behind { SameBehind (cube (task.grid.inner + 1)) (held slices.old).corners (held slices.new).corners }
+{
+    let g = task.grid;
+    let bounds = grid::node_box(g, visit.node);
+    let children = grid::cube_of(g.inner as usize);
+    let first = visit.node * children;
+    let all_kinds = &mut *slices.kinds;
+    let corners = &mut *slices.corners;
+    let kinds = &*all_kinds;
+    let end = rows::run_corners(
+        model,
+        bounds,
+        g.inner,
+        &kinds[first..first + children],
+        visit.corner,
+        visit.left,
+        scratch,
+        corners,
+    );
+    let stop = if end.next < grid::cube_of(g.inner as usize + 1) {
+        Some(Cursor::Corner(visit.node, end.next))
+    } else {
+        None
+    };
+    Progress {
+        leaves: visit.leaves,
+        left: end.left,
+        stop,
+    }
+}
+
+// The points of a leaf, from one on.
+fn run_points(
+    task: Task,
+    leaf: LeafVisit,
+    model: &ImplicitModel,
+    scratch: &mut [f64; 4096],
+    slices: &mut Slices,
+) -> Progress
+    requires sized { Sized task.grid × (leaf.child < cube task.grid.inner) × (leaf.point ≤ cube task.grid.leaf) × (0 < leaf.leaves) }
+    requires ready { Ready (plan task model.now) leaf.node (leaf.child + 1) leaf.leaves (held slices.old) }
+    ensures slices { SameSlices slices.old slices.new }
+    ensures advanced { Advanced (plan task model.now) leaf.left leaf.leaves (held slices.old) (held slices.new)
+        (events_from (plan task model.now) (Point leaf.node leaf.child leaf.point) (reading_in (held slices.old)))
+        (children_left (plan task model.now) leaf.node (leaf.child + 1) (reading_in (held slices.new))) result
+        (active_before (plan task model.now) leaf.node (leaf.child + 1)) }
+    ensures corners { (held slices.new).corners ≡ (held slices.old).corners }
+{
+    let g = task.grid;
+    let bounds = grid::node_box(g, leaf.node);
+    let child = grid::child_box(bounds, g.inner, leaf.child);
+    children::leaf_from(model, child, g.leaf, leaf, scratch, slices.store)
+}
+
+// Clears the corners up to `used`, where the others are +0 already: then all are.
+fn clear_corners(used: usize, corners: &mut [f64])
+    requires { CleanBehind used corners.old }
+    ensures { corners.new ≡ replicate (length corners.old) plus_zero }
+{
+    corners[..used].fill(0.0);
+}
+
+// A node's children from one on. Past the last the corners up to `used` are cleared; the others are +0
+// already.
+fn finish_node(
+    task: Task,
+    visit: Visit,
+    used: usize,
+    model: &ImplicitModel,
+    scratch: &mut [f64; 4096],
+    slices: &mut Slices,
+) -> Progress
+    requires sized { Sized task.grid × (visit.bounds ≡ node_box task.grid visit.node) × (visit.place ≤ cube task.grid.inner) }
+    requires ready { Ready (plan task model.now) visit.node visit.place visit.leaves (held slices.old) }
+    requires clean { CleanBehind used (held slices.old).corners }
+    ensures slices { SameSlices slices.old slices.new }
+    ensures node { NodeAdvanced (plan task model.now) visit.node visit.left visit.leaves (held slices.old) (held slices.new)
+        (children_left (plan task model.now) visit.node visit.place (reading_in (held slices.old))) result }
+{
+    let done = children::run_children(task, visit, model, scratch, slices);
+    if done.stop.is_none() {
+        clear_corners(used, slices.corners);
+    }
+    done
+}
+
+// A node from one of its corners on.
+fn run_from_corner(
+    task: Task,
+    visit: CornerVisit,
+    used: usize,
+    model: &ImplicitModel,
+    scratch: &mut [f64; 4096],
+    slices: &mut Slices,
+) -> Progress
+    requires sized { Sized task.grid × (visit.corner ≤ cube (task.grid.inner + 1)) }
+    requires ready { Ready (plan task model.now) visit.node 0 visit.leaves (held slices.old) }
+    requires clean { (cube (task.grid.inner + 1) ≤ used) × CleanBehind used (held slices.old).corners }
+    ensures slices { SameSlices slices.old slices.new }
+    ensures node { NodeAdvanced (plan task model.now) visit.node visit.left visit.leaves (held slices.old) (held slices.new)
+        (events_from (plan task model.now) (Corner visit.node visit.corner) (reading_in (held slices.old))) result }
+{
+    let came = run_corners(task, visit, model, scratch, slices);
+    if came.stop.is_some() {
+        return came;
+    }
+    let visit = Visit {
+        node: visit.node,
+        bounds: grid::node_box(task.grid, visit.node),
+        place: 0,
+        leaves: came.leaves,
+        left: came.left,
+    };
+    finish_node(task, visit, used, model, scratch, slices)
+}
+
+// A node from a point of one of its leaves on.
+fn run_from_point(
+    task: Task,
+    leaf: LeafVisit,
+    used: usize,
+    model: &ImplicitModel,
+    scratch: &mut [f64; 4096],
+    slices: &mut Slices,
+) -> Progress
+    requires sized { Sized task.grid × (leaf.child < cube task.grid.inner) × (leaf.point ≤ cube task.grid.leaf) × (0 < leaf.leaves) }
+    requires ready { Ready (plan task model.now) leaf.node (leaf.child + 1) leaf.leaves (held slices.old) }
+    requires clean { CleanBehind used (held slices.old).corners }
+    ensures slices { SameSlices slices.old slices.new }
+    ensures node { NodeAdvanced (plan task model.now) leaf.node leaf.left leaf.leaves (held slices.old) (held slices.new)
+        (events_from (plan task model.now) (Point leaf.node leaf.child leaf.point) (reading_in (held slices.old))) result }
+{
+    let came = run_points(task, leaf, model, scratch, slices);
+    if came.stop.is_some() {
+        return came;
+    }
+    let visit = Visit {
+        node: leaf.node,
+        bounds: grid::node_box(task.grid, leaf.node),
+        place: leaf.child + 1,
+        leaves: came.leaves,
+        left: came.left,
+    };
+    finish_node(task, visit, used, model, scratch, slices)
+}
+
+// The nodes from one on, after work that has gone so far; if it has stopped already, none. Each clears
+// its own corners.
+fn run_nodes(
+    task: Task,
+    first: usize,
+    so_far: Progress,
+    model: &ImplicitModel,
+    scratch: &mut [f64; 4096],
+    slices: &mut Slices,
+) -> Progress
+    requires sized { Sized task.grid × (first ≤ nodes_of task.grid) }
+    requires ready { NodesReady (plan task model.now) first so_far (held slices.old) }
+    ensures slices { SameSlices slices.old slices.new }
+    ensures continued { Continued (plan task model.now) so_far (held slices.old) (held slices.new)
+        (nodes_left (plan task model.now) first) [] result (active_all (plan task model.now)) }
+{
+    let own = grid::cube_of(task.grid.inner as usize + 1);
+    let mut done = so_far;
+    for node in first..grid::node_total(task.grid) {
+        if done.stop.is_some() {
+            return done;
+        }
+        let visit = CornerVisit {
+            node,
+            corner: 0,
+            leaves: done.leaves,
+            left: done.left,
+        };
+        done = run_from_corner(task, visit, own, model, scratch, slices);
+    }
+    done
+}
+
+// What is left from where a job stands. Its first node clears all corners that are lent, which may hold
+// anything.
+pub fn run_from(
     task: Task,
     at: Standing,
     model: &ImplicitModel,
     scratch: &mut [f64; 4096],
-    kinds: &[u8],
-    store: &mut [f64],
-    corners: &mut [f64],
-) -> Turn
+    slices: &mut Slices,
+) -> Progress
     requires sized { Sized task.grid }
-    requires evaluable { Evaluable (plan task model.now) at kinds.now store.old corners.old }
-    ensures { (numbers : List Float) (places : List ℕ)
-        → Standable (plan task model.now) at
-        (memory_of kinds.now numbers places store.old corners.old)
-        → TurnMade task.grid (plan task model.now) at
-        (memory_of kinds.now numbers places store.old corners.old)
-        (memory_of kinds.now numbers places store.new corners.new) result }
+    requires standable { Standable (plan task model.now) at (held slices.old) }
+    ensures slices { SameSlices slices.old slices.new }
+    ensures advanced { Advanced (plan task model.now) at.left at.leaves (held slices.old) (held slices.new)
+        (events_from (plan task model.now) at.cursor (reading_in (held slices.old))) [] result
+        (active_all (plan task model.now)) }
 {
-    let g = task.grid;
     let leaves = at.leaves;
     let left = at.left;
-    let cursor = at.cursor;
-    match cursor {
-        Cursor::End => {
-            let stop = Stop::Through;
-            let done = Progress { leaves, left, stop };
-            Turn::Stopped(done)
-        }
-        Cursor::Corner(node, place) => {
-            let n = g.inner as usize;
-            let bounds = grid::node_box(g, node);
-            let children = grid::cube_of(n);
-            let first = node * children;
-            let end = rows::run_corners(
-                model,
-                bounds,
-                g.inner,
-                &kinds[first..first + children],
-                place,
-                left,
-                scratch,
-                corners,
-            );
-            let left = end.left;
-            if end.next < grid::cube_of(n + 1) {
-                let stop = Stop::At(Cursor::Corner(node, end.next));
-                let done = Progress { leaves, left, stop };
-                return Turn::Stopped(done);
-            }
-            let visit = Visit {
+    let all = slices.corners.len();
+    match at.cursor {
+        Cursor::End => Progress {
+            leaves,
+            left,
+            stop: None,
+        },
+        Cursor::Corner(node, corner) => {
+            let visit = CornerVisit {
                 node,
-                bounds,
-                place: 0,
+                corner,
                 leaves,
                 left,
             };
-            Turn::Children(visit)
+            let done = run_from_corner(task, visit, all, model, scratch, slices);
+            run_nodes(task, node + 1, done, model, scratch, slices)
         }
         Cursor::Point(node, child, point) => {
-            let bounds = grid::node_box(g, node);
-            let lies = grid::child_box(bounds, g.inner, child);
             let leaf = LeafVisit {
                 node,
                 child,
@@ -82,84 +253,8 @@ fn evaluate_from(
                 leaves,
                 left,
             };
-            let done = children::leaf_from(model, lies, g.leaf, leaf, scratch, store);
-            let stop = done.stop;
-            if let Stop::At(_) = stop {
-                return Turn::Stopped(done);
-            }
-            let place = child + 1;
-            let visit = Visit {
-                node,
-                bounds,
-                place,
-                leaves: done.leaves,
-                left: done.left,
-            };
-            Turn::Children(visit)
-        }
-    }
-}
-
-// Clears the corners up to `used`, where the others are +0 already: then all are.
-fn clear_corners(used: usize, corners: &mut [f64])
-    requires { (used ≤ length corners.old) × ZeroFrom used corners.old }
-    ensures { corners.new ≡ replicate (length corners.old) plus_zero }
-{
-    corners[..used].fill(0.0);
-}
-
-// What is left from where a job stands. A node's corners are cleared past its last child: at first all
-// that are lent, which may hold anything, and then those that a node has.
-pub fn run_from(
-    task: Task,
-    standing: Standing,
-    model: &ImplicitModel,
-    scratch: &mut [f64; 4096],
-    kinds: &mut [u8],
-    numbers: &mut [f64],
-    places: &mut [u32],
-    store: &mut [f64],
-    corners: &mut [f64],
-) -> Progress
-    requires sized { Sized task.grid }
-    requires standable { Standable (plan task model.now) standing
-        (memory_of kinds.old numbers.old places.old store.old corners.old) }
-    ensures { Advanced (plan task model.now) standing.left standing.leaves
-        (memory_of kinds.old numbers.old places.old store.old corners.old)
-        (memory_of kinds.new numbers.new places.new store.new corners.new)
-        (events_from (plan task model.now) standing.cursor (reading_in
-        (memory_of kinds.old numbers.old places.old store.old corners.old))) [] result
-        (active_all (plan task model.now)) }
-{
-    let nodes = grid::node_total(task.grid);
-    let own = grid::cube_of((task.grid.inner as usize) + 1);
-    let mut used = corners.len();
-    let mut at = standing;
-    loop {
-        let turn = evaluate_from(task, at, model, scratch, kinds, store, corners);
-        match turn {
-            Turn::Stopped(done) => return done,
-            Turn::Children(visit) => {
-                let done = children::run_children(
-                    task, visit, model, scratch, kinds, numbers, places, store, corners,
-                );
-                let stop = done.stop;
-                if let Stop::At(_) = stop {
-                    return done;
-                }
-                clear_corners(used, corners);
-                used = own;
-                let node = visit.node + 1;
-                if node == nodes {
-                    return done;
-                }
-                let cursor = Cursor::Corner(node, 0);
-                at = Standing {
-                    cursor,
-                    leaves: done.leaves,
-                    left: done.left,
-                };
-            }
+            let done = run_from_point(task, leaf, all, model, scratch, slices);
+            run_nodes(task, node + 1, done, model, scratch, slices)
         }
     }
 }

@@ -1,42 +1,60 @@
--- A child's turn: what is decided, and the points that follow where it has become a leaf.
-use Rattle.std.specs.Prelude.{ℕ, suc, ◌+◌, ◌*◌, ◌-◌, ◌≤◌, min, ◌≡◌, List, Float, length}
-use Rattle.lists.specs.Filled.{filled}
-use Rattle.geometry.specs.Values.{at}
-use Rattle.grid.specs.declared.Grid.{Grid}
+-- What a decision makes of a child.
+use Rattle.std.specs.Prelude.{ℕ, ◌+◌, ◌*◌, ◌≤◌, ◌<◌, cond, eqb, set, get_or, length, Option, Some, None}
+use Rattle.geometry.specs.declared.BoundingBox.{BoundingBox}
 use Rattle.grid.specs.Blocks.{cube}
-use Rattle.grid.specs.Leaves.{leaf_point}
+use Rattle.grid.specs.Boxes.{child_box}
+use Rattle.grid.specs.Inner.Octets.{octet_values}
+use Rattle.grid.specs.declared.Verdict.{Verdict}
+use Rattle.grid.specs.declared.Verdict.TheVariants.{Constant, Leaf}
+use Rattle.grid.specs.Kinds.{kind_number}
+use Rattle.grid.specs.Pruning.{verdict_of}
 use Rattle.schedule.specs.Memory.{Memory}
 use Rattle.schedule.specs.Lent.{memory_of}
 use Rattle.engine.specs.declared.Task.{Task}
 use Rattle.engine.specs.declared.Visit.{Visit}
-use Rattle.engine.specs.declared.Progress.{Progress}
-use Rattle.engine.specs.declared.Stop.TheVariants.{Through}
-use Rattle.engine.specs.declared.Decision.{Decision}
-use Rattle.engine.specs.declared.Decision.TheVariants.{Passed, Leaf}
-use Rattle.engine.specs.Inner.Progress.{plan_by, Ready, ChildrenAdvanced, progress, leaf_progress}
 
--- the four slices that a decision reads or writes are ready for a child, beside some store and some value at a point
-pub record Decidable (task : Task) (w : Visit) (kinds : List ℕ) (numbers : List Float) (places : List ℕ) (corners : List Float) : Type 0 where
-  pub value : Float → Float → Float → Float
-  pub store : List Float
-  pub ready : Ready (plan_by task value) w.node w.place w.leaves (memory_of kinds numbers places store corners)
+-- a child's place among all children
+abbrev pub place_of : Task → Visit → ℕ
+place_of task w = w.node * cube task.grid.inner + w.place
 
--- a leaf more has its stretch in the store
-abbrev pub Fits : Grid → Visit → Decision → List Float → Type 0
-Fits g w Passed store = Unit {0}
-Fits g w (Leaf box) store = (w.leaves + 1) * cube g.leaf ≤ length store
+-- its box
+abbrev pub box_at : Task → Visit → BoundingBox
+box_at task w = child_box w.bounds task.grid.inner w.place
 
--- the points of a child that has been decided: none, or those of a new leaf while the budget lasts
-abbrev pub PointsMade : Grid → (Float → Float → Float → Float) → Visit → Decision → (before after : List Float) → Progress → Type 0
-PointsMade g value w Passed before after r = (r ≡ progress w.leaves w.left Through) × (after ≡ before)
-PointsMade g value w (Leaf box) before after r =
-    (r ≡ leaf_progress (w.leaves + 1) w.left w.node w.place 0 (cube g.leaf))
-    × (after ≡ filled ((w.leaves + 1 - 1) * cube g.leaf + 0) (min w.left (cube g.leaf - 0))
-    (λ q. at value (leaf_point box g.leaf (q - (w.leaves + 1 - 1) * cube g.leaf))) before)
+-- the verdict on it, by the corners
+abbrev pub verdict_at : Task → Visit → Memory → Verdict
+verdict_at task w m = verdict_of task.band.min task.band.max (box_at task w) (octet_values m.corners task.grid.inner w.place)
 
--- a child has been decided: with its points, its turn is through or has stopped
-pub record Decided (task : Task) (value : Float → Float → Float → Float) (w : Visit) (m m' : Memory) (decision : Decision) : Type 0 where
-  pub fits : Fits task.grid w decision m.store
-  pub then : (after : List Float) (r : Progress) → PointsMade task.grid value w decision m.store after r
-      → ChildrenAdvanced (plan_by task value) w.node w.place (suc w.place) w.left w.leaves m
-      (memory_of m'.kinds m'.numbers m'.places after m'.corners) r
+-- the memory after a verdict (rules S7 and S8)
+abbrev pub judged : Task → Visit → Memory → Verdict → Memory
+judged task w m (Constant k x) =
+    let j = place_of task w in
+    memory_of (set m.kinds j (kind_number k)) (set m.numbers j x) m.places m.store m.corners
+judged task w m Leaf =
+    let j = place_of task w in
+    memory_of (set m.kinds j 2) m.numbers (set m.places j w.leaves) m.store m.corners
+
+-- the box of a child that becomes a leaf
+abbrev pub if_leaf : BoundingBox → Verdict → Option BoundingBox
+if_leaf box (Constant k x) = None
+if_leaf box Leaf = Some box
+
+-- the memory after a child's decision; one that is not active is passed over
+abbrev pub decided : Task → Visit → Memory → Memory
+decided task w m = cond (eqb (get_or m.kinds (place_of task w) 0) 0) m (judged task w m (verdict_at task w m))
+
+-- the box of a new leaf
+abbrev pub leaf_box : Task → Visit → Memory → Option BoundingBox
+leaf_box task w m = cond (eqb (get_or m.kinds (place_of task w) 0) 0) None (if_leaf (box_at task w) (verdict_at task w m))
+
+-- a child's places are inside the slices
+pub record Decidable (task : Task) (w : Visit) (m : Memory) : Type 0 where
+  pub inner_least : 0 < task.grid.inner
+  pub inner_most : task.grid.inner ≤ 64
+  pub below : w.place < cube task.grid.inner
+  pub few : place_of task w < 16777216
+  pub kinds : place_of task w < length m.kinds
+  pub numbers : place_of task w < length m.numbers
+  pub places : place_of task w < length m.places
+  pub leaves : w.leaves ≤ 16777216
+  pub corners : cube (task.grid.inner + 1) ≤ length m.corners

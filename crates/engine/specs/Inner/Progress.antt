@@ -1,5 +1,5 @@
 -- How far a function of the engine has come, and what is left to do after it.
-use Rattle.std.specs.Prelude.{ℕ, suc, ◌+◌, ◌*◌, ◌-◌, ◌≤◌, ◌<◌, min, cond, ltb, ◌≡◌, List, length, get_or, Float}
+use Rattle.std.specs.Prelude.{ℕ, suc, ◌+◌, ◌*◌, ◌-◌, ◌≤◌, ◌<◌, min, cond, ltb, ◌≡◌, List, length, get_or, Float, Option, Some, None}
 use Rattle.grid.specs.declared.Grid.{Grid}
 use Rattle.grid.specs.Blocks.{cube}
 use Rattle.grid.specs.Nodes.{nodes_of}
@@ -12,8 +12,7 @@ use Rattle.schedule.specs.Totals.{active_before, active_all}
 use Rattle.schedule.specs.Opened.{ActiveKinds}
 use Rattle.engine.specs.declared.Progress.{Progress}
 use Rattle.engine.specs.declared.Task.{Task}
-use Rattle.engine.specs.declared.Stop.{Stop}
-use Rattle.engine.specs.declared.Stop.TheVariants.{Through, At}
+use Rattle.schedule.specs.declared.Cursor.{Cursor}
 use Rattle.schedule.specs.declared.Cursor.TheVariants.{Point}
 use Rattle.plans.specs.Plan.{plan_with, decide_by}
 use Rattle.model.specs.declared.ImplicitModel.{ImplicitModel}
@@ -45,17 +44,17 @@ pub record Lent (P : Plan) (m : Memory) : Type 0 where
   pub active_kinds : ActiveKinds P m.kinds
 
 -- what comes of the events es after a function has stopped, or come through, in state s with so much of the budget left
-abbrev pub after_stop : Plan → State → ℕ → Stop → List Event → Run
-after_stop P s left Through es = run_of P left es s
-after_stop P s left (At a) es = record { state = s; cursor = a; left = left }
+abbrev pub after_stop : Plan → State → ℕ → Option Cursor → List Event → Run
+after_stop P s left None es = run_of P left es s
+after_stop P s left (Some a) es = record { state = s; cursor = a; left = left }
 
 -- where a function has come through, a fact holds
-abbrev pub IfThrough : Stop → Type 0 → Type 0
-IfThrough Through A = A
-IfThrough (At a) A = Unit {0}
+abbrev pub IfThrough : Option Cursor → Type 0 → Type 0
+IfThrough None A = A
+IfThrough (Some a) A = Unit {0}
 
 -- progress by its parts
-abbrev pub progress : ℕ → ℕ → Stop → Progress
+abbrev pub progress : ℕ → ℕ → Option Cursor → Progress
 progress leaves left stop = record { leaves = leaves; left = left; stop = stop }
 
 -- a state by its memory and its leaves
@@ -88,10 +87,6 @@ ChildrenAdvanced P v c c' b leaves m m' r =
 abbrev pub ZeroCorners : Memory → Type 0
 ZeroCorners m = (i : ℕ) → reading_in m i ≡ plus_zero
 
--- every corner from a place on holds +0
-abbrev pub ZeroFrom : ℕ → List Float → Type 0
-ZeroFrom used corners = (i : ℕ) → used ≤ i → get_or corners i plus_zero ≡ plus_zero
-
 -- the rest of node v, of which `from` is left
 pub record NodeAdvanced (P : Plan) (v b leaves : ℕ) (m m' : Memory) (from : List Event) (r : Progress) : Type 0 where
   pub advanced : Advanced P b leaves m m' from (nodes_left P (suc v)) r (active_before P (suc v) 0)
@@ -101,4 +96,4 @@ pub record NodeAdvanced (P : Plan) (v b leaves : ℕ) (m m' : Memory) (from : Li
 unfoldable pub leaf_progress : (leaves b v c p points : ℕ) → Progress
 leaf_progress leaves b v c p points =
     let r = min b (points - p) in
-    record { leaves = leaves; left = b - r; stop = cond (ltb (p + r) points) (At (Point v c (p + r))) Through }
+    record { leaves = leaves; left = b - r; stop = cond (ltb (p + r) points) (Some (Point v c (p + r))) None }

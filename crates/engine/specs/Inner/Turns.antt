@@ -1,21 +1,14 @@
--- Where a job stands, and what the evaluations at its cursor come to.
-use Rattle.std.specs.Prelude.{ℕ, ◌≤◌, ◌<◌, ◌≡◌, List, [], Float}
-use Rattle.grid.specs.declared.Grid.{Grid}
-use Rattle.grid.specs.Boxes.{node_box}
+-- Where a job stands, and how its work goes on from node to node.
+use Rattle.std.specs.Prelude.{ℕ, ◌≤◌, ◌≡◌, List, length, get_or, Float}
+use Rattle.float.specs.Zero.{plus_zero}
+use Rattle.schedule.specs.Schedule.{Event}
 use Rattle.schedule.specs.Plan.{Plan}
-use Rattle.schedule.specs.declared.Cursor.{Cursor}
-use Rattle.schedule.specs.declared.Cursor.TheVariants.{End, Corner, Point}
-use Rattle.schedule.specs.Resume.{events_from, children_left}
 use Rattle.schedule.specs.Memory.{Memory}
 use Rattle.schedule.specs.Totals.{active_before, active_all}
-use Rattle.schedule.specs.Lent.{memory_of}
 use Rattle.engine.specs.declared.Standing.{Standing}
-use Rattle.engine.specs.declared.Visit.{Visit}
-use Rattle.engine.specs.declared.Stop.TheVariants.{Through}
-use Rattle.engine.specs.declared.Turn.{Turn}
-use Rattle.engine.specs.declared.Turn.TheVariants.{Stopped, Children}
+use Rattle.engine.specs.declared.Progress.{Progress}
 use Rattle.engine.specs.Inner.Startable.{Startable}
-use Rattle.engine.specs.Inner.Progress.{Lent, Advanced, reading_in, progress}
+use Rattle.engine.specs.Inner.Progress.{Lent, IfThrough, ZeroCorners, after_stop, state_in}
 
 -- a job that may go on in memory m
 pub record Standable (P : Plan) (at : Standing) (m : Memory) : Type 0 where
@@ -23,33 +16,25 @@ pub record Standable (P : Plan) (at : Standing) (m : Memory) : Type 0 where
   pub startable : Startable P at.cursor at.leaves
   pub few : at.leaves ≤ active_all P
 
--- the same of the three slices that evaluations read or write, beside some numbers and places
-pub record Evaluable (P : Plan) (at : Standing) (kinds : List ℕ) (store corners : List Float) : Type 0 where
-  pub numbers : List Float
-  pub places : List ℕ
-  pub standable : Standable P at (memory_of kinds numbers places store corners)
+-- Work has gone as far as r₀ says, with the events `from` left. From there it has gone as far as r says, to memory m', with `to` left; and if
+-- it has come through, at most `most` leaves are there.
+pub record Continued (P : Plan) (r₀ : Progress) (m m' : Memory) (from to : List Event) (r : Progress) (most : ℕ) : Type 0 where
+  pub same : after_stop P (state_in m r₀.leaves) r₀.left r₀.stop from ≡ after_stop P (state_in m' r.leaves) r.left r.stop to
+  pub lent : Lent P m'
+  pub at_most : IfThrough r.stop (r.leaves ≤ most)
 
--- the node of a cursor; at the end there is none
-abbrev pub node_of : Plan → Cursor → ℕ
-node_of P End = P.nodes
-node_of P (Corner v i) = v
-node_of P (Point v c p) = v
+-- if work has come through, node v may begin in memory m
+pub record NodesReady (P : Plan) (v : ℕ) (r : Progress) (m : Memory) : Type 0 where
+  pub lent : Lent P m
+  pub at_most : IfThrough r.stop (r.leaves ≤ active_before P v 0)
+  pub cleared : IfThrough r.stop (ZeroCorners m)
 
--- the evaluations at a cursor have come to children of its node
-pub record Begun (g : Grid) (P : Plan) (at : Standing) (m m' : Memory) (w : Visit) : Type 0 where
-  pub advanced : Advanced P at.left at.leaves m m' (events_from P at.cursor (reading_in m))
-      (children_left P w.node w.place (reading_in m')) (progress w.leaves w.left Through) (active_before P w.node w.place)
-  pub same : w.node ≡ node_of P at.cursor
-  pub inside : w.node < P.nodes
-  pub place : w.place ≤ P.children
-  pub boxed : w.bounds ≡ node_box g w.node
+-- corners from a place on are as they were
+pub record SameBehind (used : ℕ) (before after : List Float) : Type 0 where
+  pub long : length after ≡ length before
+  pub same : (i : ℕ) → used ≤ i → get_or after i plus_zero ≡ get_or before i plus_zero
 
--- or they have stopped
-abbrev pub Came : Grid → Plan → Standing → (m m' : Memory) → Turn → Type 0
-Came g P at m m' (Stopped r) = Advanced P at.left at.leaves m m' (events_from P at.cursor (reading_in m)) [] r (active_all P)
-Came g P at m m' (Children w) = Begun g P at m m' w
-
-pub record TurnMade (g : Grid) (P : Plan) (at : Standing) (m m' : Memory) (r : Turn) : Type 0 where
-  pub came : Came g P at m m' r
-  -- the corners past a node's are as they were
-  pub past : (i : ℕ) → P.corners ≤ i → reading_in m' i ≡ reading_in m i
+-- corners from a place on hold +0
+pub record CleanBehind (used : ℕ) (corners : List Float) : Type 0 where
+  pub within : used ≤ length corners
+  pub zero : (i : ℕ) → used ≤ i → get_or corners i plus_zero ≡ plus_zero

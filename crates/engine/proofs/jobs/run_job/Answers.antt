@@ -1,7 +1,7 @@
 -- The model has the input's plan.
 use Rattle.std.proofs.Common.{◌≤◌, subst}
 use Rattle.schedule.specs.Totals.{active_all}
-use Rattle.schedule.specs.Lent.{memory_of}
+use Rattle.schedule.specs.Lent.{held}
 use Rattle.engine.specs.Inner.Progress.{Lent}
 use Rattle.engine.specs.Inner.Startable.{Startable}
 use Rattle.engine.proofs.JobLaws.{same_plan, with_plan}
@@ -10,12 +10,11 @@ use Rattle.engine.proofs.jobs.run_job.Goals as goal
 pub run_from-requires-clause-standable : goal.run_from-requires-clause-standable
 run_from-requires-clause-standable c =
     let a = c.args in
-    let m = memory_of a.kinds.now a.numbers.now a.places.now a.store.now a.corners.now in
-    let ok = subst (λ P. Lent P m × Startable P a.cursor a.leaves × (a.leaves ≤ active_all P)) (same_plan a.input c.requires.sized.1) c.requires.lent in
+    let m = held a.slices.now in
+    let ok = subst (λ P. Lent P m × Startable P a.at.cursor a.at.leaves × (a.at.leaves ≤ active_all P)) (same_plan a.input.now c.requires.sized.1) c.requires.lent in
     record { lent = ok.0; startable = ok.1; few = ok.2 }
 
-pub returns : goal.returns
-returns c =
+pub returns-clause-advanced : goal.returns-clause-advanced
+returns-clause-advanced c =
     let a = c.args in
-    with_plan _ _ _ _ a.cursor (memory_of a.kinds.now a.numbers.now a.places.now a.store.now a.corners.now)
-    (same_plan a.input c.requires.sized.1) c.run_from.ensures
+    with_plan _ _ _ _ a.at.cursor (held a.slices.now) (same_plan a.input.now c.requires.sized.1) c.run_from.ensures.advanced
