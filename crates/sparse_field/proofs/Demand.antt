@@ -1,6 +1,4 @@
 -- DEMAND 3: the ledger theorem of the schedule, for the inputs of sparse fields. specs/Demand has the statements.
-use Rattle.schedule.specs.Calls.{run}
-use Rattle.schedule.specs.Engine.{engine_call}
 use Rattle.schedule.proofs.LedgerTheorem.{ledger_theorem}
 use Rattle.schedule.proofs.AfterDrop.{drop_zeros}
 use Rattle.schedule.proofs.Budgets.{equal_budgets}
@@ -20,10 +18,7 @@ pub equal_elements : EqualBudgets
 equal_elements = equal_budgets sparse sparse_laws
 
 pub finished_field : FinishedField
-finished_field cs e none opened ends = (
-  finished_job sparse sparse_laws long_enough cs e none opened ends,
-  own_corners (run (engine_call sparse) cs e).last.job_record.job.input,
-)
+finished_field cs e none j opened ends = (finished_job sparse sparse_laws long_enough cs e none j opened ends, own_corners j.input)
 
 pub leaves_numbered : LeavesNumbered
 leaves_numbered = numbered_job sparse sparse_laws long_enough constant_not_leaf

@@ -1,13 +1,9 @@
 -- The whole judgement of a record, by its tests in turn: its input, its lengths and its kinds, and then how far its grid's job is.
 use mathlib.Core.Path.{◌≡◌, refl, ◌∙◌}
 use mathlib.Core.Bool.{Bool, true, false, not, ◌&&◌, ◌||◌}
-use mathlib.Core.List.{List}
-use Prim.Native.Nat.{ℕ}
 use native.Mathlib.Nat.{zero-add}
 use lib.Dec.{ltb, eqb}
-use lib.ListN.{length}
-use lib.Ieee.{Float}
-use borrow.Author.Tests.{eqb-true, not-false}
+use borrow.Author.Tests.{not-false}
 use Rattle.lists.specs.Flags.{agrees_from}
 use Rattle.lists.proofs.Flags.{agrees_each}
 use Rattle.input.specs.declared.Input.{Input}
@@ -21,10 +17,10 @@ use Rattle.schedule.specs.declared.Job.{Job}
 use Rattle.schedule.specs.declared.Cursor.{Cursor}
 use Rattle.schedule.specs.declared.Cursor.TheVariants.{End, Corner, Point}
 use Rattle.schedule.specs.Totals.{count_before, count_all, active_up_to, evaluations_bound}
-use Rattle.schedule.specs.Opened.{active_at}
+use Rattle.schedule.specs.Opened.{lengths_of, active_at}
 use Rattle.schedule.specs.Counts.{counts_with, same_counts}
 use Rattle.schedule.specs.Possible.{same_lengths, valid_cursor, inside_child, impossible}
-use Rattle.schedule.specs.Lent.{memory_of}
+use Rattle.schedule.specs.Memory.{Memory}
 use Rattle.plans.specs.Plan.{plan_with, plan_of}
 use Rattle.plans.specs.Sparse.{sparse}
 use Rattle.plans.specs.Inner.GridPlan.{grid_plan}
@@ -52,9 +48,9 @@ module _ (a b c d e f g h : Bool) where
   judged_rest : a ≡ false → b ≡ false → c ≡ false → {x : Bool} → x ≡ (d || e || f || g || h) → x ≡ (a || b || c || d || e || f || g || h)
   judged_rest p q r x = rw (p, q, r) x
 
-module _ (j : Job) (ks : List ℕ) (ns : List Float) (ps : List ℕ) (st cs : List Float) where
+module _ (j : Job) (m : Memory) where
   abbrev lent_now : Lengths
-  lent_now = record { kinds = length ks; numbers = length ns; places = length ps; store = length st; corners = length cs }
+  lent_now = lengths_of m
 
   abbrev meets_cause : Bool
   meets_cause = is_err (refusal_of j.input lent_now)
@@ -63,7 +59,7 @@ module _ (j : Job) (ks : List ℕ) (ns : List Float) (ps : List ℕ) (st cs : Li
   other_lengths = not (same_lengths j.lengths lent_now)
 
   abbrev other_kinds : Bool
-  other_kinds = not (agrees_from (active_at (plan_of j.input)) 0 ks)
+  other_kinds = not (agrees_from (active_at (plan_of j.input)) 0 m.kinds)
 
   abbrev other_counts : Bool
   other_counts = not (same_counts j.counts (counts_with (plan_of j.input) j.counts.leaves j.counts.evaluations))
@@ -81,7 +77,7 @@ module _ (j : Job) (ks : List ℕ) (ns : List Float) (ps : List ℕ) (st cs : Li
   no_leaf = inside_child j.cursor && eqb j.counts.leaves 0
 
   abbrev is_impossible : Bool
-  is_impossible = impossible sparse j (memory_of ks ns ps st cs)
+  is_impossible = impossible sparse j m
 
   pub impossible_cause : meets_cause ≡ true → true ≡ is_impossible
   unfolding impossible
@@ -101,7 +97,7 @@ module _ (j : Job) (ks : List ℕ) (ns : List Float) (ps : List ℕ) (st cs : Li
       impossible_kinds c = judged_third meets_cause other_lengths other_kinds other_counts many_evaluations other_cursor many_leaves no_leaf a b c
 
       module _ (c : other_kinds ≡ false) where
-        pub possible_kinds : RightKinds j.input.grid ks
+        pub possible_kinds : RightKinds j.input.grid m.kinds
         unfolding plan_with
         possible_kinds =
             let n = possible_input in
@@ -109,7 +105,7 @@ module _ (j : Job) (ks : List ℕ) (ns : List Float) (ps : List ℕ) (st cs : Li
               two = n.two;
               five = n.five;
               long = n.lent.kinds;
-              right = λ p h. rw zero-add at (agrees_each (active_at (plan_of j.input)) ks 0 (not-false _ c) p h);
+              right = λ p h. rw zero-add at (agrees_each (active_at (plan_of j.input)) m.kinds 0 (not-false _ c) p h);
             }
 
         pub impossible_progress : {x : Bool} → x ≡ wrong_progress (grid_plan j.input.grid) j.counts j.cursor → x ≡ is_impossible

@@ -4,7 +4,7 @@ use mathlib.Core.Path.{◌≡◌, sym, ap, subst, ◌∙◌}
 use mathlib.Core.List.{[]}
 use native.Mathlib.Nat.{mul-pos}
 use native.Mathlib.Omega.{arith}
-use Rattle.std.specs.Prelude.{Ok}
+use Rattle.std.specs.Prelude.{Ok, Some}
 use Rattle.float.specs.Zero.{plus_zero}
 use Rattle.input.specs.declared.Lengths.{Lengths}
 use Rattle.grid.specs.Blocks.{cube}
@@ -126,12 +126,12 @@ module _ (i : Input) (l : Lengths) (none : sparse.answer l i ≡ Ok tt) where
   pub opened_after : {m m₁ : Memory} {r : Progress} → m ≡ start_memory i l
       → Advanced P 0 0 m m₁ (events_from P (Corner 0 0) (reading_in m)) [] r (active_all P)
       → opened_engine sparse i l
-      ≡ record { job_record = reached i l r.leaves 0 (cursor_at r.stop); memory = m₁ }
+      ≡ record { job = Some (reached i l r.leaves 0 (cursor_at r.stop)); memory = m₁ }
   unfolding opens.opened
   opened_after {m} {m₁} {r} start done =
       let none : 0 + (0 - r.left) ≡ 0 = omega arith in
       engine_after i l 0 0 0 (active_all P) (start_memory i l) m₁ (schedule P) r (start_done start done)
-      ∙ ap (λ k. record { job_record = reached i l r.leaves k (cursor_at r.stop); memory = m₁ }) none
+      ∙ ap (λ k. record { job = Some (reached i l r.leaves k (cursor_at r.stop)); memory = m₁ }) none
 
   -- its leaves are among the active children
   pub opened_leaves : {m m₁ : Memory} {r : Progress} → m ≡ start_memory i l

@@ -1,7 +1,6 @@
 -- What a call hands back, from where its work has come to.
 use Prim.Native.Nat.{ℕ, ◌+◌, ◌-◌, ◌≤◌}
 use mathlib.Core.Path.{◌≡◌, refl, ap, ◌∙◌}
-use mathlib.Core.Bool.{true}
 use mathlib.Core.List.{List, []}
 use native.Mathlib.Omega.{arith}
 use Rattle.schedule.specs.Schedule.{Event}
@@ -25,25 +24,24 @@ use Rattle.schedule.proofs.EventCounts.{left_bound}
 use Rattle.schedule.proofs.Resume.{resume_within}
 use Rattle.input.specs.declared.Input.{Input}
 use Rattle.schedule.specs.declared.Cursor.{Cursor}
-use Rattle.schedule.specs.declared.Record.{Record}
+use Rattle.schedule.specs.declared.Job.{Job}
 use Rattle.engine.specs.declared.Progress.{Progress}
-use Rattle.engine.specs.declared.Stop.{Stop}
-use Rattle.engine.specs.declared.Stop.TheVariants.{Through, At}
+use Rattle.std.specs.Prelude.{Option, Some, None}
 use Rattle.plans.specs.Plan.{plan_of, plan_with}
 use Rattle.engine.specs.Inner.Runs.{run_of}
 use Rattle.engine.specs.Inner.Progress.{state_in, Advanced, after_stop, reading_in}
 use Rattle.plans.specs.Sparse.{sparse}
-use Rattle.sparse_field.specs.Inner.Parts.{cursor_at, record_at}
+use Rattle.sparse_field.specs.Inner.Parts.{cursor_at, job_at}
 use Rattle.engine.proofs.RunLaws.{run_end}
 
 -- where nothing follows, a function that came through is at the end
-stop_ends : (P : Plan) (s : State) (left : ℕ) (x : Stop) → after_stop P s left x [] ≡ record { state = s; cursor = cursor_at x; left = left }
-stop_ends P s left Through = run_end P left s
-stop_ends P s left (At a) = refl
+stop_ends : (P : Plan) (s : State) (left : ℕ) (x : Option Cursor) → after_stop P s left x [] ≡ record { state = s; cursor = cursor_at x; left = left }
+stop_ends P s left None = run_end P left s
+stop_ends P s left (Some a) = refl
 
--- the record of an input's job with n leaves and k evaluations, at a cursor
-abbrev pub reached : Input → Lengths → (n k : ℕ) → Cursor → Record
-reached i l n k a = record { opened = true; job = record { input = i; lengths = l; counts = counts_with (plan_of i) n k; cursor = a } }
+-- an input's job with n leaves and k evaluations, at a cursor
+abbrev pub reached : Input → Lengths → (n k : ℕ) → Cursor → Job
+reached i l n k a = record { input = i; lengths = l; counts = counts_with (plan_of i) n k; cursor = a }
 
 module _ (i : Input) (l : Lengths) (k b leaves most : ℕ) (m m₁ : Memory) (es : List Event) (r : Progress)
     (done : Advanced (plan_of i) b leaves m m₁ es [] r most) where
@@ -67,12 +65,12 @@ module _ (i : Input) (l : Lengths) (k b leaves most : ℕ) (m m₁ : Memory) (es
 
   -- the engine with the job, after the budget
   pub engine_after : advanced sparse i l k (state_in m leaves) (split b es)
-      ≡ record { job_record = reached i l r.leaves (k + (b - r.left)) (cursor_at r.stop); memory = m₁ }
+      ≡ record { job = Some (reached i l r.leaves (k + (b - r.left)) (cursor_at r.stop)); memory = m₁ }
   unfolding advanced run_of
   engine_after =
       let state : apply_all (plan_of i) (split b es).made (state_in m leaves) ≡ state_in m₁ r.leaves = ap (λ x. x.state) final in
       let cursor : cursor_of (split b es).rest ≡ cursor_at r.stop = ap (λ x. x.cursor) final in
-      λ t. record { job_record = reached i l (state t).leaves (k + made t) (cursor t); memory = (state t).memory }
+      λ t. record { job = Some (reached i l (state t).leaves (k + made t) (cursor t)); memory = (state t).memory }
 
 -- ---- from a cursor of the plan
 
@@ -95,12 +93,12 @@ module _ (i : Input) (laws : PlanLaws (plan_of i)) (b leaves most : ℕ) (m m₁
       let es : List Event = events_from P a (reading_in m) in
       omega (arith, made i (lengths_of m) 0 b leaves most m m₁ es r done, split_made b es, left_bound P a (reading_in m) valid)
 
--- ---- the record
+-- ---- the job
 
--- the record that the code makes is the engine's
-pub record_same : (i : Input) {l k : Lengths} {counted : GridCounts} {evaluated n : ℕ} (r : Progress) → l ≡ k → counted ≡ grid_counts (plan_of i) → evaluated ≡ n
-    → record_at i l counted r.leaves (cube i.grid.leaf) evaluated r.stop
+-- the job that the code makes is the engine's
+pub job_same : (i : Input) {l k : Lengths} {counted : GridCounts} {evaluated n : ℕ} (r : Progress) → l ≡ k → counted ≡ grid_counts (plan_of i) → evaluated ≡ n
+    → job_at i l counted r.leaves (cube i.grid.leaf) evaluated r.stop
     ≡ reached i k r.leaves n (cursor_at r.stop)
 unfolding plan_with
-record_same i r lengths counted evaluated =
-    λ t. record_at i (lengths t) (counted t) r.leaves (cube i.grid.leaf) (evaluated t) r.stop
+job_same i r lengths counted evaluated =
+    λ t. job_at i (lengths t) (counted t) r.leaves (cube i.grid.leaf) (evaluated t) r.stop

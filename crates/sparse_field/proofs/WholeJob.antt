@@ -2,18 +2,17 @@
 use Prim.Native.Nat.{ℕ, ◌+◌, ◌-◌, ◌≤◌, min}
 use native.Mathlib.Omega.{arith}
 use mathlib.Core.Path.{◌≡◌, refl, ap, subst, ◌∙◌}
-use mathlib.Core.Bool.{true, false}
-use Rattle.std.specs.Prelude.{Ok}
+use mathlib.Core.Bool.{false}
+use Rattle.std.specs.Prelude.{Ok, Option, Some}
 use Rattle.schedule.specs.Plan.{Plan}
 use Rattle.schedule.specs.Memory.{Memory}
 use Rattle.schedule.specs.Totals.{total}
 use Rattle.input.specs.declared.Lengths.{Lengths}
 use Rattle.schedule.specs.Opened.{lengths_of, state_at}
 use Rattle.schedule.specs.Finished.{Finished}
-use Rattle.schedule.specs.declared.Record.{Record}
+use Rattle.schedule.specs.declared.Job.{Job}
 use Rattle.schedule.specs.declared.Cursor.TheVariants.{End}
 use Rattle.schedule.specs.Calls.{opens, steps}
-use Rattle.schedule.specs.NoRecord.{no_record}
 use Rattle.schedule.specs.Ledger.{job_ledger, ledger_open, ledger_step, ledger_call, first_ledger}
 use Rattle.schedule.specs.Possible.{impossible}
 use Rattle.schedule.proofs.Finished.{finished_memory}
@@ -27,8 +26,8 @@ use Rattle.sparse_field.proofs.CallLaws.{accepted_with, open_accepted}
 use Rattle.plans.proofs.Lawful.{sparse_laws, long_enough}
 
 -- the record of an input's job after k evaluations
-abbrev pub record_after : Lengths → Input → ℕ → Record
-record_after l i k = record { opened = true; job = job_at sparse l i k }
+abbrev pub record_after : Lengths → Input → ℕ → Option Job
+record_after l i k = Some (job_at sparse l i k)
 
 module _ (i : Input) (m : Memory) (none : sparse.answer (lengths_of m) i ≡ Ok tt) where
   abbrev P : Plan
@@ -38,14 +37,14 @@ module _ (i : Input) (m : Memory) (none : sparse.answer (lengths_of m) i ≡ Ok 
   l = lengths_of m
 
   -- open
-  pub job_opened : (r : Record) → called (opens i) r m ≡ accepted_with (engine_at sparse (lengths_of m) i 0)
+  pub job_opened : (r : Option Job) → called (opens i) r m ≡ accepted_with (engine_at sparse (lengths_of m) i 0)
   job_opened r = open_accepted i r m none ∙ ap accepted_with (advanced_open sparse l i)
 
   at_start : LedgerInvariant sparse (lengths_of m) (job_ledger sparse (lengths_of m) i 0)
   unfolding ledger_call ledger_open
   at_start =
       subst (λ n. LedgerInvariant sparse l (ledger_open sparse i (first_ledger m) n).next) none
-      (same_outcome sparse sparse_laws l (opens i) no_record (first_ledger m) refl (record { lengths = refl; holds = tt })).invariant
+      (same_outcome sparse sparse_laws l (opens i) (first_ledger m) (record { lengths = refl; holds = tt })).invariant
 
   -- a step from there
   pub job_finished : (n : ℕ) → total (plan_of i) ≤ n
@@ -54,9 +53,9 @@ module _ (i : Input) (m : Memory) (none : sparse.answer (lengths_of m) i ≡ Ok 
   unfolding ledger_call ledger_step
   job_finished n enough =
       let all : 0 + min n (total P - 0) ≡ total P = omega arith in
-      (same_outcome sparse sparse_laws l (steps n) no_record (job_ledger sparse l i 0) refl at_start).same
-      ∙ ap (λ k. accepted_with (engine_of sparse l no_record (job_ledger sparse (lengths_of (state_at P l 0).memory) i k))) all
-      ∙ ap (λ d. accepted_with (engine_of sparse l no_record (job_ledger sparse d i (total P)))) at_start.lengths
+      (same_outcome sparse sparse_laws l (steps n) (job_ledger sparse l i 0) at_start).same
+      ∙ ap (λ k. accepted_with (engine_of sparse l (job_ledger sparse (lengths_of (state_at P l 0).memory) i k))) all
+      ∙ ap (λ d. accepted_with (engine_of sparse l (job_ledger sparse d i (total P)))) at_start.lengths
 
   -- what such a record and memory are
   pub finished_possible : impossible sparse (job_at sparse (lengths_of m) i (total (plan_of i)))

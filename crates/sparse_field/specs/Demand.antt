@@ -1,7 +1,8 @@
 -- DEMAND 3 as a statement about whole lists of calls, and what belongs to it. proofs/Demand has a term for each.
 -- `engine_call sparse` is one call of open, step or drop on any record and memory: their contracts name it, as `called`.
-use Rattle.std.specs.Prelude.{ℕ, ◌≡◌, true, false, List, [], ◌∷◌, ◌++◌}
+use Rattle.std.specs.Prelude.{ℕ, ◌≡◌, true, Some, None, List, [], ◌∷◌, ◌++◌}
 use Rattle.input.specs.declared.Input.{Input}
+use Rattle.schedule.specs.declared.Job.{Job}
 use Rattle.schedule.specs.declared.Cursor.TheVariants.{End}
 use Rattle.schedule.specs.Opened.{lengths_of, zero_memory}
 use Rattle.schedule.specs.Finished.{Finished}
@@ -19,13 +20,13 @@ use Rattle.plans.specs.OwnCorners.{OwnCorners}
 -- every element, and the job with its counts are the ledger's (rule L10).
 abbrev pub DemandThree : Type 0
 DemandThree =
-    (cs : List Call) (e : Engine) → e.job_record.opened ≡ false
+    (cs : List Call) (e : Engine) → e.job ≡ None
     → Agree sparse (run (engine_call sparse) cs e) (run (ledger_call sparse) cs (first_ledger e.memory))
 
 -- After any such list a drop leaves all zeros (rule L8).
 abbrev pub DropLeavesZeros : Type 0
 DropLeavesZeros =
-    (cs : List Call) (e : Engine) → e.job_record.opened ≡ false
+    (cs : List Call) (e : Engine) → e.job ≡ None
     → (run (engine_call sparse) (cs ++ (drops ∷ [])) e).last.memory ≡ zero_memory (lengths_of e.memory)
 
 -- What a job has made of the memory depends on its plan, on the lengths of the slices and on the sum of its budgets, and on nothing that
@@ -33,7 +34,7 @@ DropLeavesZeros =
 -- parts past the count alone have one plan (plans, proofs/SamePlans).
 abbrev pub EqualBudgets : Type 0
 EqualBudgets =
-    (cs₁ cs₂ : List Call) (e₁ e₂ : Engine) → e₁.job_record.opened ≡ false → e₂.job_record.opened ≡ false
+    (cs₁ cs₂ : List Call) (e₁ e₂ : Engine) → e₁.job ≡ None → e₂.job ≡ None
     → lengths_of e₁.memory ≡ lengths_of e₂.memory → (i₁ i₂ : Input) (n : ℕ) → plan_of i₁ ≡ plan_of i₂
     → budget_sum sparse (lengths_of e₁.memory) cs₁ no_entry ≡ entry i₁ n → budget_sum sparse (lengths_of e₂.memory) cs₂ no_entry ≡ entry i₂ n
     → (run (engine_call sparse) cs₁ e₁).last.memory ≡ (run (engine_call sparse) cs₂ e₂).last.memory
@@ -42,15 +43,13 @@ EqualBudgets =
 -- and zeros elsewhere (rule S17); and what becomes of an active child comes from the model's values at its own eight corners.
 abbrev pub FinishedField : Type 0
 FinishedField =
-    (cs : List Call) (e : Engine) → e.job_record.opened ≡ false
-    → (run (engine_call sparse) cs e).last.job_record.opened ≡ true → (run (engine_call sparse) cs e).last.job_record.job.cursor ≡ End
-    → let i = (run (engine_call sparse) cs e).last.job_record.job.input in
-    Finished (plan_of i) (run (engine_call sparse) cs e).last.memory × OwnCorners i
+    (cs : List Call) (e : Engine) → e.job ≡ None
+    → (j : Job) → (run (engine_call sparse) cs e).last.job ≡ Some j → j.cursor ≡ End
+    → Finished (plan_of j.input) (run (engine_call sparse) cs e).last.memory × OwnCorners j.input
 
 -- After any such list that leaves a job open, finished or not, the kinds equal to 2 are as many as the record's leaves, and their places
 -- number them from 0 in child order (rule S8).
 abbrev pub LeavesNumbered : Type 0
 LeavesNumbered =
-    (cs : List Call) (e : Engine) → e.job_record.opened ≡ false → (run (engine_call sparse) cs e).last.job_record.opened ≡ true
-    → let last = (run (engine_call sparse) cs e).last in
-    numbers_leaves (plan_of last.job_record.job.input) last.memory last.job_record.job.counts.leaves ≡ true
+    (cs : List Call) (e : Engine) → e.job ≡ None → (j : Job) → (run (engine_call sparse) cs e).last.job ≡ Some j
+    → numbers_leaves (plan_of j.input) (run (engine_call sparse) cs e).last.memory j.counts.leaves ≡ true

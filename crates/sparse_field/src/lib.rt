@@ -5,23 +5,13 @@
 // constant, 2 where it is a leaf), `numbers` holds a constant's value, and `places` a leaf's ordinal. The
 // `store` holds the leaves' points, `leaf`³ for each ordinal, and `corners` the values at the corners of
 // the node in work. Every element that is not in use is 0.
+//
+// A record is an `Option<Job>`: calls take it and leave it as they hand it on, with a job or without.
 #![tactic(auto)]
 
-use causes::Cause;
-use schedule::Record;
-
 mod calls; // calls.rt: open, step and drop
+mod jobs; // jobs.rt: the job that an accepted call hands on
 mod judgement; // judgement.rt: which records are impossible
-mod memory; // memory.rt: the five slices, their lengths, and all of them zeroed
-mod records; // records.rt: the records that accepted calls hand on
 
 pub use calls::{drop, open, step};
 pub use judgement::is_impossible;
-pub use records::no_record;
-
-// What a call hands back: its answer, and the record for the next call.
-#[derive(Clone, Copy)]
-pub struct Outcome {
-    pub answer: Result<(), Cause>,
-    pub next: Record,
-}

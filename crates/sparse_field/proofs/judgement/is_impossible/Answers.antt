@@ -6,6 +6,7 @@ use Rattle.input.specs.Causes.{refusal_of}
 use Rattle.grid.specs.Limits.{children_of}
 use Rattle.plans.specs.Plan.{plan_with}
 use Rattle.schedule.specs.Calls.{Answer}
+use Rattle.schedule.specs.Lent.{viewed}
 use Rattle.schedule.specs.Possible.{same_lengths}
 use Rattle.sparse_field.proofs.JudgedRecords.{impossible_cause, possible_input, impossible_lengths, impossible_kinds, possible_kinds, impossible_progress}
 use Rattle.sparse_field.proofs.judgement.is_impossible.Goals as goal
@@ -35,31 +36,31 @@ other a {l} lengths tested is =
 pub returns-then-is_err : goal.returns-then-is_err
 returns-then-is_err c =
     let a = c.args in
-    impossible_cause a.job.now a.kinds.now a.numbers.now a.places.now a.store.now a.corners.now
-    (caused _ c.lengths_of-lengths.ensures c.open_refusal.ensures c.is_err.ensures.value c.if-is_err.true)
+    impossible_cause a.job.now (viewed a.slices.now)
+    (caused _ c.lengths-lengths.ensures c.open_refusal.ensures c.is_err.ensures.value c.if-is_err.true)
 
 pub returns-then-ne : goal.returns-then-ne
 returns-then-ne c =
     let a = c.args in
-    impossible_lengths a.job.now a.kinds.now a.numbers.now a.places.now a.store.now a.corners.now
-    (caused _ c.lengths_of-lengths.ensures c.open_refusal.ensures c.is_err.ensures.value c.if-is_err.false)
-    (other a.job.now.lengths c.lengths_of-lengths.ensures c.ne.ensures c.if-ne.true)
+    impossible_lengths a.job.now (viewed a.slices.now)
+    (caused _ c.lengths-lengths.ensures c.open_refusal.ensures c.is_err.ensures.value c.if-is_err.false)
+    (other a.job.now.lengths c.lengths-lengths.ensures c.ne.ensures c.if-ne.true)
 
 pub kinds_right-requires : goal.kinds_right-requires
 unfolding children_of
 kinds_right-requires c =
     let a = c.args in
-    let n = possible_input a.job.now a.kinds.now a.numbers.now a.places.now a.store.now a.corners.now
-    (caused _ c.lengths_of-lengths.ensures c.open_refusal.ensures c.is_err.ensures.value c.if-is_err.false) in
+    let n = possible_input a.job.now (viewed a.slices.now)
+    (caused _ c.lengths-lengths.ensures c.open_refusal.ensures c.is_err.ensures.value c.if-is_err.false) in
     (n.two, n.five, n.lent.kinds)
 
 pub wrong_progress-requires : goal.wrong_progress-requires
 unfolding plan_with
 wrong_progress-requires c =
     let a = c.args in
-    possible_kinds a.job.now a.kinds.now a.numbers.now a.places.now a.store.now a.corners.now
-    (caused _ c.lengths_of-lengths.ensures c.open_refusal.ensures c.is_err.ensures.value c.if-is_err.false)
-    (other a.job.now.lengths c.lengths_of-lengths.ensures c.ne.ensures c.if-ne.false)
+    possible_kinds a.job.now (viewed a.slices.now)
+    (caused _ c.lengths-lengths.ensures c.open_refusal.ensures c.is_err.ensures.value c.if-is_err.false)
+    (other a.job.now.lengths c.lengths-lengths.ensures c.ne.ensures c.if-ne.false)
     (ap not (sym c.kinds_right.ensures ∙ c.if-not-kinds_right.false))
 
 pub returns-then-not-kinds_right : goal.returns-then-not-kinds_right
@@ -67,17 +68,17 @@ unfolding plan_with
 returns-then-not-kinds_right c =
     let a = c.args in
     ap not c.if-not-kinds_right.true
-    ∙ impossible_kinds a.job.now a.kinds.now a.numbers.now a.places.now a.store.now a.corners.now
-    (caused _ c.lengths_of-lengths.ensures c.open_refusal.ensures c.is_err.ensures.value c.if-is_err.false)
-    (other a.job.now.lengths c.lengths_of-lengths.ensures c.ne.ensures c.if-ne.false)
+    ∙ impossible_kinds a.job.now (viewed a.slices.now)
+    (caused _ c.lengths-lengths.ensures c.open_refusal.ensures c.is_err.ensures.value c.if-is_err.false)
+    (other a.job.now.lengths c.lengths-lengths.ensures c.ne.ensures c.if-ne.false)
     (ap not (sym c.kinds_right.ensures ∙ c.if-not-kinds_right.true))
 
 pub returns-else-not-kinds_right : goal.returns-else-not-kinds_right
 unfolding plan_with
 returns-else-not-kinds_right c =
     let a = c.args in
-    impossible_progress a.job.now a.kinds.now a.numbers.now a.places.now a.store.now a.corners.now
-    (caused _ c.lengths_of-lengths.ensures c.open_refusal.ensures c.is_err.ensures.value c.if-is_err.false)
-    (other a.job.now.lengths c.lengths_of-lengths.ensures c.ne.ensures c.if-ne.false)
+    impossible_progress a.job.now (viewed a.slices.now)
+    (caused _ c.lengths-lengths.ensures c.open_refusal.ensures c.is_err.ensures.value c.if-is_err.false)
+    (other a.job.now.lengths c.lengths-lengths.ensures c.ne.ensures c.if-ne.false)
     (ap not (sym c.kinds_right.ensures ∙ c.if-not-kinds_right.false))
     c.wrong_progress.ensures
