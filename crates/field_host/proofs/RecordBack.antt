@@ -1,7 +1,7 @@
 -- Encoding a record and decoding it gives it back: for every record of 64 parts whose block sizes and part count have
 -- 32 bits, as the code's have by their types.
 use mathlib.Core.Path.{◌≡◌, refl, sym, ◌∙◌}
-use mathlib.Core.Bool.{Bool, true, false}
+use mathlib.Core.Bool.{true}
 use mathlib.Core.List.{List, [], ◌∷◌, map}
 use Prim.Native.Nat.{ℕ, ◌<◌, ◌≤◌}
 use native.Mathlib.Omega.{arith}
@@ -21,9 +21,10 @@ use Rattle.model.specs.Flat.{code_of, first_input, second_input, vector_of, numb
 use Rattle.model.proofs.EntryRows.{first_row, row_entry}
 use Rattle.schedule.specs.declared.Cursor.{Cursor}
 use Rattle.schedule.specs.declared.Cursor.TheVariants.{End, Corner, Point}
-use Rattle.schedule.specs.declared.Record.{Record}
+use Rattle.std.specs.Prelude.{Some, None}
+use Rattle.schedule.specs.declared.Job.{Job}
 use Rattle.field_host.specs.Given.{part_coded, part_given, component_given, input_given}
-use Rattle.field_host.specs.Carried.{flag_word, flagged, cursor_tag, cursor_node, cursor_place, cursor_point, cursor_of, words_of, fits, decoded, encoded}
+use Rattle.field_host.specs.Carried.{cursor_tag, cursor_node, cursor_place, cursor_point, cursor_of, words_of, fits, decoded, encoded}
 
 -- ---- the model
 
@@ -80,16 +81,6 @@ parts_back ps long =
 
 -- ---- the words
 
-flag_back : (b : Bool) → flagged (flag_word b ∷ []) ≡ b
-unfolding flag_word
-flag_back true = refl
-flag_back false = refl
-
-flag_below : (b : Bool) → flag_word b < 2
-unfolding flag_word
-flag_below true = omega arith
-flag_below false = omega arith
-
 cursor_back : (a : Cursor) → cursor_of (cursor_tag a) (cursor_node a) (cursor_place a) (cursor_point a) ≡ a
 unfolding cursor_of cursor_tag cursor_node cursor_place cursor_point
 cursor_back End = refl
@@ -104,27 +95,28 @@ tag_below (Point v c p) = omega arith
 
 -- ---- the record
 
-module _ (r : Record) (inner : r.job.input.grid.inner < 4294967296) (leaf : r.job.input.grid.leaf < 4294967296)
-    (count : r.job.input.model.count < 4294967296) (long : length r.job.input.model.parts ≡ 64) where
-  pub fits_encoded : fits (words_of r) ≡ true
+module _ (j : Job) (inner : j.input.grid.inner < 4294967296) (leaf : j.input.grid.leaf < 4294967296)
+    (count : j.input.model.count < 4294967296) (long : length j.input.model.parts ≡ 64) where
+  pub fits_encoded : fits (words_of j) ≡ true
   unfolding fits
-  fits_encoded =
-      simp (lt-ltb _ _ (flag_below r.opened), lt-ltb _ _ inner, lt-ltb _ _ leaf, lt-ltb _ _ count, lt-ltb _ _ (tag_below r.job.cursor))
+  fits_encoded = simp (lt-ltb _ _ inner, lt-ltb _ _ leaf, lt-ltb _ _ count, lt-ltb _ _ (tag_below j.cursor))
 
-  pub record_back : decoded (encoded r) ≡ r
-  unfolding decoded input_given
-  record_back =
+  pub job_back : decoded (encoded (Some j)) ≡ Some j
+  unfolding encoded decoded input_given
+  job_back =
       rw fits_encoded
-      (λ i. record {
-        opened = flag_back r.opened i;
-        job = record {
-          input = record {
-            grid = r.job.input.grid;
-            band = r.job.input.band;
-            model = record { parts = parts_back r.job.input.model.parts long i; count = r.job.input.model.count };
-          };
-          lengths = r.job.lengths;
-          counts = r.job.counts;
-          cursor = cursor_back r.job.cursor i;
+      (λ i. Some (record {
+        input = record {
+          grid = j.input.grid;
+          band = j.input.band;
+          model = record { parts = parts_back j.input.model.parts long i; count = j.input.model.count };
         };
-      })
+        lengths = j.lengths;
+        counts = j.counts;
+        cursor = cursor_back j.cursor i;
+      }))
+
+-- without a job
+pub none_back : decoded (encoded None) ≡ None
+unfolding encoded decoded
+none_back = refl

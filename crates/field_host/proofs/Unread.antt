@@ -3,6 +3,7 @@
 use Prim.Native.Nat.{ℕ, ◌<◌}
 use mathlib.Core.Path.{◌≡◌, refl, sym, ap, ◌∙◌}
 use mathlib.Core.Bool.{Bool, true, false, not, cond}
+use Rattle.std.specs.Prelude.{Some, None}
 use mathlib.Core.List.{map}
 use native.Mathlib.Omega.{arith}
 use lib.ListN.{get_or, get_or-map}
@@ -28,7 +29,8 @@ use Rattle.sparse_field.specs.Calls.{called}
 use Rattle.sparse_field.proofs.Opening.{nothing}
 use Rattle.sparse_field.proofs.CallLaws.{step_none, step_impossible}
 use Rattle.field_host.specs.Given.{no_part, part_coded, part_given, component_given, model_given}
-use Rattle.field_host.specs.Carried.{Carried, input_in, fits, flagged, record_given, unread, decoded}
+use Rattle.field_host.specs.NoJob.{no_job}
+use Rattle.field_host.specs.Carried.{Carried, input_in, fits, flagged, job_given, decoded}
 use Rattle.field_host.specs.Hosted.{left_by, hosted_by, hosted}
 
 -- ---- a code that does not exist
@@ -52,40 +54,39 @@ unknown_code l count p below code = by (refused_by_four (model_given l count)) r
 -- ---- a first word of 0
 
 -- there is no job, whatever else the arrays hold
-pub no_flag : (c : Carried) → get_or c.words 0 0 ≡ 0 → (decoded c).opened ≡ false
+pub no_flag : (c : Carried) → get_or c.words 0 0 ≡ 0 → decoded c ≡ None
 unfolding decoded
-no_flag c none = by (fits c.words)
-  where
-    by : (b : Bool) → (cond b (record_given (input_in c) c.words) (unread (flagged c.words))).opened ≡ false
-    by true = cc (ap not (eq-eqb (get_or c.words 0 0) 0 none))
-    by false = cc (ap not (eq-eqb (get_or c.words 0 0) 0 none))
+no_flag c none = ap (λ b. cond b (Some (cond (fits c.words) (job_given (input_in c) c.words) no_job)) None) (ap not (eq-eqb (get_or c.words 0 0) 0 none))
 
 -- a step refuses them by 7, and changes nothing
 pub no_job_refused : (c : Carried) (m : Memory) → get_or c.words 0 0 ≡ 0 → (budget : ℕ)
     → hosted (steps budget) c m ≡ record { number = 7; carried = c; memory = m }
 unfolding hosted left_by
-no_job_refused c m none budget = ap (λ h. hosted_by h c) (step_none budget (decoded c) m (no_flag c none))
+no_job_refused c m none budget =
+    ap (λ r. hosted_by (called (steps budget) r m) c) (no_flag c none) ∙ ap (λ h. hosted_by h c) (step_none budget m)
 
 -- ---- words that no record has
 
 module _ (c : Carried) (m : Memory) (misfit : fits c.words ≡ false) (flag : flagged c.words ≡ true) where
-  reads : decoded c ≡ unread true
+  reads : decoded c ≡ Some no_job
   unfolding decoded
-  reads = ap (λ b. cond b (record_given (input_in c) c.words) (unread (flagged c.words))) misfit ∙ ap unread flag
+  reads =
+      ap (λ b. cond b (Some (cond (fits c.words) (job_given (input_in c) c.words) no_job)) None) flag
+      ∙ ap (λ b. Some (cond b (job_given (input_in c) c.words) no_job)) misfit
 
   -- such a record is impossible, as a block size of 0 is no block
-  never : impossible sparse (unread true).job m ≡ true
+  never : impossible sparse no_job m ≡ true
   unfolding refused_by_two is_block
-  never = by (impossible sparse (unread true).job m) refl
+  never = by (impossible sparse no_job m) refl
     where
-      by : (b : Bool) → impossible sparse (unread true).job m ≡ b → impossible sparse (unread true).job m ≡ true
+      by : (b : Bool) → impossible sparse no_job m ≡ b → impossible sparse no_job m ≡ true
       by true e = e
       by false e =
-          let block : true ≡ false = (nothing (unread true).job.input (lengths_of m) (possible sparse (unread true).job m e).accepted).two in
+          let block : true ≡ false = (nothing no_job.input (lengths_of m) (possible sparse no_job m e).accepted).two in
           e ∙ sym block
 
   -- a step refuses it by 8, and changes nothing
   pub unread_refused : (budget : ℕ) → hosted (steps budget) c m ≡ record { number = 8; carried = c; memory = m }
   unfolding hosted left_by
   unread_refused budget =
-      ap (λ r. hosted_by (called (steps budget) r m) c) reads ∙ ap (λ h. hosted_by h c) (step_impossible budget (unread true) m refl never)
+      ap (λ r. hosted_by (called (steps budget) r m) c) reads ∙ ap (λ h. hosted_by h c) (step_impossible budget no_job m never)

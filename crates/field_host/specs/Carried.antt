@@ -1,5 +1,6 @@
 -- A record as a host carries it: 18 words, the model's codes and inputs, nine settings, the model's numbers (rules R14 and R15).
-use Rattle.std.specs.Prelude.{ℕ, zero, suc, Bool, true, false, not, cond, ◌&&◌, List, [], ◌∷◌, map, eqb, ltb, get_or, Float}
+use Rattle.std.specs.Prelude.{ℕ, zero, suc, Bool, not, cond, ◌&&◌, List, [], ◌∷◌, map, replicate, eqb, ltb, get_or, Float, Option, Some, None}
+use Rattle.float.specs.Zero.{plus_zero}
 use Rattle.model.specs.Part.{part_in}
 use Rattle.model.specs.Flat.{flat_of, layout_of}
 use Rattle.input.specs.declared.Lengths.{Lengths}
@@ -7,8 +8,8 @@ use Rattle.input.specs.declared.Input.{Input}
 use Rattle.schedule.specs.declared.Counts.{Counts}
 use Rattle.schedule.specs.declared.Cursor.{Cursor}
 use Rattle.schedule.specs.declared.Cursor.TheVariants.{End, Corner, Point}
-use Rattle.schedule.specs.declared.Record.{Record}
-use Rattle.schedule.specs.NoRecord.{no_record}
+use Rattle.schedule.specs.declared.Job.{Job}
+use Rattle.field_host.specs.NoJob.{no_job}
 use Rattle.field_host.specs.Given.{input_given}
 
 -- the four arrays (rule R14)
@@ -22,10 +23,6 @@ abbrev pub carried_of : (words parts : List ℕ) (settings reals : List Float) �
 carried_of words parts settings reals = record { words = words; parts = parts; settings = settings; reals = reals }
 
 -- ---- a record written
-
-unfoldable pub flag_word : Bool → ℕ
-flag_word true = 1
-flag_word false = 0
 
 -- a cursor's kind and its three places, 0 where it has none
 unfoldable pub cursor_tag : Cursor → ℕ
@@ -51,11 +48,10 @@ cursor_point (Point v c p) = p
 abbrev pub cursor_words : Cursor → List ℕ
 cursor_words a = cursor_tag a ∷ cursor_node a ∷ cursor_place a ∷ cursor_point a ∷ []
 
--- the flag; inner, leaf and the part count; five lengths; five counts; the cursor (rule R14)
-abbrev pub words_of : Record → List ℕ
-words_of r =
-    let j = r.job in
-    flag_word r.opened
+-- a job's words: the flag 1; inner, leaf and the part count; five lengths; five counts; the cursor (rule R14)
+abbrev pub words_of : Job → List ℕ
+words_of j =
+    1
     ∷ j.input.grid.inner ∷ j.input.grid.leaf ∷ j.input.model.count
     ∷ j.lengths.kinds ∷ j.lengths.numbers ∷ j.lengths.places ∷ j.lengths.store ∷ j.lengths.corners
     ∷ j.counts.grid.nodes ∷ j.counts.grid.active ∷ j.counts.leaves ∷ j.counts.sampled ∷ j.counts.evaluations
@@ -68,10 +64,11 @@ settings_of i =
     ∷ i.grid.cell ∷ i.band.min ∷ i.band.max
     ∷ []
 
--- a record in four arrays (rule R14)
-abbrev pub encoded : Record → Carried
-encoded r =
-    let l = layout_of (map part_in r.job.input.model.parts) in carried_of (words_of r) l.words (settings_of r.job.input) l.numbers
+-- a record in four arrays: those of its job, or every number 0 where it has none (rules R4 and R14)
+unfoldable pub encoded : Option Job → Carried
+encoded None = carried_of (replicate 18 0) (replicate 192 0) (replicate 9 plus_zero) (replicate 256 plus_zero)
+encoded (Some j) =
+    let l = layout_of (map part_in j.input.model.parts) in carried_of (words_of j) l.words (settings_of j.input) l.numbers
 
 -- ---- arrays of any contents read
 
@@ -100,20 +97,15 @@ cursor_of (suc (suc t)) node place point = Point node place point
 abbrev pub cursor_given : List ℕ → Cursor
 cursor_given ws = cursor_of (get_or ws 14 0) (get_or ws 15 0) (get_or ws 16 0) (get_or ws 17 0)
 
-abbrev pub record_given : Input → List ℕ → Record
-record_given i ws =
-    record { opened = flagged ws; job = record { input = i; lengths = lengths_given ws; counts = counts_given ws; cursor = cursor_given ws } }
-
--- what arrays read as that no record has: without a job, or with a job of the input of which every number is 0, which cause 1 refuses
--- (rule R15)
-abbrev pub unread : Bool → Record
-unread flag = record { opened = flag; job = no_record.job }
+abbrev pub job_given : Input → List ℕ → Job
+job_given i ws = record { input = i; lengths = lengths_given ws; counts = counts_given ws; cursor = cursor_given ws }
 
 -- the input in the arrays
 abbrev pub input_in : Carried → Input
 input_in c =
     input_given c.settings (get_or c.words 1 0) (get_or c.words 2 0) (flat_of c.parts c.reals) (get_or c.words 3 0)
 
--- the record that arrays of any contents read as (rule R15)
-unfoldable pub decoded : Carried → Record
-decoded c = cond (fits c.words) (record_given (input_in c) c.words) (unread (flagged c.words))
+-- The record that arrays of any contents read as: without a job by a flag of 0, whatever else they hold. Words that no record has read as a
+-- job of the input of which every number is 0, which cause 1 refuses (rule R15).
+unfoldable pub decoded : Carried → Option Job
+decoded c = cond (flagged c.words) (Some (cond (fits c.words) (job_given (input_in c) c.words) no_job)) None

@@ -1,6 +1,6 @@
 -- DEMAND 3 for the C interface, and what belongs to it, as statements about whole lists of its calls. proofs/HostDemand has a term for each.
 -- `on_station` is made of `hosted`, which the contracts of the three functions name.
-use Rattle.std.specs.Prelude.{ℕ, ◌≡◌, true, List, [], ◌∷◌, ◌++◌, map, get_or}
+use Rattle.std.specs.Prelude.{ℕ, ◌≡◌, true, List, [], ◌∷◌, ◌++◌, map, get_or, Option, Some}
 use Rattle.schedule.specs.Opened.{lengths_of, zero_memory}
 use Rattle.schedule.specs.Finished.{Finished}
 use Rattle.schedule.specs.Numbering.{numbers_leaves}
@@ -11,7 +11,7 @@ use Rattle.schedule.specs.Agree.{Agree}
 use Rattle.schedule.specs.Implements.{view_run}
 use Rattle.input.specs.declared.Input.{Input}
 use Rattle.schedule.specs.declared.Cursor.TheVariants.{End}
-use Rattle.schedule.specs.declared.Record.{Record}
+use Rattle.schedule.specs.declared.Job.{Job}
 use Rattle.plans.specs.Plan.{plan_of}
 use Rattle.plans.specs.Sparse.{sparse}
 use Rattle.plans.specs.OwnCorners.{OwnCorners}
@@ -43,17 +43,17 @@ HostEqualBudgets =
     → (run on_station cs₁ s₁).last.memory ≡ (run on_station cs₂ s₂).last.memory
 
 -- the record that the arrays read as after a list
-abbrev pub record_after : List HostCall → Station → Record
+abbrev pub record_after : List HostCall → Station → Option Job
 record_after cs s = decoded (run on_station cs s).last.carried
 
 -- After any such list a finished job holds the plan's own values, from the model at the corner and leaf points, and zeros elsewhere (rule S17).
 abbrev pub HostFinishedField : Type 0
 HostFinishedField =
-    (cs : List HostCall) (s : Station) → NoJob s → (record_after cs s).opened ≡ true → (record_after cs s).job.cursor ≡ End
-    → Finished (plan_of (record_after cs s).job.input) (run on_station cs s).last.memory × OwnCorners (record_after cs s).job.input
+    (cs : List HostCall) (s : Station) → NoJob s → (j : Job) → record_after cs s ≡ Some j → j.cursor ≡ End
+    → Finished (plan_of j.input) (run on_station cs s).last.memory × OwnCorners j.input
 
 -- After any such list that leaves a job open its leaves are numbered from 0 in child order (rule S8).
 abbrev pub HostLeavesNumbered : Type 0
 HostLeavesNumbered =
-    (cs : List HostCall) (s : Station) → NoJob s → (record_after cs s).opened ≡ true
-    → numbers_leaves (plan_of (record_after cs s).job.input) (run on_station cs s).last.memory (record_after cs s).job.counts.leaves ≡ true
+    (cs : List HostCall) (s : Station) → NoJob s → (j : Job) → record_after cs s ≡ Some j
+    → numbers_leaves (plan_of j.input) (run on_station cs s).last.memory j.counts.leaves ≡ true

@@ -1,22 +1,10 @@
 -- Whole lists of calls as a host makes them, on a record's arrays and the lent memory.
-use Rattle.std.specs.Prelude.{ℕ, zero, suc, List, [], ◌∷◌, get_or, Float, Ok, Err}
+use Rattle.std.specs.Prelude.{ℕ, zero, suc, List, get_or, Float, Ok, Err}
 use Rattle.model.specs.Flat.{Flat}
 use Rattle.schedule.specs.Memory.{Memory}
 use Rattle.schedule.specs.Calls.{Call, opens, steps, drops, Answer, Reply}
-use Rattle.causes.specs.declared.Cause.{Cause}
-use Rattle.causes.specs.declared.Cause.TheVariants.{
-  Bounds,
-  BlockSize,
-  BandLimit,
-  Parts,
-  Nodes,
-  TooShort,
-  NoJob,
-  ImpossibleRecord,
-  Dimensions,
-  Outside,
-  Walk,
-}
+use Rattle.causes.specs.declared.Cause.TheVariants.{Walk}
+use Rattle.causes.specs.All.{all_causes}
 use Rattle.schedule.specs.Engine.{Engine}
 use Rattle.field_host.specs.Given.{input_given}
 use Rattle.field_host.specs.Carried.{Carried, decoded}
@@ -39,14 +27,10 @@ pub record Station : Type 0 where
   pub carried : Carried
   pub memory : Memory
 
--- the causes, in the order of their numbers from 1 on
-abbrev pub causes : List Cause
-causes = Bounds ∷ BlockSize ∷ BandLimit ∷ Parts ∷ Nodes ∷ TooShort ∷ NoJob ∷ ImpossibleRecord ∷ Dimensions ∷ Outside ∷ Walk ∷ []
-
 -- the answer of a number: 0 is that the call was accepted
 abbrev pub answer_of : ℕ → Answer
 answer_of zero = Ok tt
-answer_of (suc n) = Err (get_or causes n Walk)
+answer_of (suc n) = Err (get_or all_causes n Walk)
 
 -- one call: what the contracts of the C functions say
 abbrev pub on_station : HostCall → Station → Reply Station
@@ -56,4 +40,4 @@ on_station c s =
 
 -- what the schedule's engine is, with these arrays and this memory
 abbrev pub engine_at : Station → Engine
-engine_at s = record { job_record = decoded s.carried; memory = s.memory }
+engine_at s = record { job = decoded s.carried; memory = s.memory }

@@ -1,8 +1,8 @@
 -- What open, step and drop answer and leave in a record's arrays and in the lent slices, for every contents of both.
-use Rattle.std.specs.Prelude.{ℕ, cond, List, [], ◌∷◌, eqb, get_or, Ok, Err}
+use Rattle.std.specs.Prelude.{ℕ, cond, List, [], ◌∷◌, eqb, get_or, Ok, Err, Option}
 use Rattle.schedule.specs.Memory.{Memory}
 use Rattle.schedule.specs.declared.Counts.{Counts}
-use Rattle.schedule.specs.declared.Record.{Record}
+use Rattle.schedule.specs.declared.Job.{Job}
 use Rattle.schedule.specs.Calls.{Call, Answer, Reply}
 use Rattle.schedule.specs.Engine.{Engine}
 use Rattle.sparse_field.specs.Calls.{called}
@@ -14,7 +14,7 @@ unfoldable pub left_by : Answer → (next old : Carried) → Carried
 left_by (Ok u) next old = next
 left_by (Err cause) next old = old
 
-abbrev pub carried_after : Answer → Record → Carried → Carried
+abbrev pub carried_after : Answer → Option Job → Carried → Carried
 carried_after a r old = left_by a (encoded r) old
 
 -- what a call of the C interface answers and leaves
@@ -25,7 +25,7 @@ pub record Hosted : Type 0 where
 
 abbrev pub hosted_by : Reply Engine → Carried → Hosted
 hosted_by h old =
-    record { number = outcome_number h.answer; carried = carried_after h.answer h.next.job_record old; memory = h.next.memory }
+    record { number = outcome_number h.answer; carried = carried_after h.answer h.next.job old; memory = h.next.memory }
 
 -- the engine's call on the record that the arrays read as (rule R15)
 unfoldable pub hosted : Call → Carried → Memory → Hosted

@@ -1,5 +1,6 @@
 -- What the C functions take and answer, in numbers.
 pub mod Given
+pub mod NoJob
 pub mod Carried
 pub mod Hosted
 pub mod Answers

@@ -1,14 +1,12 @@
--- The record without a job that the engine makes (rule R4).
-use Rattle.std.specs.Prelude.{false, replicate}
+-- The job that arrays read as which no record has: every number is 0. Cause 1 refuses its input (rule R15).
+use Rattle.std.specs.Prelude.{replicate}
 use Rattle.float.specs.Zero.{plus_zero}
 use Rattle.geometry.specs.Values.{vec3, box}
 use Rattle.model.specs.declared.ImplicitModel.{ImplicitModel}
 use Rattle.model.specs.declared.Part.TheVariants.{Constant}
 use Rattle.input.specs.declared.Input.{Input}
-use Rattle.input.specs.declared.Lengths.{Lengths}
-use Rattle.schedule.specs.declared.Counts.{Counts}
 use Rattle.schedule.specs.declared.Cursor.TheVariants.{End}
-use Rattle.schedule.specs.declared.Record.{Record}
+use Rattle.schedule.specs.declared.Job.{Job}
 
 -- a model without parts: 64 constants +0, none of which counts
 abbrev pub no_model : ImplicitModel
@@ -20,9 +18,12 @@ no_input =
     let zero = vec3 plus_zero plus_zero plus_zero in
     record { grid = record { bounds = box zero zero; cell = plus_zero; inner = 0; leaf = 0 }; band = record { min = plus_zero; max = plus_zero }; model = no_model }
 
--- every field is zero (rule R4)
-abbrev pub no_record : Record
-no_record =
-    let lengths : Lengths = record { kinds = 0; numbers = 0; places = 0; store = 0; corners = 0 } in
-    let counts : Counts = record { grid = record { nodes = 0; active = 0 }; leaves = 0; sampled = 0; evaluations = 0 } in
-    record { opened = false; job = record { input = no_input; lengths = lengths; counts = counts; cursor = End } }
+-- a job with every number 0
+abbrev pub no_job : Job
+no_job =
+    record {
+      input = no_input;
+      lengths = record { kinds = 0; numbers = 0; places = 0; store = 0; corners = 0 };
+      counts = record { grid = record { nodes = 0; active = 0 }; leaves = 0; sampled = 0; evaluations = 0 };
+      cursor = End;
+    }

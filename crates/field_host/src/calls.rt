@@ -11,26 +11,27 @@ ghost use Rattle.field_host.specs.Hosted.{carried_after, hosted};
 
 use crate::given::input_given;
 use crate::{answers, record};
-use sparse_field::Outcome;
+use causes::Cause;
+use schedule::{Job, Slices};
 
-// Writes the record that an accepted call hands back, and answers the call's number.
+// Writes the record that an accepted call leaves, and answers the call's number.
 #[tactic(auto, unfolding(crate::specs::Hosted::left_by))]
 fn hand_back(
-    outcome: Outcome,
+    answer: Result<(), Cause>,
+    next: &Option<Job>,
     words: &mut [u64; 18],
     parts: &mut [u32; 192],
     settings: &mut [f64; 9],
     reals: &mut [f64; 256],
 ) -> u32
-    ensures answer { result ≡ outcome_number outcome.answer }
+    ensures answer { result ≡ outcome_number answer }
     ensures carried { carried_of words.new parts.new settings.new reals.new
-        ≡ carried_after outcome.answer outcome.next
-        (carried_of words.old parts.old settings.old reals.old) }
+        ≡ carried_after answer next.now (carried_of words.old parts.old settings.old reals.old) }
 {
-    if outcome.answer.is_ok() {
-        record::encode(&outcome.next, words, parts, settings, reals);
+    if answer.is_ok() {
+        record::encode(next, words, parts, settings, reals);
     }
-    answers::number(outcome.answer)
+    answers::number(answer)
 }
 
 // Opens a job, in place of the one that the record has. The settings are the bounds' least end and
@@ -67,10 +68,18 @@ pub fn jisampode_open(
         (memory_of kinds.old numbers.old places.old store.old corners.old)).memory }
 {
     let input = input_given(settings, inner, leaf, parts, reals, count);
-    let found = sparse_field::no_record();
-    let outcome = sparse_field::open(found, input, kinds, numbers, places, store, corners);
+    let mut slices = Slices {
+        kinds,
+        numbers,
+        places,
+        store,
+        corners,
+    };
+    let mut next = None;
+    let answer = sparse_field::open(&mut next, input, &mut slices);
     hand_back(
-        outcome,
+        answer,
+        &next,
         record_words,
         record_parts,
         record_settings,
@@ -105,10 +114,18 @@ pub fn jisampode_step(
         (carried_of record_words.old record_parts.old record_settings.old record_reals.old)
         (memory_of kinds.old numbers.old places.old store.old corners.old)).memory }
 {
-    let found = record::decode(record_words, record_parts, record_settings, record_reals);
-    let outcome = sparse_field::step(found, budget, kinds, numbers, places, store, corners);
+    let mut slices = Slices {
+        kinds,
+        numbers,
+        places,
+        store,
+        corners,
+    };
+    let mut next = record::decode(record_words, record_parts, record_settings, record_reals);
+    let answer = sparse_field::step(&mut next, budget, &mut slices);
     hand_back(
-        outcome,
+        answer,
+        &next,
         record_words,
         record_parts,
         record_settings,
@@ -142,10 +159,18 @@ pub fn jisampode_drop(
         (carried_of record_words.old record_parts.old record_settings.old record_reals.old)
         (memory_of kinds.old numbers.old places.old store.old corners.old)).memory }
 {
-    let found = sparse_field::no_record();
-    let outcome = sparse_field::drop(found, kinds, numbers, places, store, corners);
+    let mut slices = Slices {
+        kinds,
+        numbers,
+        places,
+        store,
+        corners,
+    };
+    let mut next = None;
+    sparse_field::drop(&mut next, &mut slices);
     hand_back(
-        outcome,
+        Ok(()),
+        &next,
         record_words,
         record_parts,
         record_settings,

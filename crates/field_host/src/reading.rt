@@ -46,8 +46,7 @@ pub fn jisampode_cursor(record_words: &[u64; 18], cursor: &mut [u64; 4]) -> u32
 {
     let number = words_number(record_words);
     if number == 0 {
-        let at = record::cursor_words(record::cursor_given(record_words));
-        *cursor = [at.tag, at.node, at.place, at.point];
+        *cursor = record::cursor_words(record::cursor_given(record_words));
     }
     number
 }

@@ -1,15 +1,17 @@
 // A record in four arrays: 18 words, the model's codes and inputs, nine settings, the model's numbers.
 // Reading takes any arrays. Those that no record has read as a record that step refuses by 8.
-ghost use Rattle.std.specs.Prelude.{◌≡◌};
-ghost use Rattle.field_host.specs.Carried.{carried_of, decoded, encoded, fits, unread};
-ghost use Rattle.field_host.specs.Carried.{lengths_given, counts_given, cursor_given, record_given};
-ghost use Rattle.field_host.specs.Carried.{cursor_of, cursor_tag, cursor_node, cursor_place, cursor_point};
-ghost use Rattle.field_host.specs.Carried.{flag_word, words_of, settings_of};
+ghost use Rattle.std.specs.Prelude.{◌≡◌, Some};
+ghost use Rattle.field_host.specs.NoJob.{no_job};
+ghost use Rattle.field_host.specs.Carried.{carried_of, decoded, encoded, fits};
+ghost use Rattle.field_host.specs.Carried.{lengths_given, counts_given, cursor_given, job_given};
+ghost use Rattle.field_host.specs.Carried.{cursor_of, cursor_words, words_of, settings_of};
 
 use crate::given::input_given;
-use grid::GridCounts;
-use input::{Input, Lengths};
-use schedule::{Counts, Cursor, Job, Record};
+use geometry::{BoundingBox, Vec3};
+use grid::{Grid, GridCounts};
+use input::{Band, Input, Lengths};
+use model::{ImplicitModel, ModelComponent, Part};
+use schedule::{Counts, Cursor, Job};
 
 // Whether the words are those of some record: a flag of 0 or 1, block sizes and a count of 32 bits, one
 // of three cursors.
@@ -70,46 +72,77 @@ pub fn cursor_given(words: &[u64; 18]) -> Cursor
     cursor_of(words[14], words[15], words[16], words[17])
 }
 
-// What arrays read as that no record has: without a job where the flag is 0, and else a job of an input
-// that cause 1 refuses.
-fn unread_record(opened: bool) -> Record
-    ensures { result ≡ unread opened }
+// What words that no record has read as: a job of an input that cause 1 refuses. Every number is 0.
+fn no_job() -> Job
+    ensures { result ≡ no_job }
 {
-    let none = sparse_field::no_record();
-    let job = none.job;
-    Record { opened, job }
-}
-
-// The record of an input and the words' other numbers.
-fn record_given(input: Input, words: &[u64; 18]) -> Record
-    ensures { result ≡ record_given input words.now }
-{
-    let opened = words[0] != 0;
-    let lengths = lengths_given(words);
-    let counts = counts_given(words);
-    let cursor = cursor_given(words);
-    Record {
-        opened,
-        job: Job {
-            input,
-            lengths,
-            counts,
-            cursor,
+    let zero = Vec3::new(0.0, 0.0, 0.0);
+    let grid = Grid {
+        bounds: BoundingBox::new(zero, zero),
+        cell: 0.0,
+        inner: 0,
+        leaf: 0,
+    };
+    let none = ModelComponent {
+        part: Part::Constant(0.0),
+    };
+    let model = ImplicitModel {
+        parts: [none; 64],
+        count: 0,
+    };
+    Job {
+        input: Input {
+            grid,
+            band: Band { min: 0.0, max: 0.0 },
+            model,
         },
+        lengths: Lengths {
+            kinds: 0,
+            numbers: 0,
+            places: 0,
+            store: 0,
+            corners: 0,
+        },
+        counts: Counts {
+            grid: GridCounts {
+                nodes: 0,
+                active: 0,
+            },
+            leaves: 0,
+            sampled: 0,
+            evaluations: 0,
+        },
+        cursor: Cursor::End,
     }
 }
 
-// Reads a record.
+// The job of an input and the words' other numbers.
+fn job_given(input: Input, words: &[u64; 18]) -> Job
+    ensures { result ≡ job_given input words.now }
+{
+    Job {
+        input,
+        lengths: lengths_given(words),
+        counts: counts_given(words),
+        cursor: cursor_given(words),
+    }
+}
+
+// Reads a record. Without a job the first word is 0, whatever the arrays hold.
+#[tactic(auto, unfolding(crate::specs::Carried::decoded))]
 pub fn decode(
     words: &[u64; 18],
     parts: &[u32; 192],
     settings: &[f64; 9],
     reals: &[f64; 256],
-) -> Record
+) -> Option<Job>
     ensures { result ≡ decoded (carried_of words.now parts.now settings.now reals.now) }
 {
+    if words[0] == 0 {
+        return None;
+    }
     if !words_fit(words) {
-        return unread_record(words[0] != 0);
+        return Some(no_job());
     }
     let input = input_given(
         settings,
@@ -119,89 +152,54 @@ pub fn decode(
         reals,
         words[3] as u32,
     );
-    record_given(input, words)
+    Some(job_given(input, words))
 }
 
 // A cursor's tag and its three places, 0 where it has none.
-#[derive(Clone, Copy)]
-pub struct CursorWords {
-    pub tag: u64,
-    pub node: u64,
-    pub place: u64,
-    pub point: u64,
-}
-
-pub fn cursor_words(cursor: Cursor) -> CursorWords
-    ensures { (result.tag ≡ cursor_tag cursor) × (result.node ≡ cursor_node cursor)
-        × (result.place ≡ cursor_place cursor) × (result.point ≡ cursor_point cursor) }
+#[tactic(auto, unfolding(crate::specs::Carried::cursor_tag, crate::specs::Carried::cursor_node, crate::specs::Carried::cursor_place, crate::specs::Carried::cursor_point))]
+pub fn cursor_words(cursor: Cursor) -> [u64; 4]
+    ensures { result ≡ cursor_words cursor }
 {
     match cursor {
-        Cursor::End => CursorWords {
-            tag: 0,
-            node: 0,
-            place: 0,
-            point: 0,
-        },
-        Cursor::Corner(v, i) => CursorWords {
-            tag: 1,
-            node: v as u64,
-            place: i as u64,
-            point: 0,
-        },
-        Cursor::Point(v, c, p) => CursorWords {
-            tag: 2,
-            node: v as u64,
-            place: c as u64,
-            point: p as u64,
-        },
+        Cursor::End => [0, 0, 0, 0],
+        Cursor::Corner(v, i) => [1, v as u64, i as u64, 0],
+        Cursor::Point(v, c, p) => [2, v as u64, c as u64, p as u64],
     }
 }
 
-#[tactic(auto, unfolding(crate::specs::Carried::flag_word))]
-fn flag_word(opened: bool) -> u64
-    ensures { result ≡ flag_word opened }
+// Writes a job's words.
+fn put_words(job: &Job, words: &mut [u64; 18])
+    ensures { words.new ≡ words_of job.now }
 {
-    if opened { 1 } else { 0 }
-}
-
-// Writes a record's words.
-fn put_words(r: Record, words: &mut [u64; 18])
-    ensures { words.new ≡ words_of r }
-{
-    let job = r.job;
-    let input = job.input;
-    let grid = input.grid;
-    let model = input.model;
+    let grid = job.input.grid;
     let l = job.lengths;
     let c = job.counts;
-    let counted = c.grid;
-    let cursor = job.cursor;
-    let at = cursor_words(cursor);
+    let at = cursor_words(job.cursor);
     *words = [
-        flag_word(r.opened),
-        grid.inner as u64,
-        grid.leaf as u64,
-        model.count as u64,
+        1,
+        u64::from(grid.inner),
+        u64::from(grid.leaf),
+        u64::from(job.input.model.count),
         l.kinds as u64,
         l.numbers as u64,
         l.places as u64,
         l.store as u64,
         l.corners as u64,
-        counted.nodes,
-        counted.active,
+        c.grid.nodes,
+        c.grid.active,
         c.leaves,
         c.sampled,
         c.evaluations,
-        at.tag,
-        at.node,
-        at.place,
-        at.point,
+        at[0],
+        at[1],
+        at[2],
+        at[3],
     ];
 }
 
 // Writes an input's settings.
-fn put_settings(input: Input, settings: &mut [f64; 9])
-    ensures { settings.new ≡ settings_of input }
+fn put_settings(input: &Input, settings: &mut [f64; 9])
+    ensures { settings.new ≡ settings_of input.now }
 {
     let grid = input.grid;
     let bounds = grid.bounds;
@@ -211,18 +209,39 @@ fn put_settings(input: Input, settings: &mut [f64; 9])
     *settings = [p.x, p.y, p.z, q.x, q.y, q.z, grid.cell, band.min, band.max];
 }
 
-// Writes a record.
-pub fn encode(
-    r: &Record,
+// Writes a job.
+fn put_job(
+    job: &Job,
     words: &mut [u64; 18],
     parts: &mut [u32; 192],
     settings: &mut [f64; 9],
     reals: &mut [f64; 256],
 )
-    ensures { carried_of words.new parts.new settings.new reals.new ≡ encoded r.now }
+    ensures { carried_of words.new parts.new settings.new reals.new ≡ encoded (Some job.now) }
 {
-    let input = r.job.input;
-    put_words(*r, words);
-    put_settings(input, settings);
-    model::lay_out(&input.model, parts, reals);
+    put_words(job, words);
+    put_settings(&job.input, settings);
+    model::lay_out(&job.input.model, parts, reals);
+}
+
+// Writes a record. Without a job every number is 0.
+#[tactic(auto, unfolding(crate::specs::Carried::encoded))]
+pub fn encode(
+    job: &Option<Job>,
+    words: &mut [u64; 18],
+    parts: &mut [u32; 192],
+    settings: &mut [f64; 9],
+    reals: &mut [f64; 256],
+)
+    ensures { carried_of words.new parts.new settings.new reals.new ≡ encoded job.now }
+{
+    match job {
+        Some(job) => put_job(job, words, parts, settings, reals),
+        None => {
+            *words = [0; 18];
+            *parts = [0; 192];
+            *settings = [0.0; 9];
+            *reals = [0.0; 256];
+        }
+    }
 }

@@ -20,7 +20,8 @@ use Rattle.schedule.proofs.EventCounts.{total_bound}
 use Rattle.schedule.proofs.LedgerTheorem.{same_job}
 use Rattle.schedule.proofs.Reachable.{job_at, engine_at}
 use Rattle.input.specs.declared.Input.{Input}
-use Rattle.schedule.specs.declared.Record.{Record}
+use Rattle.std.specs.Prelude.{Option}
+use Rattle.schedule.specs.declared.Job as schedule
 use Rattle.causes.specs.declared.Cause.{Cause}
 use Rattle.causes.specs.Number.{number_of}
 use Rattle.plans.specs.Plan.{plan_of, plan_with}
@@ -46,16 +47,16 @@ use Rattle.listing.specs.Listed.{listed_by, job_listed, read_listed, listed, pro
 
 -- ---- what open answers
 
-opened_answer : (i : Input) (r : Record) (m : Memory) → (called (opens i) r m).answer ≡ sparse.answer (lengths_of m) i
+opened_answer : (i : Input) (r : Option schedule.Job) (m : Memory) → (called (opens i) r m).answer ≡ sparse.answer (lengths_of m) i
 unfolding engine_call engine_open
 opened_answer i r m = by (sparse.answer (lengths_of m) i)
   where
-    by : (a : Answer) → (engine_open sparse i (record { job_record = r; memory = m }) a).answer ≡ a
+    by : (a : Answer) → (engine_open sparse i (record { job = r; memory = m }) a).answer ≡ a
     by (Ok u) = refl
     by (Err cause) = refl
 
 -- a refused open: its cause's number is printed
-module _ (j : Job) (r : Record) (m : Memory) (lengths : lengths_of m ≡ program_lengths) where
+module _ (j : Job) (r : Option schedule.Job) (m : Memory) (lengths : lengths_of m ≡ program_lengths) where
   pub listed_refusal : (cause : Cause) → (called (opens j.input) r m).answer ≡ Err cause → job_listed j ≡ spell refused_form (number_of cause ∷ [])
   unfolding job_listed listed_by
   listed_refusal cause e =
@@ -66,7 +67,7 @@ accepted_listed : (j : Job) → sparse.answer program_lengths j.input ≡ Ok tt 
 unfolding job_listed listed_by
 accepted_listed j none = ap (listed_by j) none
 
-pub accepted_none : (i : Input) (r : Record) (m : Memory) → (called (opens i) r m).answer ≡ Ok tt → sparse.answer (lengths_of m) i ≡ Ok tt
+pub accepted_none : (i : Input) (r : Option schedule.Job) (m : Memory) → (called (opens i) r m).answer ≡ Ok tt → sparse.answer (lengths_of m) i ≡ Ok tt
 accepted_none i r m e = sym (opened_answer i r m) ∙ e
 
 -- ---- what is printed, by what a text is read as
@@ -142,7 +143,7 @@ module _ (i : Input) (m : Memory) (none : sparse.answer (lengths_of m) i ≡ Ok 
 -- ---- a job that is opened and then given a budget that covers it
 
 module _
-    (j : Job) (r : Record) (m : Memory) {answer : Answer} (lengths : lengths_of m ≡ program_lengths)
+    (j : Job) (r : Option schedule.Job) (m : Memory) {answer : Answer} (lengths : lengths_of m ≡ program_lengths)
     (answered : answer ≡ (called (opens j.input) r m).answer) where
   -- a refused one
   pub refused_listed : (cause : Cause) → answer ≡ Err cause → spell refused_form (number_of cause ∷ []) ≡ job_listed j
@@ -150,20 +151,20 @@ module _
 
   -- a finished one
   pub finished_listed :
-      {r₁ r₂ : Record} {m₁ m₂ : Memory} {nan n : ℕ} → r₁ ≡ (called (opens j.input) r m).next.job_record
+      {r₁ r₂ : Option schedule.Job} {m₁ m₂ : Memory} {nan n : ℕ} → r₁ ≡ (called (opens j.input) r m).next.job
       → m₁ ≡ (called (opens j.input) r m).next.memory → answer ≡ Ok tt → n ≡ 18446744073709551615
-      → r₂ ≡ (called (steps n) r₁ m₁).next.job_record → m₂ ≡ (called (steps n) r₁ m₁).next.memory → nan ≡ job_nan j
+      → r₂ ≡ (called (steps n) r₁ m₁).next.job → m₂ ≡ (called (steps n) r₁ m₁).next.memory → nan ≡ job_nan j
       → (out : List ℕ) → written_of r₂ nan m₂ out ≡ put_listing (job_listed j) out
   finished_listed {r₁} {r₂} {m₁} {m₂} {nan} {n} opened after_open accepted all done after-step is_nan out =
       let i = j.input in
       let none = accepted_none i r m (sym answered ∙ accepted) in
       let covered : total (plan_of i) ≤ n = omega (arith, total_small i m none, all) in
       let first = job_opened i m none r in
-      let start : r₁ ≡ record_after (lengths_of m) i 0 = opened ∙ ap (λ h. h.next.job_record) first in
+      let start : r₁ ≡ record_after (lengths_of m) i 0 = opened ∙ ap (λ h. h.next.job) first in
       let memory : m₁ ≡ (state_at (plan_of i) (lengths_of m) 0).memory = after_open ∙ ap (λ h. h.next.memory) first in
       let last : called (steps n) r₁ m₁ ≡ accepted_with (engine_at sparse (lengths_of m) i (total (plan_of i))) =
       ap (λ x. called (steps n) x m₁) start ∙ ap (λ x. called (steps n) (record_after (lengths_of m) i 0) x) memory ∙ job_finished i m none n covered in
-      ap (λ x. written_of x nan m₂ out) (done ∙ ap (λ h. h.next.job_record) last)
+      ap (λ x. written_of x nan m₂ out) (done ∙ ap (λ h. h.next.job) last)
       ∙ ap (λ x. written_of (record_after (lengths_of m) i (total (plan_of i))) nan x out) (after-step ∙ ap (λ h. h.next.memory) last)
       ∙ finished_written i m none nan out
       ∙ ap (λ bs. put_listing bs out) (ap (λ x. plan_listing (plan_of i) x) is_nan ∙ sym (accepted_listed j (subst (λ l. sparse.answer l i ≡ Ok tt) lengths none)))

@@ -1,4 +1,5 @@
 -- The memory of a finished job has the listing that its plan has.
+use Rattle.std.specs.Prelude.{Some}
 use Prim.Native.Nat.{ℕ, ◌+◌, ◌*◌, ◌/◌, ◌%◌, ◌≤◌, ◌<◌}
 use mathlib.Core.Path.{◌≡◌, refl, sym, ap, ◌∙◌}
 use mathlib.Core.Bool.{Bool, true, false}
@@ -164,7 +165,7 @@ pub written_plan :
     → at_end j.cursor ≡ true
     → j.counts ≡ counts_with (plan_of j.input) (leaves_all (plan_of j.input)) (total (plan_of j.input))
     → Finished (plan_of j.input) m → leaves_all (plan_of j.input) * (plan_of j.input).leaf_points ≤ length m.store
-    → written (record { opened = true; job = j }) nan m out ≡ put_listing (plan_listing (plan_of j.input) nan) out
+    → written (Some j) nan m out ≡ put_listing (plan_listing (plan_of j.input) nan) out
 unfolding printable record_listing
 written_plan j nan m out judged end counts done enough =
     let P = plan_of j.input in
@@ -172,4 +173,4 @@ written_plan j nan m out judged end counts done enough =
     let placed = all_placed_lem P m constants done enough in
     let whole : record_listing j nan m ≡ plan_listing P nan =
     ap (λ k. listing P.nodes P.children P.leaf_points nan k m) counts ∙ listing_plan P m constants done nan in
-    judged_possible (record { opened = true; job = j }) nan m out refl judged ∙ listed_whole j nan m out (rw (end, placed)) ∙ ap (λ bs. put_listing bs out) whole
+    judged_possible j nan m out judged ∙ listed_whole j nan m out (rw (end, placed)) ∙ ap (λ bs. put_listing bs out) whole

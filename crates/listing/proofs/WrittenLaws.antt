@@ -18,12 +18,11 @@ use Rattle.schedule.proofs.Possible.{possible}
 use Rattle.schedule.specs.declared.Cursor.{Cursor}
 use Rattle.schedule.specs.declared.Cursor.TheVariants.{End, Corner, Point}
 use Rattle.schedule.specs.declared.Job.{Job}
-use Rattle.schedule.specs.declared.Record.{Record}
-use Rattle.schedule.specs.Lent.{memory_of}
+use Rattle.std.specs.Prelude.{Some}
 use Rattle.plans.specs.Plan.{plan_with}
 use Rattle.plans.specs.Sparse.{sparse}
 use Rattle.input.proofs.Clear.{clear}
-use Rattle.causes.specs.declared.Cause.TheVariants.{NoJob, ImpossibleRecord}
+use Rattle.causes.specs.declared.Cause.TheVariants.{ImpossibleRecord}
 use Rattle.listing.specs.declared.unlisted.Unlisted.TheVariants.{Refused, NotPrintable}
 use Rattle.listing.specs.Inner.Lengths.{Sizes}
 use Rattle.listing.specs.Listing.{line_at, listing_to, listing}
@@ -97,7 +96,7 @@ module _ (j : Job) (nan : ℕ) (m : Memory) (out : List ℕ) where
         ≡ all_placed (cube g.leaf) (length m.store) m.kinds m.places (nodes_of g * cube g.inner) 0
     placed_as = rw (n, c, p)
 
-    listing_as : listing_to (nodes * children) children points nan j.counts (memory_of m.kinds m.numbers m.places m.store [])
+    listing_as : listing_to (nodes * children) children points nan j.counts m
         ≡ record_listing j nan m
     unfolding record_listing listing plan_with line_at
     listing_as = rw (n, c, p)
@@ -109,23 +108,19 @@ module _ (j : Job) (nan : ℕ) (m : Memory) (out : List ℕ) where
 
     pub printed : at_end j.cursor ≡ true → all_placed points (length m.store) m.kinds m.places (nodes * children) 0 ≡ true
         → possible_written j nan m out
-        ≡ put_listing (listing_to (nodes * children) children points nan j.counts (memory_of m.kinds m.numbers m.places m.store [])) out
+        ≡ put_listing (listing_to (nodes * children) children points nan j.counts m) out
     unfolding printable plan_with
     printed end is =
         let holds = sym placed_as ∙ is in
         listed_whole (rw (end, holds)) ∙ ap (λ bs. put_listing bs out) (sym listing_as)
 
--- ---- any record
+-- ---- a record with a job
 
-module _ (r : Record) (nan : ℕ) (m : Memory) (out : List ℕ) where
-  pub no_job_lem : r.opened ≡ false → written r nan m out ≡ refused_put (Refused NoJob) out
+module _ (j : Job) (nan : ℕ) (m : Memory) (out : List ℕ) where
+  pub judged_impossible : impossible sparse j m ≡ true → written (Some j) nan m out ≡ refused_put (Refused ImpossibleRecord) out
   unfolding written
-  no_job_lem is = rw is
+  judged_impossible judged = rw judged
 
-  pub judged_impossible : r.opened ≡ true → impossible sparse r.job m ≡ true → written r nan m out ≡ refused_put (Refused ImpossibleRecord) out
+  pub judged_possible : impossible sparse j m ≡ false → written (Some j) nan m out ≡ possible_written j nan m out
   unfolding written
-  judged_impossible is judged = rw (is, judged)
-
-  pub judged_possible : r.opened ≡ true → impossible sparse r.job m ≡ false → written r nan m out ≡ possible_written r.job nan m out
-  unfolding written
-  judged_possible is judged = rw (is, judged)
+  judged_possible judged = rw judged

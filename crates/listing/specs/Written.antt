@@ -1,12 +1,11 @@
 -- What writing a job's listing answers and leaves in the lent bytes (rules T15 and T16): 7 without a job, 8 for an impossible record, "not
 -- printable" for an unfinished job or a leaf's place outside the store, then 6 where the bytes are too few. A refusal writes nothing; what
 -- lies past a listing is 0.
-use Rattle.std.specs.Prelude.{ℕ, zero, suc, ◌+◌, ◌-◌, ◌*◌, Bool, true, false, cond, ◌&&◌, ◌||◌, not, List, ◌++◌, eqb, leb, length, get_or, replicate, Result, Ok, Err}
+use Rattle.std.specs.Prelude.{Option, Some, None, ℕ, zero, suc, ◌+◌, ◌-◌, ◌*◌, Bool, true, false, cond, ◌&&◌, ◌||◌, not, List, ◌++◌, eqb, leb, length, get_or, replicate, Result, Ok, Err}
 use Rattle.causes.specs.declared.Cause.TheVariants.{TooShort, NoJob, ImpossibleRecord}
 use Rattle.schedule.specs.Memory.{Memory}
 use Rattle.schedule.specs.Possible.{impossible}
 use Rattle.schedule.specs.declared.Job.{Job}
-use Rattle.schedule.specs.declared.Record.{Record}
 use Rattle.schedule.specs.declared.Cursor.{Cursor}
 use Rattle.schedule.specs.declared.Cursor.TheVariants.{End, Corner, Point}
 use Rattle.plans.specs.Sparse.{sparse}
@@ -70,7 +69,6 @@ possible_written j nan m out =
     cond (not (printable j m)) (refused_put NotPrintable out) (put_listing (record_listing j nan m) out)
 
 -- of any record (rule T16)
-unfoldable pub written : Record → ℕ → Memory → List ℕ → Put
-written r nan m out =
-    cond (not r.opened) (refused_put (Refused NoJob) out)
-    (cond (impossible sparse r.job m) (refused_put (Refused ImpossibleRecord) out) (possible_written r.job nan m out))
+unfoldable pub written : Option Job → ℕ → Memory → List ℕ → Put
+written None nan m out = refused_put (Refused NoJob) out
+written (Some j) nan m out = cond (impossible sparse j m) (refused_put (Refused ImpossibleRecord) out) (possible_written j nan m out)

@@ -5,6 +5,7 @@ ghost use Rattle.listing.specs.Written.{put_answer, put_bytes};
 
 use crate::{Unlisted, writing};
 use job_text::Job;
+use schedule::Slices;
 
 // More evaluations than any job has.
 const ALL: u64 = 18446744073709551615;
@@ -19,37 +20,20 @@ fn list_read(job: Job, out: &mut [u8]) -> Result<usize, Unlisted>
     let mut places = [0u32; 512];
     let mut store = [0.0; 4096];
     let mut corners = [0.0; 125];
-    let opened = sparse_field::open(
-        sparse_field::no_record(),
-        job.input,
-        &mut kinds,
-        &mut numbers,
-        &mut places,
-        &mut store,
-        &mut corners,
-    );
-    if let Err(cause) = opened.answer {
+    let mut slices = Slices {
+        kinds: &mut kinds,
+        numbers: &mut numbers,
+        places: &mut places,
+        store: &mut store,
+        corners: &mut corners,
+    };
+    let mut record = None;
+    let opened = sparse_field::open(&mut record, job.input, &mut slices);
+    if let Err(cause) = opened {
         return writing::write_refusal(cause.number(), out);
     }
-    let done = sparse_field::step(
-        opened.next,
-        ALL,
-        &mut kinds,
-        &mut numbers,
-        &mut places,
-        &mut store,
-        &mut corners,
-    );
-    writing::write_listing(
-        done.next,
-        job_text::nan_pattern(job),
-        &kinds,
-        &numbers,
-        &places,
-        &store,
-        &corners,
-        out,
-    )
+    let _ = sparse_field::step(&mut record, ALL, &mut slices);
+    writing::write_listing(&record, job_text::nan_pattern(job), &slices.view(), out)
 }
 
 // Puts what `fieldlist` prints for a text at the front of the lent bytes, and 0 after it. The answer is

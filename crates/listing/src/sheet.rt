@@ -8,26 +8,23 @@ ghost use Rattle.listing.specs.Written.{all_placed};
 use crate::text::Text;
 use forms::Sink;
 use grid::Kind;
-use schedule::Counts;
+use schedule::{Counts, View};
 
 // How a listing is laid out: its counts, how many children it has in all, how many to a node, how
 // many points to a leaf, the bits of a NaN leaf value; and the lent slices that have its children.
-#[derive(Clone, Copy)]
+#[derive(Clone, Copy, Debug)]
 pub struct Sheet<'a> {
     pub counts: Counts,
     pub total: usize,
     pub children: usize,
     pub points: usize,
     pub nan: u64,
-    pub kinds: &'a [u8],
-    pub numbers: &'a [f64],
-    pub places: &'a [u32],
-    pub store: &'a [f64],
+    pub slices: View<'a>,
     ghost sizes: { Sizes total children points },
-    ghost all_kinds: { total ≤ length kinds.now },
-    ghost all_numbers: { total ≤ length numbers.now },
-    ghost all_places: { total ≤ length places.now },
-    ghost placed: { all_placed points (length store.now) kinds.now places.now total 0 ≡ true },
+    ghost all_kinds: { total ≤ length slices.kinds.now },
+    ghost all_numbers: { total ≤ length slices.numbers.now },
+    ghost all_places: { total ≤ length slices.places.now },
+    ghost placed: { all_placed points (length slices.store.now) slices.kinds.now slices.places.now total 0 ≡ true },
 }
 
 impl<'a> Sheet<'a> {
@@ -36,12 +33,12 @@ impl<'a> Sheet<'a> {
     // The values of the leaf at a place.
     fn leaf(&self, j: usize) -> &[f64]
         requires inside { j < self.now.total }
-        requires leaf { get_or self.now.kinds.now j 0 ≡ 2 }
-        ensures { let place = get_or self.now.places.now j 0 in
-            result.now ≡ leaf_values self.now.points self.now.store.now place }
+        requires leaf { get_or self.now.slices.kinds.now j 0 ≡ 2 }
+        ensures { let place = get_or self.now.slices.places.now j 0 in
+            result.now ≡ leaf_values self.now.points self.now.slices.store.now place }
     {
-        let from = self.places[j] as usize * self.points;
-        &self.store[from..from + self.points]
+        let from = self.slices.places[j] as usize * self.points;
+        &self.slices.store[from..from + self.points]
     }
 
     // Puts the line of the child at a place.
@@ -52,9 +49,9 @@ impl<'a> Sheet<'a> {
     {
         let v = (j / self.children) as u64;
         let c = (j % self.children) as u64;
-        match Kind::of(self.kinds[j]) {
+        match Kind::of(self.slices.kinds[j]) {
             Kind::Empty => {}
-            Kind::Active => put_constant(v, c, self.numbers[j], sink),
+            Kind::Active => put_constant(v, c, self.slices.numbers[j], sink),
             Kind::Leaf => put_leaf(self.nan, v, c, self.leaf(j), sink),
         }
     }

@@ -1,7 +1,7 @@
 // The listing of a record's job, over lent bytes.
 ghost use Rattle.std.specs.Prelude.{◌≡◌, false, [], ◌∷◌, ◌<◌, ◌≤◌, length};
 ghost use Rattle.schedule.specs.Possible.{impossible};
-ghost use Rattle.schedule.specs.Lent.{memory_of};
+ghost use Rattle.schedule.specs.Lent.{viewed};
 ghost use Rattle.plans.specs.Sparse.{sparse};
 ghost use Rattle.forms.specs.Forms.{spell};
 ghost use Rattle.listing.specs.Lines.{refused_form, off_form};
@@ -13,7 +13,7 @@ use crate::sheet::Sheet;
 use crate::text::{self, Line};
 use causes::Cause;
 use grid::Kind;
-use schedule::{Cursor, Job, Record};
+use schedule::{Cursor, Job, View};
 
 // Whether a child of this kind is no leaf, or has its stretch inside a store of this size.
 #[tactic(auto, unfolding(crate::specs::Written::placed))]
@@ -25,37 +25,26 @@ fn is_placed(points: usize, size: usize, kind: u8, place: u32) -> bool
 }
 
 // Whether the first children are no leaves, or have their stretches inside a store of this size.
-fn all_placed(total: usize, points: usize, size: usize, kinds: &[u8], places: &[u32]) -> bool
+fn all_placed(total: usize, points: usize, slices: &View) -> bool
     requires size { points ≤ 262144 }
-    requires kinds { total ≤ length kinds.now }
-    requires places { total ≤ length places.now }
-    ensures { result ≡ all_placed points size kinds.now places.now total 0 }
+    requires kinds { total ≤ length slices.now.kinds.now }
+    requires places { total ≤ length slices.now.places.now }
+    ensures { result ≡ all_placed points (length slices.now.store.now) slices.now.kinds.now slices.now.places.now total 0 }
 {
+    let size = slices.store.len();
     for j in 0..total {
-        if !is_placed(points, size, kinds[j], places[j]) {
+        if !is_placed(points, size, slices.kinds[j], slices.places[j]) {
             return false;
         }
     }
     true
 }
 
-// Writes the listing of a record that is not impossible.
-fn write_possible(
-    job: Job,
-    nan: u64,
-    kinds: &[u8],
-    numbers: &[f64],
-    places: &[u32],
-    store: &[f64],
-    corners: &[f64],
-    out: &mut [u8],
-) -> Result<usize, Unlisted>
-    requires { impossible sparse job
-        (memory_of kinds.now numbers.now places.now store.now corners.now) ≡ false }
-    ensures answer { result ≡ (possible_written job nan
-        (memory_of kinds.now numbers.now places.now store.now corners.now) out.old).answer }
-    ensures out { out.new ≡ (possible_written job nan
-        (memory_of kinds.now numbers.now places.now store.now corners.now) out.old).bytes }
+// Writes the listing of a job whose record is not impossible.
+fn write_possible(job: &Job, nan: u64, slices: &View, out: &mut [u8]) -> Result<usize, Unlisted>
+    requires { impossible sparse job.now (viewed slices.now) ≡ false }
+    ensures answer { result ≡ (possible_written job.now nan (viewed slices.now) out.old).answer }
+    ensures out { out.new ≡ (possible_written job.now nan (viewed slices.now) out.old).bytes }
 {
     let Cursor::End = job.cursor else {
         return Err(Unlisted::NotPrintable);
@@ -64,7 +53,7 @@ fn write_possible(
     let children = grid::cube_of(g.inner as usize);
     let points = grid::cube_of(g.leaf as usize);
     let total = grid::node_total(g) * children;
-    if !all_placed(total, points, store.len(), kinds, places) {
+    if !all_placed(total, points, slices) {
         return Err(Unlisted::NotPrintable);
     }
     let sheet = Sheet {
@@ -73,10 +62,7 @@ fn write_possible(
         children,
         points,
         nan,
-        kinds,
-        numbers,
-        places,
-        store,
+        slices: *slices,
     };
     text::write(&sheet, out)
 }
@@ -84,29 +70,23 @@ fn write_possible(
 // Writes the listing of a record's job, in which a NaN leaf value has the given bits. Refused by 7
 // without a job, by 8 with an impossible record, and by 6 where the bytes lent are too few. A refusal
 // writes nothing; what lies past a listing is set to 0.
+#[tactic(auto, unfolding(crate::specs::Written::written))]
 pub fn write_listing(
-    record: Record,
+    job: &Option<Job>,
     nan: u64,
-    kinds: &[u8],
-    numbers: &[f64],
-    places: &[u32],
-    store: &[f64],
-    corners: &[f64],
+    slices: &View,
     out: &mut [u8],
 ) -> Result<usize, Unlisted>
-    ensures answer { result ≡ (written «record» nan
-        (memory_of kinds.now numbers.now places.now store.now corners.now) out.old).answer }
-    ensures out { out.new ≡ (written «record» nan
-        (memory_of kinds.now numbers.now places.now store.now corners.now) out.old).bytes }
+    ensures answer { result ≡ (written job.now nan (viewed slices.now) out.old).answer }
+    ensures out { out.new ≡ (written job.now nan (viewed slices.now) out.old).bytes }
 {
-    if !record.opened {
+    let Some(job) = job else {
         return Err(Unlisted::Refused(Cause::NoJob));
-    }
-    let job = record.job;
-    if sparse_field::is_impossible(&job, kinds, numbers, places, store, corners) {
+    };
+    if sparse_field::is_impossible(job, slices) {
         return Err(Unlisted::Refused(Cause::ImpossibleRecord));
     }
-    write_possible(job, nan, kinds, numbers, places, store, corners, out)
+    write_possible(job, nan, slices, out)
 }
 
 // Writes the line of a refusal by the number of its cause.

@@ -1,13 +1,13 @@
 -- A listing by its sheet.
-use Rattle.std.specs.Prelude.{ℕ, List, []}
+use Rattle.std.specs.Prelude.{ℕ, List}
 use Rattle.schedule.specs.Memory.{Memory}
-use Rattle.schedule.specs.Lent.{memory_of}
+use Rattle.schedule.specs.Lent.{viewed}
 use Rattle.listing.specs.declared.sheet.Sheet.{Sheet}
 use Rattle.listing.specs.Listing.{line_at, lines_from, listing_to}
 
--- what its slices hold; corners are not listed
+-- what its slices hold
 abbrev pub sheet_memory : Sheet → Memory
-sheet_memory s = memory_of s.kinds.now s.numbers.now s.places.now s.store.now []
+sheet_memory s = viewed s.slices
 
 abbrev pub sheet_line : Sheet → ℕ → List ℕ
 sheet_line s j = line_at s.children s.points s.nan (sheet_memory s) j

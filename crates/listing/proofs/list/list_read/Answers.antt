@@ -24,17 +24,17 @@ returns-in-Err-clause-out c =
 pub returns-clause-answer : goal.returns-clause-answer
 returns-clause-answer c =
     let began = c.open-opened.ensures in
-    let done = c.step-done.ensures in
+    let done = c.step.ensures in
     let is =
-    finished_listed c.args.job _ _ refl began.answer began.next began.memory c.in_default.is refl done.next done.memory
+    finished_listed c.args.job _ _ refl began.answer began.next began.memory c.in_default.is refl done.next (c.view.ensures ∙ done.memory)
     c.nan_pattern.ensures c.args.out.now in
     c.write_listing.ensures.answer ∙ ap (λ p. p.answer) is
 
 pub returns-clause-out : goal.returns-clause-out
 returns-clause-out c =
     let began = c.open-opened.ensures in
-    let done = c.step-done.ensures in
+    let done = c.step.ensures in
     let is =
-    finished_listed c.args.job _ _ refl began.answer began.next began.memory c.in_default.is refl done.next done.memory
+    finished_listed c.args.job _ _ refl began.answer began.next began.memory c.in_default.is refl done.next (c.view.ensures ∙ done.memory)
     c.nan_pattern.ensures c.args.out.now in
     c.write_listing.ensures.out ∙ ap (λ p. p.bytes) is

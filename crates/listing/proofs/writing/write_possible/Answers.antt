@@ -1,6 +1,6 @@
 -- `write_possible` meets its contract: by the cursor, by the leaves' places, and by whether the listing fits.
 use Rattle.std.proofs.Common.{ℕ, ◌*◌, sym, ap, ap₂, ◌∙◌, arith}
-use Rattle.schedule.specs.Lent.{memory_of}
+use Rattle.schedule.specs.Lent.{viewed}
 use Rattle.listing.proofs.ListingLaws.{listing_most}
 use Rattle.listing.proofs.WrittenLaws.{ready, sizes_read, not_ended, ended, unfinished, unplaced, printed}
 use Rattle.listing.proofs.writing.write_possible.Goals as goal
@@ -8,8 +8,8 @@ use Rattle.listing.proofs.writing.write_possible.Goals as goal
 pub returns-in_default : goal.returns-in_default
 returns-in_default c =
     let a = c.args in
-    let m = memory_of a.kinds.now a.numbers.now a.places.now a.store.now a.corners.now in
-    let is = unfinished a.job a.nan m a.out.now (not_ended _ c.in_default.not-End) in
+    let m = viewed a.slices.now in
+    let is = unfinished a.job.now a.nan m a.out.now (not_ended _ c.in_default.not-End) in
     record { answer = sym (ap (λ p. p.answer) is); out = sym (ap (λ p. p.bytes) is) }
 
 pub cube_of-children-requires : goal.cube_of-children-requires
@@ -42,18 +42,18 @@ all_placed-requires-clause-places c =
 pub returns-then-not-all_placed-clause-answer : goal.returns-then-not-all_placed-clause-answer
 returns-then-not-all_placed-clause-answer c =
     let a = c.args in
-    let m = memory_of a.kinds.now a.numbers.now a.places.now a.store.now a.corners.now in
+    let m = viewed a.slices.now in
     let is =
-    unplaced a.job a.nan m a.out.now c.node_total.ensures c.cube_of-children.ensures c.cube_of-points.ensures (ended _ c.in-End.is)
+    unplaced a.job.now a.nan m a.out.now c.node_total.ensures c.cube_of-children.ensures c.cube_of-points.ensures (ended _ c.in-End.is)
     (sym c.all_placed.ensures ∙ c.if-not-all_placed.true) in
     sym (ap (λ p. p.answer) is)
 
 pub returns-then-not-all_placed-clause-out : goal.returns-then-not-all_placed-clause-out
 returns-then-not-all_placed-clause-out c =
     let a = c.args in
-    let m = memory_of a.kinds.now a.numbers.now a.places.now a.store.now a.corners.now in
+    let m = viewed a.slices.now in
     let is =
-    unplaced a.job a.nan m a.out.now c.node_total.ensures c.cube_of-children.ensures c.cube_of-points.ensures (ended _ c.in-End.is)
+    unplaced a.job.now a.nan m a.out.now c.node_total.ensures c.cube_of-children.ensures c.cube_of-points.ensures (ended _ c.in-End.is)
     (sym c.all_placed.ensures ∙ c.if-not-all_placed.true) in
     sym (ap (λ p. p.bytes) is)
 
@@ -75,17 +75,17 @@ write-requires c = listing_most _ _ _ _ _ _ (sizes_read (ready _ _ c.requires) c
 pub returns-clause-answer : goal.returns-clause-answer
 returns-clause-answer c =
     let a = c.args in
-    let m = memory_of a.kinds.now a.numbers.now a.places.now a.store.now a.corners.now in
+    let m = viewed a.slices.now in
     let is =
-    printed a.job a.nan m a.out.now c.node_total.ensures c.cube_of-children.ensures c.cube_of-points.ensures (ended _ c.in-End.is)
+    printed a.job.now a.nan m a.out.now c.node_total.ensures c.cube_of-children.ensures c.cube_of-points.ensures (ended _ c.in-End.is)
     (sym c.all_placed.ensures ∙ c.if-not-all_placed.false) in
     c.write.ensures.answer ∙ sym (ap (λ p. p.answer) is)
 
 pub returns-clause-out : goal.returns-clause-out
 returns-clause-out c =
     let a = c.args in
-    let m = memory_of a.kinds.now a.numbers.now a.places.now a.store.now a.corners.now in
+    let m = viewed a.slices.now in
     let is =
-    printed a.job a.nan m a.out.now c.node_total.ensures c.cube_of-children.ensures c.cube_of-points.ensures (ended _ c.in-End.is)
+    printed a.job.now a.nan m a.out.now c.node_total.ensures c.cube_of-children.ensures c.cube_of-points.ensures (ended _ c.in-End.is)
     (sym c.all_placed.ensures ∙ c.if-not-all_placed.false) in
     c.write.ensures.out ∙ sym (ap (λ p. p.bytes) is)
