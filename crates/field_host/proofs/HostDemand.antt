@@ -23,7 +23,7 @@ use Rattle.causes.specs.All.{all_causes}
 use Rattle.causes.proofs.All.{number_above, cause_at}
 use Rattle.causes.specs.Number.{number_of}
 use Rattle.schedule.specs.Calls.{Answer, Reply, opens, steps, run}
-use Rattle.schedule.specs.Engine.{Engine, advanced, opened_engine, engine_call, engine_open}
+use Rattle.schedule.specs.Engine.{Engine, advanced, engine_call, engine_open}
 use Rattle.schedule.specs.Possible.{impossible}
 use Rattle.schedule.specs.Ledger.{no_entry, entry}
 use Rattle.schedule.specs.BudgetSum.{budget_sum}
@@ -100,7 +100,9 @@ cause_back cause = by (number_of cause) (number_above cause) (cause_at cause Wal
   where
     by : (n : ℕ) → 0 < n → get_or all_causes (n - 1) Walk ≡ cause → answer_of n ≡ Err cause
     by zero above at = absurd (omega arith)
-    by (suc n) above at = ap (λ x. Err x) at
+    by (suc n) above at =
+        let back : n ≡ suc n - 1 = omega arith in
+        ap (λ x. Err x) (ap (λ k. get_or all_causes k Walk) back ∙ at)
 
 -- ---- one call
 

@@ -1,5 +1,5 @@
 -- `put_child` meets its contract, by the child's kind.
-use Rattle.std.proofs.Common.{sym, ◌∙◌, length, subst, get_or}
+use Rattle.std.proofs.Common.{sym, ◌∙◌, length, subst}
 use Rattle.grid.proofs.KindNumbers.{empty_number, leaf_number, active_number}
 use Rattle.listing.proofs.SheetLaws.{empty_here, leaf_here, constant_here}
 use Rattle.listing.proofs.sheet.Sheet.put_child.Goals as goal
