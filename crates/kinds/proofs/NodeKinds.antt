@@ -22,6 +22,7 @@ use Rattle.grid.specs.Limits.{children_of}
 use Rattle.grid.specs.Boxes.{active, child_indices}
 use Rattle.grid.specs.Inner.Activity.{axis_active}
 use Rattle.grid.proofs.Active.{by_axes}
+use Rattle.kinds.specs.declared.tables.NodeTables.{NodeTables}
 use Rattle.kinds.specs.Inner.Tables.{table_test, node_test, grid_test, active_child}
 
 -- ---- a node's children, by the tables of three axes
@@ -41,7 +42,7 @@ module _ (g : Grid) (v : ℕ) (xs ys zs : List Bool) {s : Float} {nodes at : Vec
     (hx : (c : ℕ) → c < g.inner → table_test xs c ≡ axis_active g.bounds.min.x g.bounds.max.x s g.inner at.i c)
     (hy : (c : ℕ) → c < g.inner → table_test ys c ≡ axis_active g.bounds.min.y g.bounds.max.y s g.inner at.j c)
     (hz : (c : ℕ) → c < g.inner → table_test zs c ≡ axis_active g.bounds.min.z g.bounds.max.z s g.inner at.k c) where
-  by_tables : (c : ℕ) → c < cube g.inner → node_test g.inner xs ys zs c ≡ active g v c
+  pub by_tables : (c : ℕ) → c < cube g.inner → node_test g.inner xs ys zs c ≡ active g v c
   unfolding indices_of
   by_tables c h =
       let n = g.inner in
@@ -61,11 +62,16 @@ module _ (g : Grid) (v : ℕ) (xs ys zs : List Bool) {s : Float} {nodes at : Vec
       positive zero h = absurd (omega arith)
       positive (suc n) h = omega arith
 
-  pub node_flags : flags_from (node_test g.inner xs ys zs) (cube g.inner) 0 ≡ flags_from (active g v) (cube g.inner) 0
-  node_flags = flags_cong (node_test g.inner xs ys zs) (active g v) (cube g.inner) 0 0 (λ c h. rw (zero-add c) (by_tables c h))
+-- what tables that tell the active children give
+module _ (g : Grid) (v : ℕ) (t : NodeTables) (size : t.n ≡ g.inner)
+    (same : (c : ℕ) → c < cube g.inner → node_test t.n t.xs t.ys t.zs c ≡ active g v c) where
+  pub node_flags : flags_from (node_test t.n t.xs t.ys t.zs) (cube t.n) 0 ≡ flags_from (active g v) (cube g.inner) 0
+  node_flags =
+      ap (λ (m : ℕ). flags_from (node_test t.n t.xs t.ys t.zs) (cube m) 0) size
+      ∙ flags_cong (node_test t.n t.xs t.ys t.zs) (active g v) (cube g.inner) 0 0 (λ c h. rw (zero-add c) (same c h))
 
-  pub node_agrees : (part : List ℕ) → length part ≡ cube g.inner → agrees_from (node_test g.inner xs ys zs) 0 part ≡ agrees_from (active g v) 0 part
-  node_agrees part long = agrees_cong (node_test g.inner xs ys zs) (active g v) 0 0 part (λ c h. rw (zero-add c) (by_tables c (omega arith)))
+  pub node_agrees : (part : List ℕ) → length part ≡ cube g.inner → agrees_from (node_test t.n t.xs t.ys t.zs) 0 part ≡ agrees_from (active g v) 0 part
+  node_agrees part long = agrees_cong (node_test t.n t.xs t.ys t.zs) (active g v) 0 0 part (λ c h. rw (zero-add c) (same c (omega arith)))
 
 -- ---- all kinds
 

@@ -1,5 +1,5 @@
 -- A child more.
-use Rattle.std.proofs.Common.{◌≡◌, ◌<◌, false, length, ◌∙◌, arith}
+use Rattle.std.proofs.Common.{◌<◌, false, length, ◌∙◌, arith}
 use lib.ListN.{length-set}
 use lib.Seq.{get_or-set_same, get_or-set_other}
 use borrow.Author.Count.{below_none, below_more}
