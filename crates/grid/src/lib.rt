@@ -4,7 +4,8 @@
 
 use geometry::BoundingBox;
 
-mod activity; // activity.rt: how many children are active
+mod activity; // activity.rt: how many children of a node are active
+mod axes; // axes.rt: a grid's axes, and which children are active on each
 mod blocks; // blocks.rt: the sizes of blocks, and their cubes
 mod boxes; // boxes.rt: where nodes and children lie, and which are active
 mod kinds; // kinds.rt: the number of a child's kind
@@ -16,8 +17,9 @@ mod pruning; // pruning.rt: which children become constants
 mod sized; // sized.rt: a grid that causes 2 and 5 do not refuse, and what it has
 
 pub use activity::active_in;
+pub use axes::{Axes, Axis};
 pub use blocks::{cube_of, is_block};
-pub use boxes::{axis_active, child_box, is_active, node_box, node_least, node_most};
+pub use boxes::{child_box, is_active, node_box, node_least, node_most};
 pub use limits::{cause_five, cause_one, cause_two};
 pub use needed::corner_list;
 pub use nodes::{node_counts, node_size, node_total, nodes_along, steps_between};

@@ -5,9 +5,8 @@ ghost use Rattle.grid.specs.Nodes.{nodes_of};
 ghost use Rattle.grid.specs.Counting.{active_of, counts_of};
 ghost use Rattle.grid.specs.Limits.{refused_by_two, refused_by_five, children_of};
 
-use crate::activity::axis_total;
 use crate::blocks::cube_of;
-use crate::nodes::{node_counts, node_size, node_total};
+use crate::nodes::{node_counts, node_total};
 use crate::{Grid, GridCounts};
 
 // A grid whose blocks have a size that blocks may have, and whose nodes and children are not too many.
@@ -64,16 +63,9 @@ impl SizedGrid {
         ensures is { result ≡ active_of self.grid }
         ensures few { result ≤ 16777216 }
     {
-        let g = self.grid;
-        let min = g.bounds.min;
-        let max = g.bounds.max;
-        let n = g.inner;
-        let s = node_size(g.cell, n, g.leaf);
-        let nodes = node_counts(g);
-        let x = axis_total(min.x, max.x, s, n, nodes.i as u64);
-        let y = axis_total(min.y, max.y, s, n, nodes.j as u64);
-        let z = axis_total(min.z, max.z, s, n, nodes.k as u64);
-        x * y * z
+        let nodes = node_counts(self.grid);
+        let axes = self.grid.axes();
+        axes.x.total(nodes.i) * axes.y.total(nodes.j) * axes.z.total(nodes.k)
     }
 
     // The nodes and the active children.

@@ -8,6 +8,7 @@ use causes::Cause;
 use grid::SizedGrid;
 
 // A limit of the band that is a NaN.
+// Kept: grid's cause 1 is two tests joined as well, but of other things.
 #[tactic(auto, unfolding(crate::specs::Causes::refused_by_three))]
 fn cause_three(band: Band) -> bool
     ensures { result ≡ refused_by_three band }

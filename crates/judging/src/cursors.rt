@@ -27,7 +27,7 @@ impl<'a> RightKinds<'a> {
 
     // Whether a cursor is one that its plan has (rule R11).
     #[tactic(auto, unfolding(schedule::specs::Possible::valid_cursor))]
-    pub fn cursor_right(&self, cursor: Cursor) -> bool
+    pub(crate) fn cursor_right(&self, cursor: Cursor) -> bool
         ensures { result ≡ valid_cursor (grid_plan self.now.grid.grid) cursor }
     {
         match cursor {

@@ -8,7 +8,7 @@ ghost use Rattle.plans.specs.Inner.GridPlan.{grid_plan};
 use grid::SizedGrid;
 
 // A grid, and kinds that are long enough for it and as rule R8 wants them.
-#[derive(Clone, Copy)]
+#[derive(Clone, Copy, Debug, PartialEq)]
 pub struct RightKinds<'a> {
     pub grid: SizedGrid,
     pub kinds: &'a [u8],
@@ -29,7 +29,7 @@ impl<'a> RightKinds<'a> {
         &self.kinds[from..from + children]
     }
     // Whether an active child of a node has a corner.
-    pub fn is_needed(&self, v: usize, corner: usize) -> bool
+    pub(crate) fn is_needed(&self, v: usize, corner: usize) -> bool
         requires { (v < nodes_of self.now.grid.grid) × (corner < cube (self.now.grid.grid.inner + 1)) }
         ensures { result ≡ (grid_plan self.now.grid.grid).needed v corner }
     {

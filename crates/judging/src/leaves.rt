@@ -38,7 +38,7 @@ impl<'a> RightKinds<'a> {
 
     // Whether there are too many leaves for the cursor (rule R12), or none inside a child (rule R13).
     #[tactic(auto, unfolding(crate::specs::Inner::Judged::wrong_leaves))]
-    pub fn wrong_leaves(&self, cursor: Cursor, leaves: u64) -> bool
+    pub(crate) fn wrong_leaves(&self, cursor: Cursor, leaves: u64) -> bool
         requires { valid_cursor (grid_plan self.now.grid.grid) cursor ≡ true }
         ensures { result ≡ wrong_leaves (grid_plan self.now.grid.grid) cursor leaves }
     {

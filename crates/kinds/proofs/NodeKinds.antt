@@ -22,6 +22,9 @@ use Rattle.grid.specs.Limits.{children_of}
 use Rattle.grid.specs.Boxes.{active, child_indices}
 use Rattle.grid.specs.Inner.Activity.{axis_active}
 use Rattle.grid.proofs.Active.{by_axes}
+use Rattle.grid.proofs.ActiveCounts.{along_x, along_y, along_z}
+use Rattle.grid.specs.declared.axes.Axes.{Axes}
+use Rattle.grid.specs.Axes.{axes_of}
 use Rattle.kinds.specs.declared.tables.NodeTables.{NodeTables}
 use Rattle.kinds.specs.Inner.Tables.{table_test, node_test, grid_test, active_child}
 
@@ -37,11 +40,11 @@ turned false true false = refl
 turned false false true = refl
 turned false false false = refl
 
-module _ (g : Grid) (v : ℕ) (xs ys zs : List Bool) {s : Float} {nodes at : Vec3i} (hs : s ≡ size_of g) (hn : nodes ≡ node_counts g)
+module _ (g : Grid) (v : ℕ) (xs ys zs : List Bool) {axes : Axes} {nodes at : Vec3i} (ha : axes ≡ axes_of g) (hn : nodes ≡ node_counts g)
     (hat : at ≡ indices_of v nodes.i nodes.j)
-    (hx : (c : ℕ) → c < g.inner → table_test xs c ≡ axis_active g.bounds.min.x g.bounds.max.x s g.inner at.i c)
-    (hy : (c : ℕ) → c < g.inner → table_test ys c ≡ axis_active g.bounds.min.y g.bounds.max.y s g.inner at.j c)
-    (hz : (c : ℕ) → c < g.inner → table_test zs c ≡ axis_active g.bounds.min.z g.bounds.max.z s g.inner at.k c) where
+    (hx : (c : ℕ) → c < axes.x.n → table_test xs c ≡ axis_active axes.x.least axes.x.most axes.x.size axes.x.n at.i c)
+    (hy : (c : ℕ) → c < axes.y.n → table_test ys c ≡ axis_active axes.y.least axes.y.most axes.y.size axes.y.n at.j c)
+    (hz : (c : ℕ) → c < axes.z.n → table_test zs c ≡ axis_active axes.z.least axes.z.most axes.z.size axes.z.n at.k c) where
   pub by_tables : (c : ℕ) → c < cube g.inner → node_test g.inner xs ys zs c ≡ active g v c
   unfolding indices_of
   by_tables c h =
@@ -50,10 +53,13 @@ module _ (g : Grid) (v : ℕ) (xs ys zs : List Bool) {s : Float} {nodes at : Vec
       let area : 0 < n * n = mul-pos above above in
       let place = hat ∙ (λ t. indices_of v (hn t).i (hn t).j) in
       let ch = child_indices n c in
-      let x = hx ch.i (column_below c n n above above) ∙ (λ t. axis_active g.bounds.min.x g.bounds.max.x (hs t) n (place t).i ch.i) in
-      let y = hy ch.j (line_below c n n above above) ∙ (λ t. axis_active g.bounds.min.y g.bounds.max.y (hs t) n (place t).j ch.j) in
-      let z = hz ch.k ((div-lt_iff_lt-mul area).1 (omega (arith, mul_assoc n n n)))
-      ∙ (λ t. axis_active g.bounds.min.z g.bounds.max.z (hs t) n (place t).k ch.k) in
+      let x = hx ch.i (omega (arith, along_x g ha, column_below c n n above above))
+      ∙ (λ t. axis_active (ha t).x.least (ha t).x.most (ha t).x.size (ha t).x.n (place t).i ch.i) in
+      let y = hy ch.j (omega (arith, along_y g ha, line_below c n n above above))
+      ∙ (λ t. axis_active (ha t).y.least (ha t).y.most (ha t).y.size (ha t).y.n (place t).j ch.j) in
+      let slab : ch.k < n = (div-lt_iff_lt-mul area).1 (omega (arith, mul_assoc n n n)) in
+      let z = hz ch.k (omega (arith, along_z g ha, slab))
+      ∙ (λ t. axis_active (ha t).z.least (ha t).z.most (ha t).z.size (ha t).z.n (place t).k ch.k) in
       turned (table_test xs ch.i) (table_test ys ch.j) (table_test zs ch.k)
       ∙ (λ t. x t && y t && z t)
       ∙ sym (by_axes g v c)

@@ -8,16 +8,13 @@ ghost use Rattle.grid.specs.Limits.{children_of};
 ghost use Rattle.kinds.specs.Inner.Tables.{table_test, slab_test, node_test, grid_test, active_child};
 
 use crate::tables::NodeTables;
-use grid::SizedGrid;
+use grid::{Kind, SizedGrid};
 
 // The kind that open gives a child.
 fn flag(active: bool) -> u8
     ensures { result ≡ bit active }
 {
-    if active {
-        return grid::Kind::Active.number();
-    }
-    grid::Kind::Empty.number()
+    u8::from(if active { Kind::Active } else { Kind::Empty })
 }
 
 // Sets the kinds of a row of children by the first axis. None is active where the row is not met.

@@ -4,23 +4,23 @@ ghost use Rattle.std.specs.Prelude.{ℕ, ◌≤◌, ◌<◌, ◌≡◌};
 ghost use Rattle.grid.specs.Inner.Activity.{axis_active};
 ghost use Rattle.kinds.specs.Inner.Tables.{table_test};
 
-use grid::SizedGrid;
+use grid::{Axis, SizedGrid};
 
-// On one axis: which of the n children of node i the bounds from `least` to `most` meet.
-fn axis_table(least: f64, most: f64, s: f64, n: u32, i: usize) -> [bool; 64]
-    requires { n ≤ 64 }
-    ensures { (c : ℕ) → c < n → table_test result c ≡ axis_active least most s n i c }
+// Which of the children of node i the bounds meet on an axis.
+fn axis_table(axis: Axis, i: usize) -> [bool; 64]
+    requires { axis.n ≤ 64 }
+    ensures { (c : ℕ) → c < axis.n → table_test result c ≡ axis_active axis.least axis.most axis.size axis.n i c }
 {
-    let side = n as usize;
+    let side = axis.n as usize;
     let mut table = [false; 64];
     for c in 0..side {
-        table[c] = grid::axis_active(least, most, s, n, i, c);
+        table[c] = axis.is_active(i, c);
     }
     table
 }
 
 // The tables of a node that has n children along each axis.
-#[derive(Clone, Copy, Debug)]
+#[derive(Clone, Copy, Debug, PartialEq, Eq)]
 pub struct NodeTables {
     pub n: usize,
     pub xs: [bool; 64],
@@ -40,18 +40,14 @@ impl NodeTables {
         ensures tests { (c : ℕ) → c < cube g.grid.inner
             → node_test result.n result.xs result.ys result.zs c ≡ active g.grid v c }
     {
-        let g = g.grid;
-        let min = g.bounds.min;
-        let max = g.bounds.max;
-        let n = g.inner;
-        let s = grid::node_size(g.cell, n, g.leaf);
-        let nodes = grid::node_counts(g);
+        let nodes = grid::node_counts(g.grid);
         let at = geometry::indices(v, nodes.i, nodes.j);
+        let axes = g.grid.axes();
         NodeTables {
-            n: n as usize,
-            xs: axis_table(min.x, max.x, s, n, at.i),
-            ys: axis_table(min.y, max.y, s, n, at.j),
-            zs: axis_table(min.z, max.z, s, n, at.k),
+            n: g.grid.inner as usize,
+            xs: axis_table(axes.x, at.i),
+            ys: axis_table(axes.y, at.j),
+            zs: axis_table(axes.z, at.k),
         }
     }
 }
