@@ -17,7 +17,7 @@ fn point_right(g: SizedGrid, v: usize, c: usize, p: usize) -> bool
 }
 
 impl<'a> RightKinds<'a> {
-    // Whether a cursor at a corner is at a needed one, by its node's part of the kinds.
+    // Whether a cursor at a corner is at a needed one.
     #[tactic(auto, unfolding(schedule::specs::Possible::valid_cursor, plans::specs::Plan::plan_with))]
     fn corner_right(&self, v: usize, i: usize) -> bool
         ensures { result ≡ valid_cursor (grid_plan self.now.grid.grid) (Corner v i) }

@@ -1,11 +1,11 @@
 // A grid with its children's kinds, which a record's counts and cursor are held against.
-ghost use Rattle.std.specs.Prelude.{◌≡◌, ◌+◌, ◌*◌, ◌≤◌, ◌<◌, length, take, drop};
+ghost use Rattle.std.specs.Prelude.{◌≡◌, ◌+◌, ◌*◌, ◌≤◌, ◌<◌, length};
 ghost use Rattle.grid.specs.Blocks.{cube};
 ghost use Rattle.grid.specs.Nodes.{nodes_of};
 ghost use Rattle.schedule.specs.Opened.{ActiveKinds};
 ghost use Rattle.plans.specs.Inner.GridPlan.{grid_plan};
 
-use grid::SizedGrid;
+use grid::{NodeKinds, SizedGrid};
 
 // A grid, and kinds that are long enough for it and as rule R8 wants them.
 #[derive(Clone, Copy, Debug, PartialEq)]
@@ -17,22 +17,17 @@ pub struct RightKinds<'a> {
 }
 
 impl<'a> RightKinds<'a> {
-    // The kinds of one node.
-    fn of_node(&self, v: usize) -> &[u8]
-        requires { v < nodes_of self.now.grid.grid }
-        ensures long { length result.now ≡ cube self.now.grid.grid.inner }
-        ensures part { result.now
-            ≡ take (cube self.now.grid.grid.inner) (drop (v * cube self.now.grid.grid.inner) self.now.kinds.now) }
-    {
-        let children = self.grid.node_children();
-        let from = v * children;
-        &self.kinds[from..from + children]
-    }
-    // Whether an active child of a node has a corner.
+    // Whether an active child of a node has a corner, by the node's part of the kinds.
     pub(crate) fn is_needed(&self, v: usize, corner: usize) -> bool
         requires { (v < nodes_of self.now.grid.grid) × (corner < cube (self.now.grid.grid.inner + 1)) }
         ensures { result ≡ (grid_plan self.now.grid.grid).needed v corner }
     {
-        rows::is_needed(self.grid.grid.inner, self.of_node(v), corner)
+        let children = self.grid.node_children();
+        let from = v * children;
+        let node = NodeKinds {
+            n: self.grid.grid.inner,
+            kinds: &self.kinds[from..from + children],
+        };
+        rows::is_needed(&node, corner)
     }
 }

@@ -7,7 +7,6 @@ use native.Mathlib.Nat.{zero-add, mul-pos, mul_assoc, div-lt_iff_lt-mul}
 use native.Mathlib.Omega.{arith}
 use lib.ListN.{length, take, drop, replicate, length-append, length-drop, take-append-drop, drop_of_length-le}
 use lib.Seq.{take_at, drop_at, take_all, length-take-le}
-use lib.Ieee.{Float}
 use borrow.Author.Tests.{lt-ltb, le-ltb}
 use borrow.Rule.Slice.PartMut.{put_mid}
 use Rattle.lists.specs.Flags.{flags_from, agrees_from}
@@ -17,7 +16,7 @@ use Rattle.geometry.specs.declared.Vec3i.{Vec3i}
 use Rattle.geometry.proofs.Inverse.{column_below, line_below}
 use Rattle.grid.specs.declared.Grid.{Grid}
 use Rattle.grid.specs.Blocks.{cube}
-use Rattle.grid.specs.Nodes.{size_of, node_counts, nodes_of}
+use Rattle.grid.specs.Nodes.{node_counts, nodes_of}
 use Rattle.grid.specs.Limits.{children_of}
 use Rattle.grid.specs.Boxes.{active, child_indices}
 use Rattle.grid.specs.Inner.Activity.{axis_active}

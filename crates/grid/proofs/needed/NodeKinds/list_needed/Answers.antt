@@ -5,18 +5,17 @@ use Rattle.lists.proofs.Rest.{rest_lent}
 use Rattle.grid.specs.Blocks.{cube}
 use Rattle.grid.proofs.BlockLaws.{cube_le}
 use Rattle.grid.proofs.ListedCorners.{no_marks, gathered_to, room, kept, counted, corners_once}
-use Rattle.grid.proofs.needed.list_needed.Goals as goal
+use Rattle.grid.proofs.needed.NodeKinds.list_needed.Goals as goal
 
 pub mark-requires : goal.mark-requires
 mark-requires c =
-    let p = c.requires in
-    (p.0, p.1, no_marks _ _ c.args.list.now _ p.2 (search rules))
+    no_marks _ _ c.args.list.now _ c.requires (search rules)
 
 pub gather-count-requires : goal.gather-count-requires
 gather-count-requires c =
-    let n = c.args.n in
+    let n = c.args.self.now.n in
     let e : c.cube_of-corners.result ≡ cube (n + 1) = c.cube_of-corners.ensures in
-    (omega (arith, c.mark.ensures.1.long), omega (arith, cube_le 65 (n + 1) (omega arith)))
+    (omega (arith, c.mark.ensures.1.long), omega (arith, cube_le 65 (n + 1) (omega (arith, c.args.self.now.few))))
 
 pub returns : goal.returns
 returns c =
