@@ -37,6 +37,8 @@ fn neighbour_sum(n: Vec3i, values: &[f64], p: usize) -> f64
 
 // One round: the numbers of points of a field, how much of a point's value becomes its neighbours' mean,
 // and the values before the round.
+// Kept: `new` is no field, since it would be a `&mut` slice, and each clause would name it at the entry and
+// at the exit. That it is as long as `old` stays a clause.
 #[derive(Clone, Copy, Debug, PartialEq)]
 struct Round<'a> {
     n: Vec3i,
@@ -119,6 +121,7 @@ fn smooth_once(n: Vec3i, factor: f64, old: &[f64], new: &mut [f64])
 
 // All rounds, two at a time: from the values into the scratch and back. After an odd last round
 // the result is copied back.
+// Kept: these are the parameters of `smooth`, and of the original.
 fn smooth_rounds(n: Vec3i, factor: f64, rounds: u32, values: &mut [f64], scratch: &mut [f64])
     requires { Lent n (length values.old) × (length scratch.old ≡ length values.old) }
     ensures { values.new ≡ smoothed n factor rounds values.old }

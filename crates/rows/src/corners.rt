@@ -109,6 +109,8 @@ fn scatter(places: &[u32], values: &[f64; 64], corners: &mut [f64])
 
 // Evaluates a node's needed corners from corner i on, in ascending order and in rows, while the budget
 // lasts, and runs on to the next needed corner or past the last. The rows are made once.
+// Kept: how many turns the loop takes hangs on where each search ends, which nothing tells before. The list
+// and the values have the room of a row, and what lends them lends `count` of them.
 pub fn run_corners(
     model: &ImplicitModel,
     b: BoundingBox,
