@@ -98,6 +98,8 @@ fn octet(n: Vec3i, values: &[f64], c: Vec3i) -> [f64; 8]
 }
 
 // The eight values at the corners of a cell.
+// Kept: `n`, `values` and a cell are three parameters here, as they are in C. The struct of them is the
+// walker, `DenseCellValueIterator`.
 #[tactic(auto, unfolding(crate::specs::Cells::cell_values_of, crate::specs::Outcomes::outcome_of, causes::specs::First::first_of))]
 pub fn cell_values(n: Vec3i, values: &[f64], c: Vec3i) -> Result<[f64; 8], Cause>
     ensures { result ≡ cell_values_of n values.now c }

@@ -12,8 +12,8 @@ use causes::Cause;
 use geometry::Vec3i;
 
 // One row of an inner slab: all of an outer row, and the two ends of an inner one.
-// Kept: `n` and `values` stay two parameters, here and in smoothing.rt. A struct of both would hold a
-// lent slice, and each clause would name its fields at the entry, which is longer than `Lent`.
+// Kept: `n` and `values` stay two parameters. A struct of both would hold a `&mut` slice, and each clause
+// would name its fields at the entry and at the exit, which is longer than `Lent`.
 fn pad_row(n: Vec3i, value: f64, values: &mut [f64], j: usize, k: usize)
     requires lent { Lent n (length values.old) }
     requires inside { (j < n.j) × (0 < k) × (k + 1 < n.k) }

@@ -35,50 +35,79 @@ fn neighbour_sum(n: Vec3i, values: &[f64], p: usize) -> f64
         + values[p - slab]
 }
 
-// Blends `count` values from `at` on with their neighbours. The compiler makes vector instructions
-// of the loop.
-fn blend_values(n: Vec3i, factor: f64, old: &[f64], new: &mut [f64], at: usize, count: usize)
-    requires { Between n at count (length old.now) (length new.old) }
-    ensures { new.new ≡ filled at count (offset_blend n factor old.now) new.old }
-{
-    let keep = 1.0 - factor;
-    for i in 0..count {
-        let p = at + i;
-        let sum = neighbour_sum(n, old, p);
-        new[p] = float::computed(keep * old[p] + factor * (sum / 6.0));
-    }
+// One round: the numbers of points of a field, how much of a point's value becomes its neighbours' mean,
+// and the values before the round.
+// Kept: `new` is no field, since it would be a `&mut` slice, and each clause would name it at the entry and
+// at the exit. That it is as long as `old` stays a clause.
+#[derive(Clone, Copy, Debug, PartialEq)]
+struct Round<'a> {
+    n: Vec3i,
+    factor: f64,
+    old: &'a [f64],
+    ghost lent: { Lent n (length old.now) },
 }
 
-// One row of an inner slab: the inner points of an inner row are blended, the others stay.
-fn smooth_row(n: Vec3i, factor: f64, old: &[f64], new: &mut [f64], j: usize, k: usize)
-    requires lent { Lent n (length old.now) × (length new.old ≡ length old.now) }
-    requires inside { (j < n.j) × (0 < k) × (k + 1 < n.k) }
-    ensures { new.new ≡ filled (k * (n.i * n.j) + j * n.i) n.i (smoothed_at n factor old.now) new.old }
-{
-    let row = n.i;
-    let at = k * (n.i * n.j) + j * row;
-    if row < 3 || j == 0 || j + 1 == n.j {
-        copy_values(old, new, at, row);
-        return;
+impl<'a> Round<'a> {
+    // Blends `count` values from `at` on with their neighbours. The compiler makes vector instructions
+    // of the loop.
+    fn blend_values(&self, new: &mut [f64], at: usize, count: usize)
+        requires { Between self.now.n at count (length self.now.old.now) (length new.old) }
+        ensures { new.new ≡ filled at count (offset_blend self.now.n self.now.factor self.now.old.now) new.old }
+    {
+        let n = self.n;
+        let factor = self.factor;
+        let old = self.old;
+        let keep = 1.0 - factor;
+        for i in 0..count {
+            let p = at + i;
+            let sum = neighbour_sum(n, old, p);
+            new[p] = float::computed(keep * old[p] + factor * (sum / 6.0));
+        }
     }
-    copy_values(old, new, at, 1);
-    blend_values(n, factor, old, new, at + 1, row - 2);
-    copy_values(old, new, at + 1 + (row - 2), 1);
-}
 
-// One slab: the first and the last stay, and the others are smoothed row by row.
-fn smooth_slab(n: Vec3i, factor: f64, old: &[f64], new: &mut [f64], k: usize)
-    requires lent { Lent n (length old.now) × (length new.old ≡ length old.now) }
-    requires inside { k < n.k }
-    ensures { new.new ≡ filled (k * (n.i * n.j)) (n.i * n.j) (smoothed_at n factor old.now) new.old }
-{
-    let slab = n.i * n.j;
-    if k == 0 || k + 1 == n.k {
-        copy_values(old, new, k * slab, slab);
-        return;
+    // One row of an inner slab: the inner points of an inner row are blended, the others stay.
+    fn smooth_row(&self, new: &mut [f64], j: usize, k: usize)
+        requires same { length new.old ≡ length self.now.old.now }
+        requires inside { (j < self.now.n.j) × (0 < k) × (k + 1 < self.now.n.k) }
+        ensures { new.new ≡ filled (k * (self.now.n.i * self.now.n.j) + j * self.now.n.i) self.now.n.i
+            (smoothed_at self.now.n self.now.factor self.now.old.now) new.old }
+    {
+        let row = self.n.i;
+        let at = k * (row * self.n.j) + j * row;
+        if row < 3 || j == 0 || j + 1 == self.n.j {
+            copy_values(self.old, new, at, row);
+            return;
+        }
+        copy_values(self.old, new, at, 1);
+        self.blend_values(new, at + 1, row - 2);
+        copy_values(self.old, new, at + 1 + (row - 2), 1);
     }
-    for j in 0..n.j {
-        smooth_row(n, factor, old, new, j, k);
+
+    // One slab: the first and the last stay, and the others are smoothed row by row.
+    fn smooth_slab(&self, new: &mut [f64], k: usize)
+        requires same { length new.old ≡ length self.now.old.now }
+        requires inside { k < self.now.n.k }
+        ensures { new.new ≡ filled (k * (self.now.n.i * self.now.n.j)) (self.now.n.i * self.now.n.j)
+            (smoothed_at self.now.n self.now.factor self.now.old.now) new.old }
+    {
+        let slab = self.n.i * self.n.j;
+        if k == 0 || k + 1 == self.n.k {
+            copy_values(self.old, new, k * slab, slab);
+            return;
+        }
+        for j in 0..self.n.j {
+            self.smooth_row(new, j, k);
+        }
+    }
+
+    // The whole round, into the new values.
+    fn smooth_once(&self, new: &mut [f64])
+        requires { length new.old ≡ length self.now.old.now }
+        ensures { new.new ≡ smoothed_once self.now.n self.now.factor self.now.old.now }
+    {
+        for k in 0..self.n.k {
+            self.smooth_slab(new, k);
+        }
     }
 }
 
@@ -87,13 +116,12 @@ fn smooth_once(n: Vec3i, factor: f64, old: &[f64], new: &mut [f64])
     requires { Lent n (length old.now) × (length new.old ≡ length old.now) }
     ensures { new.new ≡ smoothed_once n factor old.now }
 {
-    for k in 0..n.k {
-        smooth_slab(n, factor, old, new, k);
-    }
+    Round { n, factor, old }.smooth_once(new);
 }
 
 // All rounds, two at a time: from the values into the scratch and back. After an odd last round
 // the result is copied back.
+// Kept: these are the parameters of `smooth`, and of the original.
 fn smooth_rounds(n: Vec3i, factor: f64, rounds: u32, values: &mut [f64], scratch: &mut [f64])
     requires { Lent n (length values.old) × (length scratch.old ≡ length values.old) }
     ensures { values.new ≡ smoothed n factor rounds values.old }

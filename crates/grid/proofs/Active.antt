@@ -1,36 +1,11 @@
 -- A child is active exactly where it is on each of the three axes.
-use Rattle.std.proofs.Common.{◌≡◌, ℕ, Bool, true, false, ◌&&◌, sym, refl}
-use lib.Ieee.{Float, le}
-use Rattle.lists.proofs.Tests.{and_then, and_else}
-use Rattle.geometry.specs.Axis.{along, along_end}
+use Rattle.std.proofs.Common.{◌≡◌, ℕ, Bool, true, false, ◌&&◌, refl}
+use lib.Ieee.{le}
 use Rattle.geometry.specs.Box.{intersects_of}
 use Rattle.grid.specs.declared.Grid.{Grid}
 use Rattle.grid.specs.Nodes.{size_of}
-use Rattle.grid.specs.Boxes.{node_least, node_most, node_box_at, node_box, child_box_at, child_box, node_indices, child_indices, active}
+use Rattle.grid.specs.Boxes.{node_box_at, node_box, child_box_at, child_box, node_indices, child_indices, active}
 use Rattle.grid.specs.Inner.Activity.{axis_active}
-
--- by the two comparisons of the code
-module _ (least most s : Float) (n i ci : ℕ) where
-  abbrev end : Float
-  end = along_end (node_least least s i) (node_most least s i) n ci
-
-  abbrev begin : Float
-  begin = along (node_least least s i) (node_most least s i) n ci
-
-  pub axis_then : {from to p q : Float} → from ≡ node_least least s i → to ≡ node_most least s i → q ≡ along_end from to n ci → le least q ≡ true
-      → p ≡ along from to n ci → le p most ≡ axis_active least most s n i ci
-  unfolding axis_active
-  axis_then {p = p} hf ht hq held hp =
-      let first : le least end ≡ true = cc in
-      let second : le p most ≡ le begin most = cc in
-      and_then {a = le least end} {b = le begin most} first second
-
-  pub axis_else : {from to q : Float} → from ≡ node_least least s i → to ≡ node_most least s i → q ≡ along_end from to n ci → le least q ≡ false
-      → false ≡ axis_active least most s n i ci
-  unfolding axis_active
-  axis_else hf ht hq failed =
-      let first : le least end ≡ false = cc in
-      and_else {a = le least end} (le begin most) first (sym first)
 
 regroup : (x y₁ y₂ z₁ z₂ : Bool) → (x && y₁ && y₂ && z₁ && z₂) ≡ (x && (y₁ && y₂) && (z₁ && z₂))
 regroup false y₁ y₂ z₁ z₂ = refl

@@ -5,6 +5,8 @@ use Rattle.geometry.specs.Index.{indices_of}
 use Rattle.geometry.specs.Axis.{as_float, step_along, along, along_end}
 use Rattle.geometry.specs.declared.Vec3i.{Vec3i}
 use Rattle.grid.specs.declared.Grid.{Grid}
+use Rattle.grid.specs.declared.axes.Axes.{Axes}
+use Rattle.grid.specs.Axes.{axes_of}
 use Rattle.lists.specs.Ranges.{count_below}
 use Rattle.grid.specs.Blocks.{cube}
 use Rattle.grid.specs.Nodes.{size_of, node_counts, nodes_of}
@@ -67,22 +69,17 @@ module _ (least most s : Float) (n : ℕ) where
 -- ---- one more child, and one more node, along an axis
 
 module _ (least most s : Float) (n i : ℕ) where
-  -- the code's test of child c: fi and fc are i and c as floats
-  pub axis_met : (c : ℕ) {fi fc step : Float} {r : ℕ} → fi ≡ as_float i
-      → step ≡ step_along (add binary64 least (mul binary64 fi s)) (add binary64 (add binary64 least (mul binary64 fi s)) s) n
-      → fc ≡ as_float c
-      → r
-      ≡ bit (le least (add binary64 (add binary64 (add binary64 least (mul binary64 fi s)) (mul binary64 fc step)) step)
-      && le (add binary64 (add binary64 least (mul binary64 fi s)) (mul binary64 fc step)) most)
+  -- the code's test of child c, by where its node begins and what c is as a float
+  pub axis_met : (c : ℕ) {from fc step : Float} {r : ℕ} → from ≡ node_least least s i → step ≡ step_along from (add binary64 from s) n → fc ≡ as_float c
+      → r ≡ bit (le least (add binary64 (add binary64 from (mul binary64 fc step)) step) && le (add binary64 from (mul binary64 fc step)) most)
       → r ≡ bit (axis_active least most s n i c)
-  unfolding axis_active node_least node_most along along_end
+  unfolding axis_active node_most along along_end
   axis_met c hi hs hc hr =
-      let step =
-      hs ∙ (λ t. step_along (add binary64 least (mul binary64 (hi t) s)) (add binary64 (add binary64 least (mul binary64 (hi t) s)) s) n) in
+      let step = hs ∙ (λ t. step_along (hi t) (add binary64 (hi t) s) n) in
       hr
       ∙ (λ t.
-      bit (le least (add binary64 (add binary64 (add binary64 least (mul binary64 (hi t) s)) (mul binary64 (hc t) (step t))) (step t))
-      && le (add binary64 (add binary64 least (mul binary64 (hi t) s)) (mul binary64 (hc t) (step t))) most))
+      bit (le least (add binary64 (add binary64 (hi t) (mul binary64 (hc t) (step t))) (step t))
+      && le (add binary64 (hi t) (mul binary64 (hc t) (step t))) most))
 
   pub axis_count_more : (c : ℕ) {count r : ℕ} → count ≡ count_below c (axis_active least most s n i) → r ≡ bit (axis_active least most s n i c)
       → count + r ≡ count_below (c + 1) (axis_active least most s n i)
@@ -95,35 +92,42 @@ axis_total_more least most s n i ht hr = rw (add-one i) ((λ t. ht t + hr t) ∙
 
 -- ---- the products of the code, from what its calls return
 
-module _ (g : Grid) {s : Float} {nodes : Vec3i} (hs : s ≡ size_of g) (hn : nodes ≡ node_counts g) {x y z : ℕ} where
+module _ (g : Grid) {axes : Axes} {nodes : Vec3i} (ha : axes ≡ axes_of g) (hn : nodes ≡ node_counts g) {x y z : ℕ} where
   pub active_in_by : (v : ℕ) {at : Vec3i} → at ≡ indices_of v nodes.i nodes.j
-      → x ≡ axis_count g.bounds.min.x g.bounds.max.x s g.inner at.i
-      → y ≡ axis_count g.bounds.min.y g.bounds.max.y s g.inner at.j
-      → z ≡ axis_count g.bounds.min.z g.bounds.max.z s g.inner at.k
+      → x ≡ axis_count axes.x.least axes.x.most axes.x.size axes.x.n at.i
+      → y ≡ axis_count axes.y.least axes.y.most axes.y.size axes.y.n at.j
+      → z ≡ axis_count axes.z.least axes.z.most axes.z.size axes.z.n at.k
       → x * y * z ≡ active_in g v
   active_in_by v hat hx hy hz =
       let at = hat ∙ (λ t. indices_of v (hn t).i (hn t).j) in
-      let px = hx ∙ (λ t. axis_count g.bounds.min.x g.bounds.max.x (hs t) g.inner (at t).i) in
-      let py = hy ∙ (λ t. axis_count g.bounds.min.y g.bounds.max.y (hs t) g.inner (at t).j) in
-      let pz = hz ∙ (λ t. axis_count g.bounds.min.z g.bounds.max.z (hs t) g.inner (at t).k) in
+      let px = hx ∙ (λ t. axis_count (ha t).x.least (ha t).x.most (ha t).x.size (ha t).x.n (at t).i) in
+      let py = hy ∙ (λ t. axis_count (ha t).y.least (ha t).y.most (ha t).y.size (ha t).y.n (at t).j) in
+      let pz = hz ∙ (λ t. axis_count (ha t).z.least (ha t).z.most (ha t).z.size (ha t).z.n (at t).k) in
       (λ t. px t * py t * pz t) ∙ sym (active_in_lem g v)
 
-  pub active_of_by : x ≡ axis_total g.bounds.min.x g.bounds.max.x s g.inner nodes.i
-      → y ≡ axis_total g.bounds.min.y g.bounds.max.y s g.inner nodes.j
-      → z ≡ axis_total g.bounds.min.z g.bounds.max.z s g.inner nodes.k
+  pub active_of_by : x ≡ axis_total axes.x.least axes.x.most axes.x.size axes.x.n nodes.i
+      → y ≡ axis_total axes.y.least axes.y.most axes.y.size axes.y.n nodes.j
+      → z ≡ axis_total axes.z.least axes.z.most axes.z.size axes.z.n nodes.k
       → x * y * z ≡ active_of g
   active_of_by hx hy hz =
-      let px = hx ∙ (λ t. axis_total g.bounds.min.x g.bounds.max.x (hs t) g.inner (hn t).i) in
-      let py = hy ∙ (λ t. axis_total g.bounds.min.y g.bounds.max.y (hs t) g.inner (hn t).j) in
-      let pz = hz ∙ (λ t. axis_total g.bounds.min.z g.bounds.max.z (hs t) g.inner (hn t).k) in
+      let px = hx ∙ (λ t. axis_total (ha t).x.least (ha t).x.most (ha t).x.size (ha t).x.n (hn t).i) in
+      let py = hy ∙ (λ t. axis_total (ha t).y.least (ha t).y.most (ha t).y.size (ha t).y.n (hn t).j) in
+      let pz = hz ∙ (λ t. axis_total (ha t).z.least (ha t).z.most (ha t).z.size (ha t).z.n (hn t).k) in
       (λ t. px t * py t * pz t) ∙ sym (active_of_lem g)
 
--- each fits
-module _ (least most s : Float) (n : ℕ) (small : n ≤ 64) where
-  pub count_few : {x : ℕ} (i : ℕ) → x ≡ axis_count least most s n i → x ≤ 65536
-  count_few i e = omega (arith, axis_count_le least most s n i)
+-- the children along each axis are those of the grid
+module _ (g : Grid) {axes : Axes} (ha : axes ≡ axes_of g) where
+  pub along_x : axes.x.n ≡ g.inner
+  along_x t = (ha t).x.n
 
-  pub total_few : {x : ℕ} (nodes : ℕ) → nodes ≤ 1024 → x ≡ axis_total least most s n nodes → x ≤ 65536
-  total_few nodes few e =
-      let product : nodes * n ≤ 65536 = mul-le-mul {n₂ = 1024} {m₂ = 64} few small in
-      omega (arith, axis_total_le least most s n nodes)
+  pub along_y : axes.y.n ≡ g.inner
+  along_y t = (ha t).y.n
+
+  pub along_z : axes.z.n ≡ g.inner
+  along_z t = (ha t).z.n
+
+-- the nodes of so many children fit
+pub total_few : (least most s : Float) (n : ℕ) → n ≤ 64 → {x : ℕ} (nodes : ℕ) → nodes ≤ 1024 → x ≡ axis_total least most s n nodes → x ≤ 65536
+total_few least most s n small nodes few e =
+    let product : nodes * n ≤ 65536 = mul-le-mul {n₂ = 1024} {m₂ = 64} few small in
+    omega (arith, axis_total_le least most s n nodes)

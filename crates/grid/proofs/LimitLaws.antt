@@ -1,6 +1,5 @@
 -- What each test of a grid decides, and what holds of a grid that causes 2 and 5 do not refuse.
-use Rattle.std.proofs.Common.{◌≡◌, ℕ, ◌+◌, ◌*◌, ◌<◌, ◌≤◌, Bool, true, false, not, ◌||◌, ltb, refl, ap, mul_assoc, mul-le-mul, mul-le-mul_left, mul-add, arith, ltb-false, le-ltb, lt-ltb}
-use mathlib.Core.Bool.{or-true}
+use Rattle.std.proofs.Common.{◌≡◌, ℕ, ◌+◌, ◌*◌, ◌≤◌, true, false, not, ◌||◌, ltb, ap, mul_assoc, mul-le-mul, mul-le-mul_left, mul-add, arith, ltb-false, le-ltb}
 use lib.Ieee.Scale.{finite}
 use borrow.Author.Tests.{not-false}
 use Rattle.lists.proofs.Tests.{or_left, or_right, or_fifth}
@@ -13,21 +12,6 @@ use Rattle.grid.specs.Limits.{refused_by_two, refused_by_five, children_of}
 use Rattle.grid.proofs.BlockLaws.{Block, block, cube_le}
 use Rattle.lists.proofs.Ranges.{count_below_le}
 use Rattle.lists.proofs.Sums.{sum_below_most}
-
--- ---- one of five tests that holds
-
-module _ (a b c d e : Bool) where
-  pub or_first : a ≡ true → true ≡ (a || b || c || d || e)
-  or_first h = rw h refl
-
-  pub or_second : b ≡ true → true ≡ (a || b || c || d || e)
-  or_second h = rw (h, or-true a) refl
-
-  pub or_third : c ≡ true → true ≡ (a || b || c || d || e)
-  or_third h = rw (h, or-true (a || b)) refl
-
-  pub or_fourth : d ≡ true → true ≡ (a || b || c || d || e)
-  or_fourth h = rw (h, or-true (a || b || c)) refl
 
 -- ---- cause 2
 
@@ -42,22 +26,6 @@ leaf_block g e = block g.leaf (not-false _ (or_right (not (is_block g.inner)) _ 
 -- ---- cause 5
 
 module _ (g : Grid) where
-  pub five_size : finite (size_of g) ≡ false → true ≡ refused_by_five g
-  unfolding refused_by_five
-  five_size h = let n = node_counts g in or_first (not (finite (size_of g))) (ltb 1024 n.i) (ltb 1024 n.j) (ltb 1024 n.k) _ (ap not h)
-
-  pub five_i : 1024 < (node_counts g).i → true ≡ refused_by_five g
-  unfolding refused_by_five
-  five_i h = let n = node_counts g in or_second (not (finite (size_of g))) (ltb 1024 n.i) (ltb 1024 n.j) (ltb 1024 n.k) _ (lt-ltb _ _ h)
-
-  pub five_j : 1024 < (node_counts g).j → true ≡ refused_by_five g
-  unfolding refused_by_five
-  five_j h = let n = node_counts g in or_third (not (finite (size_of g))) (ltb 1024 n.i) (ltb 1024 n.j) (ltb 1024 n.k) _ (lt-ltb _ _ h)
-
-  pub five_k : 1024 < (node_counts g).k → true ≡ refused_by_five g
-  unfolding refused_by_five
-  five_k h = let n = node_counts g in or_fourth (not (finite (size_of g))) (ltb 1024 n.i) (ltb 1024 n.j) (ltb 1024 n.k) _ (lt-ltb _ _ h)
-
   pub five_last : finite (size_of g) ≡ true → (node_counts g).i ≤ 1024 → (node_counts g).j ≤ 1024 → (node_counts g).k ≤ 1024
       → ltb 16777216 (children_of g) ≡ refused_by_five g
   unfolding refused_by_five

@@ -2,6 +2,7 @@
 pub mod Blocks
 pub mod Nodes
 pub mod Boxes
+pub mod Axes
 pub mod Corners
 pub mod Leaves
 pub mod Kinds

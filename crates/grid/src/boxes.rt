@@ -1,17 +1,18 @@
 // Where nodes and children lie, and which children are active.
 ghost use Rattle.std.specs.Prelude.{◌≡◌, ◌<◌};
 ghost use Rattle.grid.specs.Boxes.{node_least, node_most, node_box_at, node_box, child_box_at, child_box, active};
-ghost use Rattle.grid.specs.Inner.Activity.{axis_active};
 
 use crate::Grid;
 use crate::nodes::{node_counts, node_size};
+use crate::points::step_from;
 use geometry::{BoundingBox, Vec3, Vec3i};
 
 // Where node i of an axis begins.
+#[tactic(auto, unfolding(crate::specs::Boxes::node_least))]
 pub fn node_least(least: f64, s: f64, i: usize) -> f64
     ensures { result ≡ node_least least s i }
 {
-    float::computed(least + float::from_count(i as u64) * s)
+    step_from(least, s, i)
 }
 
 // Where it ends: a node's size after its beginning, wherever the bounds end.
@@ -83,16 +84,4 @@ pub fn is_active(g: Grid, v: usize, c: usize) -> bool
 {
     let bounds = g.bounds;
     bounds.intersects(child_box(node_box(g, v), g.inner, c))
-}
-
-// On one axis: whether bounds from `least` to `most` meet child ci of node i.
-#[tactic(auto, unfolding(crate::specs::Inner::Activity::axis_active))]
-pub fn axis_active(least: f64, most: f64, s: f64, n: u32, i: usize, ci: usize) -> bool
-    ensures { result ≡ axis_active least most s n i ci }
-{
-    let from = node_least(least, s, i);
-    let to = node_most(least, s, i);
-    let steps = n as u64;
-    least <= geometry::along_end(from, to, steps, ci as u64)
-        && geometry::along(from, to, steps, ci as u64) <= most
 }

@@ -4,18 +4,20 @@ ghost use Rattle.grid.specs.Kinds.{kind_number, kind_of};
 
 use crate::Kind;
 
-impl Kind {
-    // The number that a lent slice holds.
-    pub fn number(self) -> u8
-        ensures { result ≡ kind_number self }
-    {
-        self as u8
-    }
+// The number that a lent slice holds.
+impl From<Kind> for u8 {
+    ghost from_gives = { λ kind number. number ≡ kind_number kind };
 
-    // The kind that a lent number stands for. One that is no kind's counts as active.
-    pub fn of(number: u8) -> Self
-        ensures { result ≡ kind_of number }
-    {
+    fn from(kind: Kind) -> u8 {
+        kind as u8
+    }
+}
+
+// The kind that a lent number stands for. One that is no kind's counts as active.
+impl From<u8> for Kind {
+    ghost from_gives = { λ number kind. kind ≡ kind_of number };
+
+    fn from(number: u8) -> Kind {
         match number {
             0 => Kind::Empty,
             2 => Kind::Leaf,

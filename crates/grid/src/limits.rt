@@ -13,6 +13,8 @@ const MOST_NODES: usize = 1024;
 const MOST_CHILDREN: usize = 16_777_216;
 
 // Bounds or a cell's size that no grid can have.
+// Kept: input's cause 3 is two tests joined as well, but of other things. A function of two tests would be
+// `||`.
 #[tactic(auto, unfolding(crate::specs::Limits::refused_by_one))]
 pub fn cause_one(g: Grid) -> bool
     ensures { result ≡ refused_by_one g }

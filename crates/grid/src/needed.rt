@@ -27,31 +27,6 @@ fn mark_octet(p: usize, m: usize, list: &mut [u32])
     list[far] = 1;
 }
 
-// Marks the corners of the active children of one row, after those of the rows before it.
-fn mark_row(n: usize, row: usize, kinds: &[u8], list: &mut [u32])
-    requires { (n ≤ 64) × (row < n * n) × (length kinds.now ≡ n * n * n) × Marks n kinds.now (row * n) list.old }
-    ensures { (length list.new ≡ length list.old) × Marks n kinds.now (row * n + n) list.new }
-{
-    let m = n + 1;
-    let first = row * n;
-    let corner = (row / n * m + row % n) * m;
-    for i in 0..n {
-        if kinds[first + i] != 0 {
-            mark_octet(corner + i, m, list);
-        }
-    }
-}
-
-// Marks the corners of all active children, in a list that has no mark yet.
-fn mark(n: usize, kinds: &[u8], list: &mut [u32])
-    requires { (n ≤ 64) × (length kinds.now ≡ n * n * n) × Marks n kinds.now 0 list.old }
-    ensures { (length list.new ≡ length list.old) × Marks n kinds.now (n * n * n) list.new }
-{
-    for row in 0..n * n {
-        mark_row(n, row, kinds, list);
-    }
-}
-
 // Moves the marked places below `corners` to the list's front and counts them. The place that is
 // written is never past the one that is read.
 fn gather(corners: usize, list: &mut [u32]) -> usize
@@ -68,19 +43,60 @@ fn gather(corners: usize, list: &mut [u32]) -> usize
     count
 }
 
-// Writes each needed corner once, zeroes the rest of the list, and counts them.
-fn list_needed(n: usize, kinds: &[u8], list: &mut [u32]) -> usize
-    requires { (n ≤ 64) × (length kinds.now ≡ cube n) × (cube (n + 1) ≤ length list.old) }
-    ensures { (length list.new ≡ length list.old)
-        × (result ≡ count_below (cube (n + 1)) (needed n (nonzero_at kinds.now)))
-        × CornersOnce (needed n (nonzero_at kinds.now)) result list.new }
-{
-    list.fill(0);
-    mark(n, kinds, list);
-    let corners = cube_of(n + 1);
-    let count = gather(corners, list);
-    list[count..].fill(0);
-    count
+// The kinds of one node, n children along each axis. A kind that is not 0 is an active child.
+#[derive(Clone, Copy, Debug, PartialEq, Eq)]
+pub struct NodeKinds<'a> {
+    pub n: u32,
+    pub kinds: &'a [u8],
+    pub ghost some: { 0 < n },
+    pub ghost few: { n ≤ 64 },
+    pub ghost whole: { length kinds.now ≡ cube n },
+}
+
+impl<'a> NodeKinds<'a> {
+    // Marks the corners of the active children of one row, after those of the rows before it.
+    fn mark_row(&self, row: usize, list: &mut [u32])
+        requires { (row < self.now.n * self.now.n) × Marks self.now.n self.now.kinds.now (row * self.now.n) list.old }
+        ensures { (length list.new ≡ length list.old)
+            × Marks self.now.n self.now.kinds.now (row * self.now.n + self.now.n) list.new }
+    {
+        let n = self.n as usize;
+        let m = n + 1;
+        let first = row * n;
+        let corner = (row / n * m + row % n) * m;
+        for i in 0..n {
+            if self.kinds[first + i] != 0 {
+                mark_octet(corner + i, m, list);
+            }
+        }
+    }
+
+    // Marks the corners of all active children, in a list that has no mark yet.
+    fn mark(&self, list: &mut [u32])
+        requires { Marks self.now.n self.now.kinds.now 0 list.old }
+        ensures { (length list.new ≡ length list.old)
+            × Marks self.now.n self.now.kinds.now (self.now.n * self.now.n * self.now.n) list.new }
+    {
+        let n = self.n as usize;
+        for row in 0..n * n {
+            self.mark_row(row, list);
+        }
+    }
+
+    // Writes each needed corner once, zeroes the rest of the list, and counts them.
+    fn list_needed(&self, list: &mut [u32]) -> usize
+        requires { cube (self.now.n + 1) ≤ length list.old }
+        ensures { (length list.new ≡ length list.old)
+            × (result ≡ count_below (cube (self.now.n + 1)) (needed self.now.n (nonzero_at self.now.kinds.now)))
+            × CornersOnce (needed self.now.n (nonzero_at self.now.kinds.now)) result list.new }
+    {
+        list.fill(0);
+        self.mark(list);
+        let corners = cube_of(self.n as usize + 1);
+        let count = gather(corners, list);
+        list[count..].fill(0);
+        count
+    }
 }
 
 // Writes each corner that an active child of the node needs once, in no promised order, zeroes the
@@ -94,13 +110,11 @@ pub fn corner_list(inner: u32, kinds: &[u8], list: &mut [u32]) -> Result<usize, 
         return Err(Cause::BlockSize);
     }
     let n = inner as usize;
-    let children = cube_of(n);
-    if kinds.len() != children {
+    if kinds.len() != cube_of(n) {
         return Err(Cause::TooShort);
     }
-    let corners = cube_of(n + 1);
-    if list.len() < corners {
+    if list.len() < cube_of(n + 1) {
         return Err(Cause::TooShort);
     }
-    Ok(list_needed(n, kinds, list))
+    Ok(NodeKinds { n: inner, kinds }.list_needed(list))
 }

@@ -1,6 +1,5 @@
 // The points of a node's corners and of a leaf, one at a time and in rows, and a child's octet.
 ghost use Rattle.std.specs.Prelude.{◌≡◌, ◌+◌, ◌^◌, ◌<◌, ◌≤◌, length, slice_index};
-ghost use Rattle.geometry.specs.Values.{vec3i};
 ghost use Rattle.geometry.specs.Axis.{step_along};
 ghost use Rattle.geometry.specs.PointRow.{with_points};
 ghost use Rattle.geometry.specs.Octet.{octet_places};
@@ -65,8 +64,8 @@ fn leaf_steps(b: BoundingBox, l: u32) -> Vec3
     )
 }
 
-// Point i along an axis of a leaf.
-fn step_from(min: f64, step: f64, i: usize) -> f64
+// What stands i steps from the least end of an axis: a point of a leaf, or where a node begins.
+pub fn step_from(min: f64, step: f64, i: usize) -> f64
     ensures { result ≡ step_from min step i }
 {
     float::computed(min + float::from_count(i as u64) * step)
@@ -84,6 +83,8 @@ fn stepped_point(min: Vec3, steps: Vec3, at: Vec3i) -> Vec3
 }
 
 // Point p of a leaf.
+// Kept: a leaf's box and its points along an axis are two parameters. A caller has them apart, the box from
+// a child and l from the grid, and would make a struct of them for one call.
 pub fn leaf_point(b: BoundingBox, l: u32, p: usize) -> Vec3
     requires { 0 < l }
     ensures { result ≡ leaf_point b l p }
@@ -93,13 +94,14 @@ pub fn leaf_point(b: BoundingBox, l: u32, p: usize) -> Vec3
 }
 
 // The places of the eight corners of the child at (i, j, k), in rows of n + 1.
-fn octet_at(i: usize, j: usize, k: usize, n: usize) -> [usize; 8]
-    requires { (i < n) × (j < n) × (k < n) × (n ≤ 64) }
-    ensures { result ≡ octet_places (n + 1) (n + 1) (vec3i i j k) }
+#[tactic(auto, using(crate::proofs::Octets::from_first))]
+fn octet_at(at: Vec3i, n: usize) -> [usize; 8]
+    requires { (at.i < n) × (at.j < n) × (at.k < n) × (n ≤ 64) }
+    ensures { result ≡ octet_places (n + 1) (n + 1) at }
 {
     let row = n + 1;
     let slab = row * row;
-    let a = k * slab + j * row + i;
+    let a = at.k * slab + at.j * row + at.i;
     let b = a + row;
     let d = a + slab;
     let e = b + slab;
@@ -113,7 +115,7 @@ pub fn octet(n: u32, c: usize) -> [usize; 8]
 {
     let side = n as usize;
     let at = geometry::indices(c, side, side);
-    octet_at(at.i, at.j, at.k, side)
+    octet_at(at, side)
 }
 
 // The values at a child's eight corners.

@@ -12,6 +12,7 @@ pub use needed::needed_lengths;
 pub use refusals::open_refusal;
 
 // What a job is made from.
+// Kept: a model has neither Debug nor PartialEq, so that this has none.
 #[derive(Clone, Copy)]
 pub struct Input {
     pub grid: Grid,

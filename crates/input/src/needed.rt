@@ -1,25 +1,21 @@
 // How long the five slices of a job have to be.
-ghost use Rattle.std.specs.Prelude.{◌≡◌, false};
-ghost use Rattle.grid.specs.Limits.{refused_by_two, refused_by_five};
+ghost use Rattle.std.specs.Prelude.{◌≡◌};
 ghost use Rattle.input.specs.Needed.{needed_lengths, shorter};
 
 use crate::Lengths;
-use grid::Grid;
+use grid::SizedGrid;
 
 // The lengths that a grid's jobs need.
-pub fn needed_lengths(g: Grid) -> Lengths
-    requires { (refused_by_two g ≡ false) × (refused_by_five g ≡ false) }
-    ensures { result ≡ needed_lengths g }
+pub fn needed_lengths(g: SizedGrid) -> Lengths
+    ensures { result ≡ needed_lengths g.grid }
 {
-    let inner = g.inner as usize;
-    let children = grid::child_total(g);
-    let store = grid::active_children(g) as usize * grid::cube_of(g.leaf as usize);
+    let children = g.children();
     Lengths {
         kinds: children,
         numbers: children,
         places: children,
-        store,
-        corners: grid::cube_of(inner + 1),
+        store: g.active_children() as usize * g.leaf_points(),
+        corners: g.node_corners(),
     }
 }
 

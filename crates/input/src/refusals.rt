@@ -1,14 +1,14 @@
 // The causes by which open refuses an input, in their order.
-ghost use Rattle.std.specs.Prelude.{◌≡◌, false};
-ghost use Rattle.grid.specs.Limits.{refused_by_two, refused_by_five};
+ghost use Rattle.std.specs.Prelude.{◌≡◌};
 ghost use Rattle.input.specs.Causes.{refused_by_three, refused_by_six, refusal_of};
 
 use crate::needed::{is_shorter, needed_lengths};
 use crate::{Band, Input, Lengths};
 use causes::Cause;
-use grid::Grid;
+use grid::SizedGrid;
 
 // A limit of the band that is a NaN.
+// Kept: grid's cause 1 is two tests joined as well, but of other things.
 #[tactic(auto, unfolding(crate::specs::Causes::refused_by_three))]
 fn cause_three(band: Band) -> bool
     ensures { result ≡ refused_by_three band }
@@ -18,9 +18,8 @@ fn cause_three(band: Band) -> bool
 
 // A slice that is too short.
 #[tactic(auto, unfolding(crate::specs::Causes::refused_by_six))]
-fn cause_six(g: Grid, lengths: Lengths) -> bool
-    requires { (refused_by_two g ≡ false) × (refused_by_five g ≡ false) }
-    ensures { result ≡ refused_by_six g lengths }
+fn cause_six(g: SizedGrid, lengths: Lengths) -> bool
+    ensures { result ≡ refused_by_six g.grid lengths }
 {
     is_shorter(lengths, needed_lengths(g))
 }
@@ -47,7 +46,7 @@ pub fn open_refusal(input: &Input, lengths: Lengths) -> Result<(), Cause>
     if grid::cause_five(g) {
         return Err(Cause::Nodes);
     }
-    if cause_six(g, lengths) {
+    if cause_six(SizedGrid { grid: g }, lengths) {
         return Err(Cause::TooShort);
     }
     Ok(())

@@ -1,6 +1,6 @@
 -- The laws behind the judgement of a record: counts, cursors, and active children by their kinds.
 use mathlib.Core.Path.{◌≡◌, refl, sym, ap, ◌∙◌}
-use mathlib.Core.Bool.{Bool, true, false, ◌&&◌, ◌||◌}
+use mathlib.Core.Bool.{Bool, true, false, ◌&&◌}
 use mathlib.Core.List.{List}
 use Prim.Native.Nat.{ℕ, zero, suc, ◌+◌, ◌*◌, ◌/◌, ◌%◌, ◌≤◌, ◌<◌}
 use native.Mathlib.Nat.{add-zero, add-suc, zero-mul, mul-le-mul_right, mul-add-div_right, div-eq_of_lt, mul-add-mod_self_right, mod-eq_of_lt, div-add-mod'}
@@ -9,7 +9,7 @@ use native.Mathlib.Omega.{arith}
 use lib.Dec.{ltb, eqb}
 use lib.ListN.{length, get_or, take}
 use lib.Seq.{get_or-take, length-take-le}
-use borrow.Author.Tests.{eq-eqb, ne_eqb, eqb-true, eqb-false, lt-ltb, le-ltb, ltb-true}
+use borrow.Author.Tests.{eq-eqb, ne_eqb, eqb-true, eqb-false, ltb-true}
 use Rattle.schedule.specs.declared.Cursor.TheVariants.{Corner, Point}
 use Rattle.lists.proofs.Tests.{and_left, and_right}
 use Rattle.grid.specs.declared.Grid.{Grid}
@@ -35,7 +35,7 @@ use Rattle.plans.specs.Inner.GridPlan.{grid_plan}
 use Rattle.plans.proofs.Plans.{counts_same}
 use Rattle.float.specs.Zero.{plus_zero}
 use Rattle.grid.specs.declared.Verdict.TheVariants.{Leaf}
-use Rattle.judging.specs.Inner.Judged.{count_nonzero, RightKinds}
+use Rattle.judging.specs.Inner.Judged.{count_nonzero}
 use Rattle.lists.proofs.Flags.{nonzero_true}
 
 -- ---- products and quotients
@@ -135,18 +135,6 @@ module _ (g : Grid) (c : Counts) where
 -- ---- the tests of cursors
 
 module _ (g : Grid) (v : ℕ) where
-  pub corner_node : (k : ℕ) → nodes_of g ≤ v → false ≡ valid_cursor (grid_plan g) (Corner v k)
-  unfolding valid_cursor plan_with
-  corner_node k h = rw (le-ltb v (nodes_of g) h) refl
-
-  pub corner_place : (k : ℕ) → v < nodes_of g → cube (g.inner + 1) ≤ k → false ≡ valid_cursor (grid_plan g) (Corner v k)
-  unfolding valid_cursor plan_with
-  corner_place k h m = rw (lt-ltb v (nodes_of g) h, le-ltb k (cube (g.inner + 1)) m) refl
-
-  pub corner_needed : (k : ℕ) → v < nodes_of g → k < cube (g.inner + 1) → {b : Bool} → b ≡ (grid_plan g).needed v k → b ≡ valid_cursor (grid_plan g) (Corner v k)
-  unfolding valid_cursor plan_with
-  corner_needed k h m e = rw (lt-ltb v (nodes_of g) h, lt-ltb k (cube (g.inner + 1)) m) e
-
   pub corner_valid : (k : ℕ) → valid_cursor (grid_plan g) (Corner v k) ≡ true → v < nodes_of g
   unfolding valid_cursor plan_with
   corner_valid k e =
@@ -155,23 +143,6 @@ module _ (g : Grid) (v : ℕ) where
       ltb-true v (nodes_of g) (and_left a b (and_left (a && b) ((grid_plan g).needed v k) e))
 
   module _ (c p : ℕ) where
-    pub point_node : nodes_of g ≤ v → false ≡ valid_cursor (grid_plan g) (Point v c p)
-    unfolding valid_cursor plan_with
-    point_node h = rw (le-ltb v (nodes_of g) h) refl
-
-    pub point_child : v < nodes_of g → cube g.inner ≤ c → false ≡ valid_cursor (grid_plan g) (Point v c p)
-    unfolding valid_cursor plan_with
-    point_child h m = rw (lt-ltb v (nodes_of g) h, le-ltb c (cube g.inner) m) refl
-
-    pub point_active : v < nodes_of g → c < cube g.inner → active g v c ≡ false → false ≡ valid_cursor (grid_plan g) (Point v c p)
-    unfolding valid_cursor plan_with
-    point_active h m e = rw (lt-ltb v (nodes_of g) h, lt-ltb c (cube g.inner) m, e) refl
-
-    pub point_place : v < nodes_of g → c < cube g.inner → active g v c ≡ true → {b : Bool} → b ≡ ltb p (cube g.leaf)
-        → b ≡ valid_cursor (grid_plan g) (Point v c p)
-    unfolding valid_cursor plan_with
-    point_place h m e k = rw (lt-ltb v (nodes_of g) h, lt-ltb c (cube g.inner) m, e) k
-
     pub point_valid : valid_cursor (grid_plan g) (Point v c p) ≡ true → (v < nodes_of g) × (c < cube g.inner)
     unfolding valid_cursor plan_with
     point_valid e =
@@ -181,38 +152,13 @@ module _ (g : Grid) (v : ℕ) where
         let both = and_left (a && b) d (and_left (a && b && d) (ltb p (cube g.leaf)) e) in
         (ltb-true v (nodes_of g) (and_left a b both), ltb-true c (cube g.inner) (and_right a b both))
 
--- ---- tests joined
-
-module _ (a b c : Bool) where
-  pub leaves_many : a ≡ true → true ≡ (a || b && c)
-  leaves_many h = rw h refl
-
-  pub leaves_none : a ≡ false → b ≡ true → c ≡ (a || b && c)
-  leaves_none h k = rw (h, k) refl
-
-  pub leaves_right : a ≡ false → b ≡ false → false ≡ (a || b && c)
-  leaves_right h k = rw (h, k) refl
-
-module _ (a b c d e : Bool) where
-  pub joined_first : a ≡ true → true ≡ (a || b || c || d || e)
-  joined_first h = rw h refl
-
-  pub joined_second : a ≡ false → b ≡ true → true ≡ (a || b || c || d || e)
-  joined_second h k = rw (h, k) refl
-
-  pub joined_third : a ≡ false → b ≡ false → c ≡ true → true ≡ (a || b || c || d || e)
-  joined_third h k m = rw (h, k, m) refl
-
-  pub joined_rest : a ≡ false → b ≡ false → c ≡ false → {x : Bool} → x ≡ (d || e) → x ≡ (a || b || c || d || e)
-  joined_rest h k m x = rw (h, k, m) x
-
 -- ---- active children up to a cursor, by the kinds before a place
 
 pub record UpTo (P : Plan) (l : List ℕ) (n : ℕ) (a : Cursor) : Type 0 where
   pub inside : n ≤ length l
   pub count : count_nonzero (take n l) ≡ active_up_to P a
 
-module _ (g : Grid) (l : List ℕ) (h : RightKinds g l) (v n : ℕ) (e : n ≡ cube g.inner) where
+module _ (g : Grid) (l : List ℕ) (long : nodes_of g * cube g.inner ≤ length l) (right : ActiveKinds (grid_plan g) l) (v n : ℕ) (e : n ≡ cube g.inner) where
   pub corner_up_to : (q : ℕ) → valid_cursor (grid_plan g) (Corner v q) ≡ true → UpTo (grid_plan g) l (v * n) (Corner v q)
   unfolding active_up_to plan_with
   corner_up_to q ok =
@@ -220,8 +166,8 @@ module _ (g : Grid) (l : List ℕ) (h : RightKinds g l) (v n : ℕ) (e : n ≡ c
       let below : v < nodes_of g = corner_valid g v q ok in
       let place : v * n ≡ v * m + 0 = ap (λ (x : ℕ). v * x) e ∙ sym (add-zero (v * m)) in
       record {
-        inside = omega (arith, h.long, mul-le-mul_right m below);
-        count = count_up_to (grid_plan g) l h.right h.long v 0 (v * n) below (omega arith) place;
+        inside = omega (arith, long, mul-le-mul_right m below);
+        count = count_up_to (grid_plan g) l right long v 0 (v * n) below (omega arith) place;
       }
 
   pub point_up_to : (c p : ℕ) → valid_cursor (grid_plan g) (Point v c p) ≡ true → UpTo (grid_plan g) l (v * n + (c + 1)) (Point v c p)
@@ -231,6 +177,6 @@ module _ (g : Grid) (l : List ℕ) (h : RightKinds g l) (v n : ℕ) (e : n ≡ c
       let below = point_valid g v c p ok in
       let place : v * n + (c + 1) ≡ v * m + suc c = (λ t. v * e t + add-one c t) in
       record {
-        inside = omega (arith, h.long, below.1, mul-le-mul_right m below.0);
-        count = count_up_to (grid_plan g) l h.right h.long v (suc c) (v * n + (c + 1)) below.0 below.1 place;
+        inside = omega (arith, long, below.1, mul-le-mul_right m below.0);
+        count = count_up_to (grid_plan g) l right long v (suc c) (v * n + (c + 1)) below.0 below.1 place;
       }

@@ -1,27 +1,21 @@
 // How far a record says that its job is, held against its grid.
 ghost use Rattle.std.specs.Prelude.{◌≡◌};
 ghost use Rattle.plans.specs.Inner.GridPlan.{grid_plan};
-ghost use Rattle.judging.specs.Inner.Judged.{RightKinds, wrong_progress};
+ghost use Rattle.judging.specs.Inner.Judged.{wrong_progress};
 
+use crate::RightKinds;
 use crate::counts::{counts_right, evaluations_bound};
-use crate::cursors::cursor_right;
-use crate::leaves::wrong_leaves;
-use grid::Grid;
 use schedule::{Counts, Cursor};
 
-// Whether no job of the grid has these counts and this cursor.
-pub fn wrong_progress(g: Grid, kinds: &[u8], counts: Counts, cursor: Cursor) -> bool
-    requires { RightKinds g kinds.now }
-    ensures { result ≡ wrong_progress (grid_plan g) counts cursor }
-{
-    if !counts_right(g, counts) {
-        return true;
+impl<'a> RightKinds<'a> {
+    // Whether no job of the grid has these counts and this cursor.
+    #[tactic(auto, unfolding(crate::specs::Inner::Judged::wrong_progress))]
+    pub fn wrong_progress(&self, counts: Counts, cursor: Cursor) -> bool
+        ensures { result ≡ wrong_progress (grid_plan self.now.grid.grid) counts cursor }
+    {
+        !counts_right(self.grid, counts)
+            || counts.evaluations > evaluations_bound(self.grid)
+            || !self.cursor_right(cursor)
+            || self.wrong_leaves(cursor, counts.leaves)
     }
-    if counts.evaluations > evaluations_bound(g) {
-        return true;
-    }
-    if !cursor_right(g, kinds, cursor) {
-        return true;
-    }
-    wrong_leaves(g, kinds, cursor, counts.leaves)
 }

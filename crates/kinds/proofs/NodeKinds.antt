@@ -7,7 +7,6 @@ use native.Mathlib.Nat.{zero-add, mul-pos, mul_assoc, div-lt_iff_lt-mul}
 use native.Mathlib.Omega.{arith}
 use lib.ListN.{length, take, drop, replicate, length-append, length-drop, take-append-drop, drop_of_length-le}
 use lib.Seq.{take_at, drop_at, take_all, length-take-le}
-use lib.Ieee.{Float}
 use borrow.Author.Tests.{lt-ltb, le-ltb}
 use borrow.Rule.Slice.PartMut.{put_mid}
 use Rattle.lists.specs.Flags.{flags_from, agrees_from}
@@ -17,11 +16,15 @@ use Rattle.geometry.specs.declared.Vec3i.{Vec3i}
 use Rattle.geometry.proofs.Inverse.{column_below, line_below}
 use Rattle.grid.specs.declared.Grid.{Grid}
 use Rattle.grid.specs.Blocks.{cube}
-use Rattle.grid.specs.Nodes.{size_of, node_counts, nodes_of}
+use Rattle.grid.specs.Nodes.{node_counts, nodes_of}
 use Rattle.grid.specs.Limits.{children_of}
 use Rattle.grid.specs.Boxes.{active, child_indices}
 use Rattle.grid.specs.Inner.Activity.{axis_active}
 use Rattle.grid.proofs.Active.{by_axes}
+use Rattle.grid.proofs.ActiveCounts.{along_x, along_y, along_z}
+use Rattle.grid.specs.declared.axes.Axes.{Axes}
+use Rattle.grid.specs.Axes.{axes_of}
+use Rattle.kinds.specs.declared.tables.NodeTables.{NodeTables}
 use Rattle.kinds.specs.Inner.Tables.{table_test, node_test, grid_test, active_child}
 
 -- ---- a node's children, by the tables of three axes
@@ -36,12 +39,12 @@ turned false true false = refl
 turned false false true = refl
 turned false false false = refl
 
-module _ (g : Grid) (v : ℕ) (xs ys zs : List Bool) {s : Float} {nodes at : Vec3i} (hs : s ≡ size_of g) (hn : nodes ≡ node_counts g)
+module _ (g : Grid) (v : ℕ) (xs ys zs : List Bool) {axes : Axes} {nodes at : Vec3i} (ha : axes ≡ axes_of g) (hn : nodes ≡ node_counts g)
     (hat : at ≡ indices_of v nodes.i nodes.j)
-    (hx : (c : ℕ) → c < g.inner → table_test xs c ≡ axis_active g.bounds.min.x g.bounds.max.x s g.inner at.i c)
-    (hy : (c : ℕ) → c < g.inner → table_test ys c ≡ axis_active g.bounds.min.y g.bounds.max.y s g.inner at.j c)
-    (hz : (c : ℕ) → c < g.inner → table_test zs c ≡ axis_active g.bounds.min.z g.bounds.max.z s g.inner at.k c) where
-  by_tables : (c : ℕ) → c < cube g.inner → node_test g.inner xs ys zs c ≡ active g v c
+    (hx : (c : ℕ) → c < axes.x.n → table_test xs c ≡ axis_active axes.x.least axes.x.most axes.x.size axes.x.n at.i c)
+    (hy : (c : ℕ) → c < axes.y.n → table_test ys c ≡ axis_active axes.y.least axes.y.most axes.y.size axes.y.n at.j c)
+    (hz : (c : ℕ) → c < axes.z.n → table_test zs c ≡ axis_active axes.z.least axes.z.most axes.z.size axes.z.n at.k c) where
+  pub by_tables : (c : ℕ) → c < cube g.inner → node_test g.inner xs ys zs c ≡ active g v c
   unfolding indices_of
   by_tables c h =
       let n = g.inner in
@@ -49,10 +52,13 @@ module _ (g : Grid) (v : ℕ) (xs ys zs : List Bool) {s : Float} {nodes at : Vec
       let area : 0 < n * n = mul-pos above above in
       let place = hat ∙ (λ t. indices_of v (hn t).i (hn t).j) in
       let ch = child_indices n c in
-      let x = hx ch.i (column_below c n n above above) ∙ (λ t. axis_active g.bounds.min.x g.bounds.max.x (hs t) n (place t).i ch.i) in
-      let y = hy ch.j (line_below c n n above above) ∙ (λ t. axis_active g.bounds.min.y g.bounds.max.y (hs t) n (place t).j ch.j) in
-      let z = hz ch.k ((div-lt_iff_lt-mul area).1 (omega (arith, mul_assoc n n n)))
-      ∙ (λ t. axis_active g.bounds.min.z g.bounds.max.z (hs t) n (place t).k ch.k) in
+      let x = hx ch.i (omega (arith, along_x g ha, column_below c n n above above))
+      ∙ (λ t. axis_active (ha t).x.least (ha t).x.most (ha t).x.size (ha t).x.n (place t).i ch.i) in
+      let y = hy ch.j (omega (arith, along_y g ha, line_below c n n above above))
+      ∙ (λ t. axis_active (ha t).y.least (ha t).y.most (ha t).y.size (ha t).y.n (place t).j ch.j) in
+      let slab : ch.k < n = (div-lt_iff_lt-mul area).1 (omega (arith, mul_assoc n n n)) in
+      let z = hz ch.k (omega (arith, along_z g ha, slab))
+      ∙ (λ t. axis_active (ha t).z.least (ha t).z.most (ha t).z.size (ha t).z.n (place t).k ch.k) in
       turned (table_test xs ch.i) (table_test ys ch.j) (table_test zs ch.k)
       ∙ (λ t. x t && y t && z t)
       ∙ sym (by_axes g v c)
@@ -61,11 +67,16 @@ module _ (g : Grid) (v : ℕ) (xs ys zs : List Bool) {s : Float} {nodes at : Vec
       positive zero h = absurd (omega arith)
       positive (suc n) h = omega arith
 
-  pub node_flags : flags_from (node_test g.inner xs ys zs) (cube g.inner) 0 ≡ flags_from (active g v) (cube g.inner) 0
-  node_flags = flags_cong (node_test g.inner xs ys zs) (active g v) (cube g.inner) 0 0 (λ c h. rw (zero-add c) (by_tables c h))
+-- what tables that tell the active children give
+module _ (g : Grid) (v : ℕ) (t : NodeTables) (size : t.n ≡ g.inner)
+    (same : (c : ℕ) → c < cube g.inner → node_test t.n t.xs t.ys t.zs c ≡ active g v c) where
+  pub node_flags : flags_from (node_test t.n t.xs t.ys t.zs) (cube t.n) 0 ≡ flags_from (active g v) (cube g.inner) 0
+  node_flags =
+      ap (λ (m : ℕ). flags_from (node_test t.n t.xs t.ys t.zs) (cube m) 0) size
+      ∙ flags_cong (node_test t.n t.xs t.ys t.zs) (active g v) (cube g.inner) 0 0 (λ c h. rw (zero-add c) (same c h))
 
-  pub node_agrees : (part : List ℕ) → length part ≡ cube g.inner → agrees_from (node_test g.inner xs ys zs) 0 part ≡ agrees_from (active g v) 0 part
-  node_agrees part long = agrees_cong (node_test g.inner xs ys zs) (active g v) 0 0 part (λ c h. rw (zero-add c) (by_tables c (omega arith)))
+  pub node_agrees : (part : List ℕ) → length part ≡ cube g.inner → agrees_from (node_test t.n t.xs t.ys t.zs) 0 part ≡ agrees_from (active g v) 0 part
+  node_agrees part long = agrees_cong (node_test t.n t.xs t.ys t.zs) (active g v) 0 0 part (λ c h. rw (zero-add c) (same c (omega arith)))
 
 -- ---- all kinds
 

@@ -3,11 +3,11 @@ ghost use Rattle.std.specs.Prelude.{◌≡◌, false, ◌&&◌, ◌*◌, ◌≤�
 ghost use Rattle.lists.specs.Flags.{agrees_from};
 ghost use Rattle.grid.specs.Blocks.{cube};
 ghost use Rattle.grid.specs.Boxes.{active};
-ghost use Rattle.grid.specs.Limits.{refused_by_two, refused_by_five, children_of};
+ghost use Rattle.grid.specs.Limits.{children_of};
 ghost use Rattle.kinds.specs.Inner.Tables.{table_test, slab_test, node_test, grid_test, active_child};
 
-use crate::tables::axis_table;
-use grid::Grid;
+use crate::tables::NodeTables;
+use grid::SizedGrid;
 
 // Whether no kind is that of an active child.
 fn all_zero(kinds: &[u8]) -> bool
@@ -37,64 +37,57 @@ fn row_right(xs: &[bool; 64], met: bool, row: &[u8]) -> bool
     true
 }
 
-// Whether those of a slab of n rows are, by two axes. None is active where the slab is not met.
-fn slab_right(n: usize, xs: &[bool; 64], ys: &[bool; 64], met: bool, slab: &[u8]) -> bool
-    requires { (n ≤ 64) × (length slab.now ≡ n * n) }
-    ensures { result ≡ agrees_from (λ p. met && slab_test n xs.now ys.now p) 0 slab.now }
-{
-    if !met {
-        return all_zero(slab);
-    }
-    for j in 0..n {
-        let from = j * n;
-        let to = from + n;
-        if !row_right(xs, ys[j], &slab[from..to]) {
-            return false;
+impl NodeTables {
+    // Whether those of a slab of n rows are, by two axes. None is active where the slab is not met.
+    fn slab_right(&self, met: bool, slab: &[u8]) -> bool
+        requires { length slab.now ≡ self.now.n * self.now.n }
+        ensures { result ≡ agrees_from (λ p. met && slab_test self.now.n self.now.xs self.now.ys p) 0 slab.now }
+    {
+        if !met {
+            return all_zero(slab);
         }
+        for j in 0..self.n {
+            let from = j * self.n;
+            let to = from + self.n;
+            if !row_right(&self.xs, self.ys[j], &slab[from..to]) {
+                return false;
+            }
+        }
+        true
     }
-    true
-}
 
-// Whether those of a node of n slabs are, by three axes.
-fn slabs_right(n: usize, xs: &[bool; 64], ys: &[bool; 64], zs: &[bool; 64], part: &[u8]) -> bool
-    requires { (n ≤ 64) × (length part.now ≡ cube n) }
-    ensures { result ≡ agrees_from (node_test n xs.now ys.now zs.now) 0 part.now }
-{
-    let area = n * n;
-    for k in 0..n {
-        let from = k * area;
-        let to = from + area;
-        if !slab_right(n, xs, ys, zs[k], &part[from..to]) {
-            return false;
+    // Whether those of a node of n slabs are, by three axes.
+    fn node_right(&self, part: &[u8]) -> bool
+        requires { length part.now ≡ cube self.now.n }
+        ensures { result ≡ agrees_from (node_test self.now.n self.now.xs self.now.ys self.now.zs) 0 part.now }
+    {
+        let area = self.n * self.n;
+        for k in 0..self.n {
+            let from = k * area;
+            let to = from + area;
+            if !self.slab_right(self.zs[k], &part[from..to]) {
+                return false;
+            }
         }
+        true
     }
-    true
 }
 
 // Whether those of node v are.
-fn node_right(g: Grid, v: usize, part: &[u8]) -> bool
-    requires { (g.inner ≤ 64) × (length part.now ≡ cube g.inner) }
-    ensures { result ≡ agrees_from (active g v) 0 part.now }
+fn node_right(g: SizedGrid, v: usize, part: &[u8]) -> bool
+    requires { length part.now ≡ cube g.grid.inner }
+    ensures { result ≡ agrees_from (active g.grid v) 0 part.now }
 {
-    let min = g.bounds.min;
-    let max = g.bounds.max;
-    let n = g.inner;
-    let s = grid::node_size(g.cell, n, g.leaf);
-    let nodes = grid::node_counts(g);
-    let at = geometry::indices(v, nodes.i, nodes.j);
-    let xs = axis_table(min.x, max.x, s, n, at.i);
-    let ys = axis_table(min.y, max.y, s, n, at.j);
-    let zs = axis_table(min.z, max.z, s, n, at.k);
-    slabs_right(n as usize, &xs, &ys, &zs, part)
+    NodeTables::of(g, v).node_right(part)
 }
 
 // Whether those of all nodes are, each in its own part of the slice.
-fn nodes_right(g: Grid, kinds: &[u8]) -> bool
-    requires { (refused_by_two g ≡ false) × (refused_by_five g ≡ false) × (length kinds.now ≡ children_of g) }
-    ensures { result ≡ agrees_from (grid_test g) 0 kinds.now }
+fn nodes_right(g: SizedGrid, kinds: &[u8]) -> bool
+    requires { length kinds.now ≡ children_of g.grid }
+    ensures { result ≡ agrees_from (grid_test g.grid) 0 kinds.now }
 {
-    let nodes = grid::node_total(g);
-    let children = grid::cube_of(g.inner as usize);
+    let nodes = g.nodes();
+    let children = g.node_children();
     for v in 0..nodes {
         let from = v * children;
         let to = from + children;
@@ -106,11 +99,11 @@ fn nodes_right(g: Grid, kinds: &[u8]) -> bool
 }
 
 // Whether kinds are as rule R8 wants them, also past the last node's.
-pub fn kinds_right(g: Grid, kinds: &[u8]) -> bool
-    requires { (refused_by_two g ≡ false) × (refused_by_five g ≡ false) × (children_of g ≤ length kinds.now) }
-    ensures { result ≡ agrees_from (active_child g) 0 kinds.now }
+pub fn kinds_right(g: SizedGrid, kinds: &[u8]) -> bool
+    requires { children_of g.grid ≤ length kinds.now }
+    ensures { result ≡ agrees_from (active_child g.grid) 0 kinds.now }
 {
-    let total = grid::child_total(g);
+    let total = g.children();
     if !nodes_right(g, &kinds[..total]) {
         return false;
     }

@@ -1,6 +1,6 @@
 // The corners that a node's active children need, found in ascending order and evaluated in rows.
 ghost use Rattle.std.specs.Prelude.{◌≡◌, ℕ, ◌+◌, ◌*◌, ◌<◌, ◌≤◌, length, get_or};
-ghost use Rattle.geometry.specs.Values.{vec3i, at};
+ghost use Rattle.geometry.specs.Values.{at};
 ghost use Rattle.grid.specs.Blocks.{cube};
 ghost use Rattle.grid.specs.Corners.{needed, corner_point};
 ghost use Rattle.grid.specs.CornerList.{nonzero_at};
@@ -11,7 +11,8 @@ ghost use Rattle.rows.specs.Inner.ModelValue.{model_at};
 ghost use Rattle.rows.specs.Inner.Written.{scattered};
 
 use crate::budget::allowed;
-use geometry::{BoundingBox, PointRow};
+use geometry::{BoundingBox, PointRow, Vec3i};
+use grid::NodeKinds;
 use model::ImplicitModel;
 
 // How many needed corners a search found, and where it ended.
@@ -30,55 +31,57 @@ pub struct CornersEnd {
 
 // Whether one of the two children at i of a row is active. The row starts at child `first`.
 #[tactic(auto, unfolding(crate::specs::Inner::Around::either, grid::specs::CornerList::nonzero_at))]
-fn row_has(n: usize, kinds: &[u8], first: usize, i: usize) -> bool
-    requires { (i ≤ n) × (first + n ≤ length kinds.now) }
-    ensures { result ≡ row_has n (nonzero_at kinds.now) first i }
+fn row_has(node: &NodeKinds, first: usize, i: usize) -> bool
+    requires { (i ≤ node.now.n) × (first + node.now.n ≤ length node.now.kinds.now) }
+    ensures { result ≡ row_has node.now.n (nonzero_at node.now.kinds.now) first i }
 {
-    (i > 0 && kinds[first + (i - 1)] != 0) || (i < n && kinds[first + i] != 0)
+    (i > 0 && node.kinds[first + (i - 1)] != 0)
+        || (i < node.n as usize && node.kinds[first + i] != 0)
 }
 
 // Whether one of the four children at (i, j) of a slab is active. The slab starts at child `first`.
 #[tactic(auto, unfolding(crate::specs::Inner::Around::either, grid::specs::CornerList::nonzero_at))]
-fn slab_has(n: usize, kinds: &[u8], first: usize, i: usize, j: usize) -> bool
-    requires { (n ≤ 64) × (i ≤ n) × (j ≤ n) × (first + n * n ≤ length kinds.now) }
-    ensures { result ≡ slab_has n (nonzero_at kinds.now) first i j }
+fn slab_has(node: &NodeKinds, first: usize, i: usize, j: usize) -> bool
+    requires { (i ≤ node.now.n) × (j ≤ node.now.n) × (first + node.now.n * node.now.n ≤ length node.now.kinds.now) }
+    ensures { result ≡ slab_has node.now.n (nonzero_at node.now.kinds.now) first i j }
 {
-    (j > 0 && row_has(n, kinds, first + (j - 1) * n, i))
-        || (j < n && row_has(n, kinds, first + j * n, i))
+    let n = node.n as usize;
+    (j > 0 && row_has(node, first + (j - 1) * n, i)) || (j < n && row_has(node, first + j * n, i))
 }
 
 // Whether one of the eight children around the corner at (i, j, k) is active.
 #[tactic(auto, unfolding(crate::specs::Inner::Around::either, grid::specs::CornerList::nonzero_at))]
-fn has_child(n: usize, kinds: &[u8], i: usize, j: usize, k: usize) -> bool
-    requires { (n ≤ 64) × (i ≤ n) × (j ≤ n) × (k ≤ n) × (length kinds.now ≡ cube n) }
-    ensures { result ≡ around n (nonzero_at kinds.now) (vec3i i j k) }
+fn has_child(node: &NodeKinds, at: Vec3i) -> bool
+    requires { (at.i ≤ node.now.n) × (at.j ≤ node.now.n) × (at.k ≤ node.now.n) }
+    ensures { result ≡ around node.now.n (nonzero_at node.now.kinds.now) at }
 {
-    (k > 0 && slab_has(n, kinds, (k - 1) * n * n, i, j))
-        || (k < n && slab_has(n, kinds, k * n * n, i, j))
+    let n = node.n as usize;
+    (at.k > 0 && slab_has(node, (at.k - 1) * n * n, at.i, at.j))
+        || (at.k < n && slab_has(node, at.k * n * n, at.i, at.j))
 }
 
 // Whether an active child has the corner, by the kinds of one node.
-pub fn is_needed(n: u32, kinds: &[u8], corner: usize) -> bool
-    requires { (0 < n) × (n ≤ 64) × (length kinds.now ≡ cube n) × (corner < cube (n + 1)) }
-    ensures { result ≡ needed n (nonzero_at kinds.now) corner }
+pub fn is_needed(node: &NodeKinds, corner: usize) -> bool
+    requires { corner < cube (node.now.n + 1) }
+    ensures { result ≡ needed node.now.n (nonzero_at node.now.kinds.now) corner }
 {
-    let side = n as usize;
-    let at = geometry::indices(corner, side + 1, side + 1);
-    has_child(side, kinds, at.i, at.j, at.k)
+    let side = node.n as usize + 1;
+    has_child(node, geometry::indices(corner, side, side))
 }
 
 // Lists the needed corners from corner i on, at most `most` of them, and runs on to the next needed
 // corner or past the last. The indices go along, so that no corner needs a division.
-fn gather(n: usize, kinds: &[u8], i: usize, most: usize, list: &mut [u32]) -> Found
-    requires { (0 < n) × (n ≤ 64) × (length kinds.now ≡ cube n) × (i ≤ cube (n + 1)) × (most ≤ length list.old) }
-    ensures { Gathered (needed n (nonzero_at kinds.now)) (cube (n + 1)) i most result.count result.next list.new }
+fn gather(node: &NodeKinds, i: usize, most: usize, list: &mut [u32]) -> Found
+    requires { (i ≤ cube (node.now.n + 1)) × (most ≤ length list.old) }
+    ensures { Gathered (needed node.now.n (nonzero_at node.now.kinds.now)) (cube (node.now.n + 1)) i most
+        result.count result.next list.new }
 {
-    let side = n + 1;
+    let side = node.n as usize + 1;
     let total = grid::cube_of(side);
     let mut at = geometry::indices(i, side, side);
     let mut count: usize = 0;
     for corner in i..total {
-        if has_child(n, kinds, at.i, at.j, at.k) {
+        if has_child(node, at) {
             if count == most {
                 return Found {
                     count,
@@ -106,31 +109,31 @@ fn scatter(places: &[u32], values: &[f64; 64], corners: &mut [f64])
 
 // Evaluates a node's needed corners from corner i on, in ascending order and in rows, while the budget
 // lasts, and runs on to the next needed corner or past the last. The rows are made once.
+// Kept: how many turns the loop takes hangs on where each search ends, which nothing tells before. The list
+// and the values have the room of a row, and what lends them lends `count` of them.
 pub fn run_corners(
     model: &ImplicitModel,
     b: BoundingBox,
-    n: u32,
-    kinds: &[u8],
+    node: &NodeKinds,
     i: usize,
     budget: u64,
     scratch: &mut [f64; 4096],
     corners: &mut [f64],
 ) -> CornersEnd
-    requires { (0 < n) × (n ≤ 64) × (length kinds.now ≡ cube n) × (cube (n + 1) ≤ length corners.old) × (i ≤ cube (n + 1)) }
-    ensures { CornerRun (needed n (nonzero_at kinds.now)) (λ c. at (model_at model.now) (corner_point b n c)) (cube (n + 1)) i budget
-        result.next result.left corners.old corners.new }
+    requires { (cube (node.now.n + 1) ≤ length corners.old) × (i ≤ cube (node.now.n + 1)) }
+    ensures { CornerRun (needed node.now.n (nonzero_at node.now.kinds.now)) (λ c. at (model_at model.now) (corner_point b node.now.n c))
+        (cube (node.now.n + 1)) i budget result.next result.left corners.old corners.new }
 {
-    let side = n as usize;
-    let total = grid::cube_of(side + 1);
+    let total = grid::cube_of(node.n as usize + 1);
     let mut list = [0u32; 64];
     let mut row = PointRow::new();
     let mut values = [0.0; 64];
     let mut next = i;
     let mut left = budget;
     loop {
-        let found = gather(side, kinds, next, allowed(left, 64), &mut list);
+        let found = gather(node, next, allowed(left, 64), &mut list);
         let count = found.count;
-        grid::corner_points(b, n, &list[..count], &mut row);
+        grid::corner_points(b, node.n, &list[..count], &mut row);
         model::evaluate_row_into(model, &row, count, scratch, &mut values);
         scatter(&list[..count], &values, corners);
         next = found.next;

@@ -2,7 +2,7 @@
 use Rattle.std.proofs.Common.{◌≡◌, ℕ, ◌+◌, get_or, ap, ◌∙◌, arith, length}
 use Rattle.geometry.specs.declared.Vec3.{Vec3}
 use Rattle.geometry.specs.Index.{indices_of}
-use Rattle.geometry.specs.PointRow.{with_point, with_points}
+use Rattle.geometry.specs.PointRow.{with_points}
 use Rattle.geometry.proofs.PointRows.{none_set, one_more, same_points}
 use Rattle.grid.specs.Inner.Steps.{corner_at}
 use Rattle.grid.proofs.Stepped.{corner_stepped}

@@ -1,6 +1,6 @@
 -- Each place is within the corners, and one value more is read.
-use Rattle.std.proofs.Common.{rules, ◌≡◌, ℕ, ◌∙◌, List, map, length, replicate, get_or, refl, sym, ap, arith}
-use lib.Ieee.{Float, nan}
+use Rattle.std.proofs.Common.{◌≡◌, ℕ, ◌∙◌, map, length, replicate, get_or, refl, sym, ap, arith}
+use lib.Ieee.{nan}
 use Rattle.lists.specs.Filled.{filled}
 use Rattle.lists.proofs.Lists.{get_d_any}
 use Rattle.lists.proofs.Filling.{filled_none, front_store}

@@ -5,4 +5,4 @@ use Rattle.lists.specs.Flags.{agrees_from, in_rows}
 use Rattle.kinds.proofs.agreement.nodes_right.Given as goal
 
 abbrev pub invariant-loop-v : goal.invariant-loop-v
-invariant-loop-v l = agrees_from (in_rows l.children (active l.g)) 0 (take (l.v * l.children) l.kinds) ≡ true
+invariant-loop-v l = agrees_from (in_rows l.children (active l.g.grid)) 0 (take (l.v * l.children) l.kinds) ≡ true

@@ -6,4 +6,4 @@ use Rattle.lists.proofs.Flags.{flagged}
 use Rattle.kinds.proofs.flags.set_nodes.Given as goal
 
 abbrev pub invariant-loop-v : goal.invariant-loop-v
-invariant-loop-v l = l.kinds ≡ flagged (in_rows l.children (active l.g)) (l.v * l.children) l.initial.kinds
+invariant-loop-v l = l.kinds ≡ flagged (in_rows l.children (active l.g.grid)) (l.v * l.children) l.initial.kinds

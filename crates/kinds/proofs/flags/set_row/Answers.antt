@@ -1,5 +1,5 @@
 -- A kind more, in a row that is met.
-use Rattle.std.proofs.Common.{◌≡◌, ◌<◌, Bool, ◌&&◌, List, ℕ, length, replicate, rules, refl, sym, ap, ◌∙◌, arith}
+use Rattle.std.proofs.Common.{◌≡◌, Bool, ◌&&◌, List, ℕ, length, replicate, rules, refl, sym, ap, ◌∙◌, arith}
 use lib.ListN.{set}
 use borrow.Author.Tests.{not-true, not-false}
 use Rattle.lists.specs.Flags.{flags_from}

@@ -1,7 +1,6 @@
 -- A corner's indices are a corner's of the node, and what the code tells of it is whether it is needed.
-use Rattle.std.proofs.Common.{◌≡◌, ℕ, ◌+◌, ◌<◌, ◌≤◌, Bool, List, length, refl, sym, ap, ◌∙◌, subst, inr, arith}
+use Rattle.std.proofs.Common.{◌≡◌, ℕ, ◌+◌, ◌<◌, Bool, List, length, refl, sym, ap, ◌∙◌, subst, inr, arith}
 use lib.ListN.{length-set}
-use native.Mathlib.Nat.{mul-le-mul}
 use Rattle.geometry.specs.declared.Vec3i.{Vec3i}
 use Rattle.geometry.specs.Index.{indices_of, next_indices}
 use Rattle.geometry.proofs.Next.{next_of}
@@ -29,15 +28,15 @@ pub has_child-requires : goal.has_child-requires
 has_child-requires c =
     let a = c.args in
     let l = c.loop-corner in
-    let w = inside a.n a.kinds.now l.corner l.at l.invariant.2 (omega (arith, c.cube_of-total.ensures)) in
-    (c.requires.1, omega (arith, w.i_below), omega (arith, w.j_below), omega (arith, w.k_below), c.requires.2)
+    let w = inside a.node.now.n a.node.now.kinds.now l.corner l.at l.invariant.2 (omega (arith, c.cube_of-total.ensures)) in
+    (omega (arith, w.i_below), omega (arith, w.j_below), omega (arith, w.k_below))
 
 pub returns-then-count-most : goal.returns-then-count-most
 returns-then-count-most c =
     let a = c.args in
     let l = c.loop-corner in
-    let below : l.corner < cube (a.n + 1) = omega (arith, c.cube_of-total.ensures) in
-    let told = tells a.n a.kinds.now l.corner l.at l.invariant.2 below _ c.requires.0 c.has_child.ensures in
+    let below : l.corner < cube (a.node.now.n + 1) = omega (arith, c.cube_of-total.ensures) in
+    let told = tells a.node.now.n a.node.now.kinds.now l.corner l.at l.invariant.2 below _ a.node.now.some c.has_child.ensures in
     record {
       found = l.invariant.3;
       within = omega arith;
@@ -49,16 +48,16 @@ pub next_indices-at-requires : goal.next_indices-at-requires
 next_indices-at-requires c =
     let a = c.args in
     let l = c.loop-corner in
-    let w = inside a.n a.kinds.now l.corner l.at l.invariant.2 (omega (arith, c.cube_of-total.ensures)) in
+    let w = inside a.node.now.n a.node.now.kinds.now l.corner l.at l.invariant.2 (omega (arith, c.cube_of-total.ensures)) in
     (w.i_below, w.j_below, omega (arith, w.k_below))
 
 pub loop-corner-preserved : goal.loop-corner-preserved
 loop-corner-preserved c =
     let a = c.args in
     let l = c.loop-corner in
-    let side = a.n + 1 in
-    let below : l.corner < cube (a.n + 1) = omega (arith, c.cube_of-total.ensures) in
-    let told = tells a.n a.kinds.now l.corner l.at l.invariant.2 below _ c.requires.0 c.has_child.ensures in
+    let side = a.node.now.n + 1 in
+    let below : l.corner < cube (a.node.now.n + 1) = omega (arith, c.cube_of-total.ensures) in
+    let told = tells a.node.now.n a.node.now.kinds.now l.corner l.at l.invariant.2 below _ a.node.now.some c.has_child.ensures in
     let next =
     c.next_indices-at.ensures
     ∙ ap (λ v. next_indices v side side) l.invariant.2

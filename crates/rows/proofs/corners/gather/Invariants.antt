@@ -11,4 +11,4 @@ invariant-loop-corner l =
     (l.count ≤ l.most)
     × (length l.list ≡ length l.initial.list)
     × (l.at ≡ indices_of l.corner l.side l.side)
-    × Gathering (needed l.n (nonzero_at l.kinds)) l.fn.i l.corner l.count l.list
+    × Gathering (needed l.node.n (nonzero_at l.node.kinds.now)) l.fn.i l.corner l.count l.list

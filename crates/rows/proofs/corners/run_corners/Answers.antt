@@ -1,8 +1,7 @@
 -- A row more: its corners listed, their points placed, the values stored.
-use Rattle.std.proofs.Common.{◌≡◌, ℕ, min, ◌≤◌, ◌<◌, Float, List, length, take, get_or, refl, sym, ◌∙◌, inl, inr, subst, arith}
+use Rattle.std.proofs.Common.{◌≡◌, ℕ, min, ◌≤◌, Float, List, length, take, get_or, refl, sym, ◌∙◌, inl, inr, subst, arith}
 use mathlib.Core.Logic.{⊎_elim}
 use lib.Seq.{length-take-le}
-use Rattle.lists.proofs.Filling.{filled_done}
 use Rattle.geometry.specs.declared.Vec3.{Vec3}
 use Rattle.geometry.specs.declared.BoundingBox.{BoundingBox}
 use Rattle.geometry.specs.declared.PointRow.{PointRow}
@@ -58,18 +57,18 @@ scatter-requires c =
     let found = c.gather-found in
     let few : found.result.count ≤ 64 = omega (arith, found.ensures.few, c.allowed.ensures) in
     let count_is = length-take-le found.result.count found.new.list (omega (arith, c.evaluate_row_into.array_long3)) in
-    (omega (arith, count_is), λ q h. omega (arith, gathered_below _ found.ensures q h, c.requires.3, c.loop-next.invariant.long))
+    (omega (arith, count_is), λ q h. omega (arith, gathered_below _ found.ensures q h, c.requires.0, c.loop-next.invariant.long))
 
 pub returns-then-next-total : goal.returns-then-next-total
 returns-then-next-total c =
     let found = c.gather-found.ensures in
-    let stored = stored c.args.model.now c.args.b c.args.n c.gather-found.result.count c.gather-found.new.list (omega (arith, found.few, c.allowed.ensures)) (omega (arith, c.gather-found.auto.list, c.loop-next.invariant.listed)) c.loop-next.invariant.row c.corner_points.ensures c.evaluate_row_into.ensures.results c.loop-next.corners in
+    let stored = stored c.args.model.now c.args.b c.args.node.now.n c.gather-found.result.count c.gather-found.new.list (omega (arith, found.few, c.allowed.ensures)) (omega (arith, c.gather-found.auto.list, c.loop-next.invariant.listed)) c.loop-next.invariant.row c.corner_points.ensures c.evaluate_row_into.ensures.results c.loop-next.corners in
     row_ended _ _ c.loop-next.invariant.ran found c.allowed.ensures (c.scatter.ensures ∙ stored) (inl (c.if-next-total.true ∙ c.cube_of-total.ensures))
 
 pub returns-then-left-eq0 : goal.returns-then-left-eq0
 returns-then-left-eq0 c =
     let found = c.gather-found.ensures in
-    let stored = stored c.args.model.now c.args.b c.args.n c.gather-found.result.count c.gather-found.new.list (omega (arith, found.few, c.allowed.ensures)) (omega (arith, c.gather-found.auto.list, c.loop-next.invariant.listed)) c.loop-next.invariant.row c.corner_points.ensures c.evaluate_row_into.ensures.results c.loop-next.corners in
+    let stored = stored c.args.model.now c.args.b c.args.node.now.n c.gather-found.result.count c.gather-found.new.list (omega (arith, found.few, c.allowed.ensures)) (omega (arith, c.gather-found.auto.list, c.loop-next.invariant.listed)) c.loop-next.invariant.row c.corner_points.ensures c.evaluate_row_into.ensures.results c.loop-next.corners in
     row_ended _ _ c.loop-next.invariant.ran found c.allowed.ensures (c.scatter.ensures ∙ stored) (⊎_elim inl (λ w. inr (c.if-left-eq0.true, w.1)) found.stops)
 
 pub loop-next-preserved : goal.loop-next-preserved
@@ -77,11 +76,11 @@ loop-next-preserved c =
     let found = c.gather-found.ensures in
     let few : c.gather-found.result.count ≤ 64 = omega (arith, found.few, c.allowed.ensures) in
     let listed : length c.gather-found.new.list ≡ 64 = omega (arith, c.gather-found.auto.list, c.loop-next.invariant.listed) in
-    let stored = stored c.args.model.now c.args.b c.args.n c.gather-found.result.count c.gather-found.new.list few listed c.loop-next.invariant.row c.corner_points.ensures c.evaluate_row_into.ensures.results c.loop-next.corners in
+    let stored = stored c.args.model.now c.args.b c.args.node.now.n c.gather-found.result.count c.gather-found.new.list few listed c.loop-next.invariant.row c.corner_points.ensures c.evaluate_row_into.ensures.results c.loop-next.corners in
     record {
       within = omega (arith, found.within, c.cube_of-total.ensures);
       listed = listed;
-      row = kept c.args.model.now c.args.b c.args.n c.gather-found.result.count c.gather-found.new.list few listed c.loop-next.invariant.row c.corner_points.ensures c.evaluate_row_into.ensures.results;
+      row = kept c.args.model.now c.args.b c.args.node.now.n c.gather-found.result.count c.gather-found.new.list few listed c.loop-next.invariant.row c.corner_points.ensures c.evaluate_row_into.ensures.results;
       long = omega (arith, c.scatter.auto.corners, c.loop-next.invariant.long);
       ran = row_ran _ _ c.loop-next.invariant.ran found c.allowed.ensures (c.scatter.ensures ∙ stored);
     }

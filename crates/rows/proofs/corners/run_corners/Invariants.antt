@@ -14,7 +14,7 @@ invariant-loop-next l = record {
   listed : length l.list ≡ 64;
   row : Row l.row l.values;
   long : length l.corners ≡ length l.initial.corners;
-  ran : Ran (needed l.fn.n (nonzero_at l.kinds)) (λ p. at (model_at l.model) (corner_point l.b l.fn.n p)) l.fn.i l.fn.budget l.next l.left l.initial.corners l.corners;
+  ran : Ran (needed l.fn.node.n (nonzero_at l.node.kinds.now)) (λ p. at (model_at l.model) (corner_point l.b l.fn.node.n p)) l.fn.i l.fn.budget l.next l.left l.initial.corners l.corners;
 }
 
 abbrev pub decreases-loop-next : goal.decreases-loop-next

@@ -1,5 +1,5 @@
 -- One point more.
-use Rattle.std.proofs.Common.{rules, ◌-◌, sym, ◌∙◌, arith}
+use Rattle.std.proofs.Common.{◌-◌, sym, ◌∙◌, arith}
 use lib.Ieee.{binary64, add, mul}
 use Rattle.geometry.specs.Axis.{step_along, along}
 use Rattle.lists.proofs.Filling.{filled_none, front_store, filled_done}

@@ -1,7 +1,6 @@
 -- A row more is made, and at the end all points are the leaf's.
-use Rattle.std.proofs.Common.{◌≡◌, ℕ, min, ◌+◌, ◌-◌, ◌<◌, ◌≤◌, Float, List, length, take, refl, sym, ap, ◌∙◌, arith}
+use Rattle.std.proofs.Common.{◌≡◌, ℕ, min, ◌+◌, ◌-◌, ◌≤◌, Float, length, take, refl, sym, ap, ◌∙◌, arith}
 use lib.Seq.{get_or-take, length-take-le}
-use Rattle.lists.specs.Filled.{filled}
 use Rattle.lists.proofs.Filling.{filled_none, filled_length, filled_more, filled_same, filled_done}
 use Rattle.lists.proofs.LentPart.{lent_copy}
 use Rattle.geometry.specs.declared.PointRow.{PointRow}
@@ -12,7 +11,7 @@ use Rattle.model.specs.Part.{past}
 use Rattle.rows.specs.Inner.Axes.{axes_point}
 use Rattle.rows.specs.Inner.ModelValue.{model_at}
 use Rattle.rows.proofs.AxesLaws.{axes_leaf}
-use Rattle.rows.proofs.RowValues.{Row, row_new, RowMade, row_value, row_kept}
+use Rattle.rows.proofs.RowValues.{row_new, RowMade, row_value, row_kept}
 use Rattle.rows.proofs.points.fill_points.Goals as goal
 
 pub loop-t-init : goal.loop-t-init

@@ -1,5 +1,5 @@
 -- The indices are a point's of the leaf, and one point more is placed.
-use Rattle.std.proofs.Common.{◌≡◌, ℕ, ◌+◌, ◌<◌, ◌≤◌, get_or, sym, ap, ◌∙◌, subst, add-zero, add_assoc, arith}
+use Rattle.std.proofs.Common.{◌≡◌, ℕ, ◌+◌, ◌<◌, get_or, sym, ap, ◌∙◌, subst, add-zero, add_assoc, arith}
 use lib.Ieee.{nan}
 use Rattle.geometry.specs.Values.{vec3}
 use Rattle.geometry.specs.declared.Vec3i.{Vec3i}

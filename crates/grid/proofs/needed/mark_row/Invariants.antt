@@ -1,7 +1,0 @@
--- The children of the row passed so far are marked, after all those of the rows before.
-use Rattle.std.proofs.Common.{◌≡◌, ◌+◌, ◌*◌, length}
-use Rattle.grid.specs.Inner.CornerMarks.{Marks}
-use Rattle.grid.proofs.needed.mark_row.Given as goal
-
-abbrev pub invariant-loop-i : goal.invariant-loop-i
-invariant-loop-i l = (length l.list ≡ length l.initial.list) × Marks l.n l.kinds (l.row * l.n + l.i) l.list
