@@ -1,3 +1,4 @@
+pub mod Sizes
 pub mod RunLaws
 pub mod Turns
 pub mod Stretch

@@ -8,7 +8,7 @@ ghost use Rattle.grid.specs.Leaves.{leaf_point};
 ghost use Rattle.schedule.specs.Lent.{held, SameSlices};
 ghost use Rattle.rows.specs.Inner.ModelValue.{model_at};
 ghost use Rattle.geometry.specs.Values.{at};
-ghost use Rattle.engine.specs.Inner.Progress.{plan, Sized, Ready, ChildrenAdvanced, leaf_progress};
+ghost use Rattle.engine.specs.Inner.Progress.{plan, Ready, ChildrenAdvanced, leaf_progress};
 ghost use Rattle.engine.specs.Inner.Children.{Decidable, leaf_box, decided};
 
 use crate::{LeafVisit, Progress, Task, Visit};
@@ -85,9 +85,9 @@ fn decide_at(task: Task, visit: Visit, slices: &mut Slices) -> Option<BoundingBo
     ensures answer { result ≡ leaf_box task visit (held slices.old) }
     ensures memory { held slices.new ≡ decided task visit (held slices.old) }
 {
-    let n = task.grid.inner;
+    let n = task.grid.grid.inner;
     let c = visit.place;
-    let j = visit.node * grid::cube_of(n as usize) + c;
+    let j = visit.node * task.grid.node_children() + c;
     let empty = slices.kinds[j] == 0;
     if empty {
         return None;
@@ -98,12 +98,12 @@ fn decide_at(task: Task, visit: Visit, slices: &mut Slices) -> Option<BoundingBo
     let verdict = grid::decide_child(band.min, band.max, child, octet);
     match verdict {
         Verdict::Constant(kind, number) => {
-            slices.kinds[j] = kind.number();
+            slices.kinds[j] = kind.into();
             slices.numbers[j] = number;
             None
         }
         Verdict::Leaf => {
-            slices.kinds[j] = Kind::Leaf.number();
+            slices.kinds[j] = Kind::Leaf.into();
             slices.places[j] = visit.leaves as u32;
             Some(child)
         }
@@ -119,7 +119,7 @@ fn run_child(
     scratch: &mut [f64; 4096],
     slices: &mut Slices,
 ) -> Progress
-    requires sized { Sized task.grid × (visit.bounds ≡ node_box task.grid visit.node) × (visit.place < cube task.grid.inner) }
+    requires within { (visit.bounds ≡ node_box task.grid.grid visit.node) × (visit.place < cube task.grid.grid.inner) }
     requires ready { Ready (plan task model.now) visit.node visit.place visit.leaves (held slices.old) }
     ensures slices { SameSlices slices.old slices.new }
     ensures advanced { ChildrenAdvanced (plan task model.now) visit.node visit.place (visit.place + 1) visit.left visit.leaves
@@ -140,7 +140,7 @@ fn run_child(
         leaves: visit.leaves + 1,
         left: visit.left,
     };
-    leaf_from(model, child, task.grid.leaf, leaf, scratch, slices.store)
+    leaf_from(model, child, task.grid.grid.leaf, leaf, scratch, slices.store)
 }
 
 // The children of a node, from the one at a visit's place on.
@@ -151,10 +151,10 @@ pub fn run_children(
     scratch: &mut [f64; 4096],
     slices: &mut Slices,
 ) -> Progress
-    requires sized { Sized task.grid × (visit.bounds ≡ node_box task.grid visit.node) × (visit.place ≤ cube task.grid.inner) }
+    requires within { (visit.bounds ≡ node_box task.grid.grid visit.node) × (visit.place ≤ cube task.grid.grid.inner) }
     requires ready { Ready (plan task model.now) visit.node visit.place visit.leaves (held slices.old) }
     ensures slices { SameSlices slices.old slices.new }
-    ensures advanced { ChildrenAdvanced (plan task model.now) visit.node visit.place (cube task.grid.inner) visit.left visit.leaves
+    ensures advanced { ChildrenAdvanced (plan task model.now) visit.node visit.place (cube task.grid.grid.inner) visit.left visit.leaves
         (held slices.old) (held slices.new) result }
     ensures corners { (held slices.new).corners ≡ (held slices.old).corners }
 {
@@ -163,7 +163,7 @@ pub fn run_children(
         left: visit.left,
         stop: None,
     };
-    for place in visit.place..grid::cube_of(task.grid.inner as usize) {
+    for place in visit.place..task.grid.node_children() {
         let child = Visit {
             place,
             leaves: done.leaves,

@@ -3,7 +3,7 @@
 #![tactic(auto)]
 
 use geometry::BoundingBox;
-use grid::Grid;
+use grid::SizedGrid;
 use input::Band;
 use schedule::Cursor;
 
@@ -13,10 +13,10 @@ mod nodes; // nodes.rt: node after node, from a cursor on
 
 pub use jobs::run_job;
 
-// What the work is about, beside its model: the grid and the band.
+// What the work is about, beside its model: the grid, which causes 2 and 5 have let through, and the band.
 #[derive(Clone, Copy, Debug, PartialEq)]
 pub struct Task {
-    pub grid: Grid,
+    pub grid: SizedGrid,
     pub band: Band,
 }
 

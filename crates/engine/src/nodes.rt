@@ -9,10 +9,11 @@ ghost use Rattle.schedule.specs.declared.Cursor.TheVariants.{Corner, Point};
 ghost use Rattle.schedule.specs.Resume.{events_from, children_left, nodes_left};
 ghost use Rattle.schedule.specs.Totals.{active_all, active_before};
 ghost use Rattle.schedule.specs.Lent.{held, SameSlices};
-ghost use Rattle.engine.specs.Inner.Progress.{plan, Sized, Ready, Advanced, NodeAdvanced, reading_in};
+ghost use Rattle.engine.specs.Inner.Progress.{plan, Ready, Advanced, NodeAdvanced, reading_in};
 ghost use Rattle.engine.specs.Inner.Turns.{Standable, NodesReady, Continued, SameBehind, CleanBehind};
 
 use crate::{CornerVisit, LeafVisit, Progress, Standing, Task, Visit, children};
+use grid::NodeKinds;
 use model::ImplicitModel;
 use schedule::{Cursor, Slices};
 
@@ -24,33 +25,35 @@ fn run_corners(
     scratch: &mut [f64; 4096],
     slices: &mut Slices,
 ) -> Progress
-    requires sized { Sized task.grid × (visit.corner ≤ cube (task.grid.inner + 1)) }
+    requires within { (visit.corner ≤ cube (task.grid.grid.inner + 1)) }
     requires ready { Ready (plan task model.now) visit.node 0 visit.leaves (held slices.old) }
     ensures slices { SameSlices slices.old slices.new }
     ensures advanced { Advanced (plan task model.now) visit.left visit.leaves (held slices.old) (held slices.new)
         (events_from (plan task model.now) (Corner visit.node visit.corner) (reading_in (held slices.old)))
         (children_left (plan task model.now) visit.node 0 (reading_in (held slices.new))) result
         (active_before (plan task model.now) visit.node 0) }
-    ensures behind { SameBehind (cube (task.grid.inner + 1)) (held slices.old).corners (held slices.new).corners }
+    ensures behind { SameBehind (cube (task.grid.grid.inner + 1)) (held slices.old).corners (held slices.new).corners }
 {
-    let g = task.grid;
-    let bounds = grid::node_box(g, visit.node);
-    let children = grid::cube_of(g.inner as usize);
+    let bounds = grid::node_box(task.grid.grid, visit.node);
+    let children = task.grid.node_children();
     let first = visit.node * children;
     let all_kinds = &mut *slices.kinds;
     let corners = &mut *slices.corners;
     let kinds = &*all_kinds;
+    let node = NodeKinds {
+        n: task.grid.grid.inner,
+        kinds: &kinds[first..first + children],
+    };
     let end = rows::run_corners(
         model,
         bounds,
-        g.inner,
-        &kinds[first..first + children],
+        &node,
         visit.corner,
         visit.left,
         scratch,
         corners,
     );
-    let stop = if end.next < grid::cube_of(g.inner as usize + 1) {
+    let stop = if end.next < task.grid.node_corners() {
         Some(Cursor::Corner(visit.node, end.next))
     } else {
         None
@@ -70,7 +73,7 @@ fn run_points(
     scratch: &mut [f64; 4096],
     slices: &mut Slices,
 ) -> Progress
-    requires sized { Sized task.grid × (leaf.child < cube task.grid.inner) × (leaf.point ≤ cube task.grid.leaf) × (0 < leaf.leaves) }
+    requires within { (leaf.child < cube task.grid.grid.inner) × (leaf.point ≤ cube task.grid.grid.leaf) × (0 < leaf.leaves) }
     requires ready { Ready (plan task model.now) leaf.node (leaf.child + 1) leaf.leaves (held slices.old) }
     ensures slices { SameSlices slices.old slices.new }
     ensures advanced { Advanced (plan task model.now) leaf.left leaf.leaves (held slices.old) (held slices.new)
@@ -79,7 +82,7 @@ fn run_points(
         (active_before (plan task model.now) leaf.node (leaf.child + 1)) }
     ensures corners { (held slices.new).corners ≡ (held slices.old).corners }
 {
-    let g = task.grid;
+    let g = task.grid.grid;
     let bounds = grid::node_box(g, leaf.node);
     let child = grid::child_box(bounds, g.inner, leaf.child);
     children::leaf_from(model, child, g.leaf, leaf, scratch, slices.store)
@@ -103,7 +106,7 @@ fn finish_node(
     scratch: &mut [f64; 4096],
     slices: &mut Slices,
 ) -> Progress
-    requires sized { Sized task.grid × (visit.bounds ≡ node_box task.grid visit.node) × (visit.place ≤ cube task.grid.inner) }
+    requires within { (visit.bounds ≡ node_box task.grid.grid visit.node) × (visit.place ≤ cube task.grid.grid.inner) }
     requires ready { Ready (plan task model.now) visit.node visit.place visit.leaves (held slices.old) }
     requires clean { CleanBehind used (held slices.old).corners }
     ensures slices { SameSlices slices.old slices.new }
@@ -126,9 +129,9 @@ fn run_from_corner(
     scratch: &mut [f64; 4096],
     slices: &mut Slices,
 ) -> Progress
-    requires sized { Sized task.grid × (visit.corner ≤ cube (task.grid.inner + 1)) }
+    requires within { (visit.corner ≤ cube (task.grid.grid.inner + 1)) }
     requires ready { Ready (plan task model.now) visit.node 0 visit.leaves (held slices.old) }
-    requires clean { (cube (task.grid.inner + 1) ≤ used) × CleanBehind used (held slices.old).corners }
+    requires clean { (cube (task.grid.grid.inner + 1) ≤ used) × CleanBehind used (held slices.old).corners }
     ensures slices { SameSlices slices.old slices.new }
     ensures node { NodeAdvanced (plan task model.now) visit.node visit.left visit.leaves (held slices.old) (held slices.new)
         (events_from (plan task model.now) (Corner visit.node visit.corner) (reading_in (held slices.old))) result }
@@ -139,7 +142,7 @@ fn run_from_corner(
     }
     let visit = Visit {
         node: visit.node,
-        bounds: grid::node_box(task.grid, visit.node),
+        bounds: grid::node_box(task.grid.grid, visit.node),
         place: 0,
         leaves: came.leaves,
         left: came.left,
@@ -156,7 +159,7 @@ fn run_from_point(
     scratch: &mut [f64; 4096],
     slices: &mut Slices,
 ) -> Progress
-    requires sized { Sized task.grid × (leaf.child < cube task.grid.inner) × (leaf.point ≤ cube task.grid.leaf) × (0 < leaf.leaves) }
+    requires within { (leaf.child < cube task.grid.grid.inner) × (leaf.point ≤ cube task.grid.grid.leaf) × (0 < leaf.leaves) }
     requires ready { Ready (plan task model.now) leaf.node (leaf.child + 1) leaf.leaves (held slices.old) }
     requires clean { CleanBehind used (held slices.old).corners }
     ensures slices { SameSlices slices.old slices.new }
@@ -169,7 +172,7 @@ fn run_from_point(
     }
     let visit = Visit {
         node: leaf.node,
-        bounds: grid::node_box(task.grid, leaf.node),
+        bounds: grid::node_box(task.grid.grid, leaf.node),
         place: leaf.child + 1,
         leaves: came.leaves,
         left: came.left,
@@ -187,15 +190,15 @@ fn run_nodes(
     scratch: &mut [f64; 4096],
     slices: &mut Slices,
 ) -> Progress
-    requires sized { Sized task.grid × (first ≤ nodes_of task.grid) }
+    requires within { (first ≤ nodes_of task.grid.grid) }
     requires ready { NodesReady (plan task model.now) first so_far (held slices.old) }
     ensures slices { SameSlices slices.old slices.new }
     ensures continued { Continued (plan task model.now) so_far (held slices.old) (held slices.new)
         (nodes_left (plan task model.now) first) [] result (active_all (plan task model.now)) }
 {
-    let own = grid::cube_of(task.grid.inner as usize + 1);
+    let own = task.grid.node_corners();
     let mut done = so_far;
-    for node in first..grid::node_total(task.grid) {
+    for node in first..task.grid.nodes() {
         if done.stop.is_some() {
             return done;
         }
@@ -219,7 +222,6 @@ pub fn run_from(
     scratch: &mut [f64; 4096],
     slices: &mut Slices,
 ) -> Progress
-    requires sized { Sized task.grid }
     requires standable { Standable (plan task model.now) at (held slices.old) }
     ensures slices { SameSlices slices.old slices.new }
     ensures advanced { Advanced (plan task model.now) at.left at.leaves (held slices.old) (held slices.new)

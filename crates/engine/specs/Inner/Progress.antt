@@ -1,8 +1,5 @@
 -- How far a function of the engine has come, and what is left to do after it.
 use Rattle.std.specs.Prelude.{ℕ, suc, ◌+◌, ◌*◌, ◌-◌, ◌≤◌, ◌<◌, min, cond, ltb, ◌≡◌, List, length, get_or, Float, Option, Some, None}
-use Rattle.grid.specs.declared.Grid.{Grid}
-use Rattle.grid.specs.Blocks.{cube}
-use Rattle.grid.specs.Nodes.{nodes_of}
 use Rattle.schedule.specs.Schedule.{Event}
 use Rattle.schedule.specs.Plan.{Plan}
 use Rattle.schedule.specs.Resume.{children_left, nodes_left}
@@ -21,18 +18,10 @@ use Rattle.engine.specs.Inner.Runs.{Run, run_of}
 
 -- the plan that the engine's functions work on: a task, with some value at a point, or with that of a model
 abbrev pub plan_by : Task → (Float → Float → Float → Float) → Plan
-plan_by task value = plan_with task.grid (decide_by task.band) value
+plan_by task value = plan_with task.grid.grid (decide_by task.band) value
 
 abbrev pub plan : Task → ImplicitModel → Plan
 plan task m = plan_by task (model_at m)
-
--- sizes that causes 2 and 5 do not refuse
-pub record Sized (g : Grid) : Type 0 where
-  pub inner_least : 0 < g.inner
-  pub inner_most : g.inner ≤ 64
-  pub leaf_least : 0 < g.leaf
-  pub leaf_most : g.leaf ≤ 64
-  pub children : nodes_of g * cube g.inner ≤ 16777216
 
 -- slices that cause 6 does not refuse, with kinds as rule R8 wants them
 pub record Lent (P : Plan) (m : Memory) : Type 0 where

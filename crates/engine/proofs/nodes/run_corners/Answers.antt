@@ -4,57 +4,58 @@ use Rattle.schedule.specs.Lent.{held}
 use Rattle.plans.specs.Plan.{plan_with, decide_by}
 use Rattle.plans.proofs.Plans.{plan_laws_lem}
 use Rattle.rows.specs.Inner.ModelValue.{model_at}
+use Rattle.engine.proofs.Sizes.{sized}
 use Rattle.engine.proofs.NodeLaws.{part_few, part_inside, part_long, node_past, node_at_corner, node_past_corners}
 use Rattle.engine.proofs.nodes.run_corners.Goals as goal
 
 pub overflow_mul-first : goal.overflow_mul-first
 unfolding plan_with
-overflow_mul-first c = omega (arith, part_few c.args.task.grid c.args.visit.node c.requires.sized.0 c.requires.ready.node c.cube_of-children.ensures)
+overflow_mul-first c = omega (arith, part_few c.args.task.grid.grid c.args.visit.node (sized c.args.task.grid) c.requires.ready.node c.node_children-children.ensures.is)
 
 pub overflow_add-first : goal.overflow_add-first
 unfolding plan_with
-overflow_add-first c = omega (arith, part_few c.args.task.grid c.args.visit.node c.requires.sized.0 c.requires.ready.node c.cube_of-children.ensures)
+overflow_add-first c = omega (arith, part_few c.args.task.grid.grid c.args.visit.node (sized c.args.task.grid) c.requires.ready.node c.node_children-children.ensures.is)
 
 pub slice_bounds-run_corners-end : goal.slice_bounds-run_corners-end
 unfolding plan_with
 slice_bounds-run_corners-end c =
-    part_inside c.args.task.grid c.args.visit.node c.requires.sized.0 c.requires.ready.node c.cube_of-children.ensures _ c.requires.ready.lent.kinds
+    part_inside c.args.task.grid.grid c.args.visit.node (sized c.args.task.grid) c.requires.ready.node c.node_children-children.ensures.is _ c.requires.ready.lent.kinds
 
 pub run_corners-end-requires : goal.run_corners-end-requires
 unfolding plan_with
 run_corners-end-requires c =
-    let n = c.cube_of-children.result in
-    let inside = part_inside c.args.task.grid c.args.visit.node c.requires.sized.0 c.requires.ready.node c.cube_of-children.ensures _ c.requires.ready.lent.kinds in (
-      c.requires.sized.0.inner_least,
-      c.requires.sized.0.inner_most,
-      part_long (held c.args.slices.now).kinds (c.args.visit.node * n) n inside ∙ c.cube_of-children.ensures,
+    let n = c.node_children-children.result in
+    let inside = part_inside c.args.task.grid.grid c.args.visit.node (sized c.args.task.grid) c.requires.ready.node c.node_children-children.ensures.is _ c.requires.ready.lent.kinds in (
+      (sized c.args.task.grid).inner_least,
+      (sized c.args.task.grid).inner_most,
+      part_long (held c.args.slices.now).kinds (c.args.visit.node * n) n inside ∙ c.node_children-children.ensures.is,
       c.requires.ready.lent.corners,
-      c.requires.sized.1,
+      c.requires.within,
     )
 
-pub returns-then-end-cube_of-clause-advanced : goal.returns-then-end-cube_of-clause-advanced
-returns-then-end-cube_of-clause-advanced c =
+pub returns-then-end-node_corners-clause-advanced : goal.returns-then-end-node_corners-clause-advanced
+returns-then-end-node_corners-clause-advanced c =
     let a = c.args in
-    node_at_corner a.task.grid (decide_by a.task.band) (model_at a.model.now) a.visit.node a.visit.corner a.visit.left a.visit.leaves
-    (held a.slices.now) c.requires.ready c.cube_of-children.result c.cube_of-children.ensures c.node_box-bounds.ensures c.run_corners-end.ensures
-    (omega (arith, c.cube_of.ensures, c.if-end-cube_of.true))
+    node_at_corner a.task.grid.grid (decide_by a.task.band) (model_at a.model.now) a.visit.node a.visit.corner a.visit.left a.visit.leaves
+    (held a.slices.now) c.requires.ready c.node_children-children.result c.node_children-children.ensures.is c.node_box-bounds.ensures c.run_corners-end.ensures
+    (omega (arith, c.node_corners.ensures.is, c.if-end-node_corners.true))
 
-pub returns-then-end-cube_of-clause-behind : goal.returns-then-end-cube_of-clause-behind
-returns-then-end-cube_of-clause-behind c =
+pub returns-then-end-node_corners-clause-behind : goal.returns-then-end-node_corners-clause-behind
+returns-then-end-node_corners-clause-behind c =
     let a = c.args in
-    node_past a.task.grid (decide_by a.task.band) (model_at a.model.now) a.visit.node a.visit.corner a.visit.left a.visit.leaves
-    (held a.slices.now) c.requires.ready c.cube_of-children.result c.cube_of-children.ensures c.node_box-bounds.ensures c.run_corners-end.ensures
+    node_past a.task.grid.grid (decide_by a.task.band) (model_at a.model.now) a.visit.node a.visit.corner a.visit.left a.visit.leaves
+    (held a.slices.now) c.requires.ready c.node_children-children.result c.node_children-children.ensures.is c.node_box-bounds.ensures c.run_corners-end.ensures
 
-pub returns-else-end-cube_of-clause-advanced : goal.returns-else-end-cube_of-clause-advanced
-returns-else-end-cube_of-clause-advanced c =
+pub returns-else-end-node_corners-clause-advanced : goal.returns-else-end-node_corners-clause-advanced
+returns-else-end-node_corners-clause-advanced c =
     let a = c.args in
-    node_past_corners a.task.grid (decide_by a.task.band) (model_at a.model.now) a.visit.node a.visit.corner a.visit.left a.visit.leaves
-    (held a.slices.now) c.requires.ready c.cube_of-children.result c.cube_of-children.ensures c.node_box-bounds.ensures c.run_corners-end.ensures
-    (plan_laws_lem a.task.grid a.task.band (model_at a.model.now) c.requires.sized.0.inner_least)
-    (omega (arith, c.cube_of.ensures, c.if-end-cube_of.false))
+    node_past_corners a.task.grid.grid (decide_by a.task.band) (model_at a.model.now) a.visit.node a.visit.corner a.visit.left a.visit.leaves
+    (held a.slices.now) c.requires.ready c.node_children-children.result c.node_children-children.ensures.is c.node_box-bounds.ensures c.run_corners-end.ensures
+    (plan_laws_lem a.task.grid.grid a.task.band (model_at a.model.now) (sized c.args.task.grid).inner_least)
+    (omega (arith, c.node_corners.ensures.is, c.if-end-node_corners.false))
 
-pub returns-else-end-cube_of-clause-behind : goal.returns-else-end-cube_of-clause-behind
-returns-else-end-cube_of-clause-behind c =
+pub returns-else-end-node_corners-clause-behind : goal.returns-else-end-node_corners-clause-behind
+returns-else-end-node_corners-clause-behind c =
     let a = c.args in
-    node_past a.task.grid (decide_by a.task.band) (model_at a.model.now) a.visit.node a.visit.corner a.visit.left a.visit.leaves
-    (held a.slices.now) c.requires.ready c.cube_of-children.result c.cube_of-children.ensures c.node_box-bounds.ensures c.run_corners-end.ensures
+    node_past a.task.grid.grid (decide_by a.task.band) (model_at a.model.now) a.visit.node a.visit.corner a.visit.left a.visit.leaves
+    (held a.slices.now) c.requires.ready c.node_children-children.result c.node_children-children.ensures.is c.node_box-bounds.ensures c.run_corners-end.ensures

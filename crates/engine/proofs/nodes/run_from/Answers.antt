@@ -7,19 +7,20 @@ use Rattle.schedule.specs.Totals.{active_all}
 use Rattle.plans.specs.Plan.{plan_with}
 use Rattle.float.specs.Zero.{plus_zero}
 use Rattle.engine.specs.Inner.Progress.{plan, Advanced, reading_in, progress}
+use Rattle.engine.proofs.Sizes.{sized}
 use Rattle.engine.proofs.NodeLaws.{nodes_few, known_start, at_end_lem}
 use Rattle.engine.proofs.nodes.run_from.Goals as goal
 
-pub run_from_corner-done-requires-clause-sized : goal.run_from_corner-done-requires-clause-sized
+pub run_from_corner-done-requires-clause-within : goal.run_from_corner-done-requires-clause-within
 unfolding plan_with
-run_from_corner-done-requires-clause-sized c =
-    let here = known_start (plan c.args.task c.args.model.now) c.args.at c.in-Corner.is c.requires.standable in
-    (c.requires.sized, here.1)
+run_from_corner-done-requires-clause-within c =
+    let here = known_start (plan c.args.task c.args.model.now) c.args.at c.in-Corner.is c.requires in
+    here.1
 
 pub run_from_corner-done-requires-clause-clean : goal.run_from_corner-done-requires-clause-clean
 unfolding plan_with
 run_from_corner-done-requires-clause-clean c = (
-  c.requires.standable.lent.corners,
+  c.requires.lent.corners,
   record {
     within = omega arith;
     zero = λ i behind. get_or-eq_default c.args.slices.now.corners.now plus_zero behind;
@@ -29,26 +30,26 @@ run_from_corner-done-requires-clause-clean c = (
 pub overflow_add-node : goal.overflow_add-node
 unfolding plan_with
 overflow_add-node c =
-    let here = known_start (plan c.args.task c.args.model.now) c.args.at c.in-Corner.is c.requires.standable in
-    omega (arith, here.0, nodes_few c.args.task.grid c.requires.sized)
+    let here = known_start (plan c.args.task c.args.model.now) c.args.at c.in-Corner.is c.requires in
+    omega (arith, here.0, nodes_few c.args.task.grid.grid (sized c.args.task.grid))
 
-pub run_nodes-requires-clause-sized : goal.run_nodes-requires-clause-sized
+pub run_nodes-requires-clause-within : goal.run_nodes-requires-clause-within
 unfolding plan_with
-run_nodes-requires-clause-sized c =
-    let here = known_start (plan c.args.task c.args.model.now) c.args.at c.in-Corner.is c.requires.standable in
-    (c.requires.sized, omega (arith, here.0))
+run_nodes-requires-clause-within c =
+    let here = known_start (plan c.args.task c.args.model.now) c.args.at c.in-Corner.is c.requires in
+    omega (arith, here.0)
 
-pub run_from_point-done-requires-clause-sized : goal.run_from_point-done-requires-clause-sized
+pub run_from_point-done-requires-clause-within : goal.run_from_point-done-requires-clause-within
 unfolding plan_with
-run_from_point-done-requires-clause-sized c =
-    let here = known_start (plan c.args.task c.args.model.now) c.args.at c.in-Point.is c.requires.standable in
-    (c.requires.sized, here.1, here.2, here.3)
+run_from_point-done-requires-clause-within c =
+    let here = known_start (plan c.args.task c.args.model.now) c.args.at c.in-Point.is c.requires in
+    (here.1, here.2, here.3)
 
-pub run_nodes-requires-in-Point-clause-sized : goal.run_nodes-requires-in-Point-clause-sized
+pub run_nodes-requires-in-Point-clause-within : goal.run_nodes-requires-in-Point-clause-within
 unfolding plan_with
-run_nodes-requires-in-Point-clause-sized c =
-    let here = known_start (plan c.args.task c.args.model.now) c.args.at c.in-Point.is c.requires.standable in
-    (c.requires.sized, omega (arith, here.0))
+run_nodes-requires-in-Point-clause-within c =
+    let here = known_start (plan c.args.task c.args.model.now) c.args.at c.in-Point.is c.requires in
+    omega (arith, here.0)
 
 pub returns-in-End-clause-advanced : goal.returns-in-End-clause-advanced
 returns-in-End-clause-advanced c =
@@ -56,4 +57,4 @@ returns-in-End-clause-advanced c =
     let m = held a.slices.now in
     let P = plan a.task a.model.now in
     subst (λ x. Advanced P a.at.left a.at.leaves m m (events_from P x (reading_in m)) _ (progress a.at.leaves a.at.left _) (active_all P)) (sym c.in-End.is)
-    (at_end_lem P a.at.left a.at.leaves m c.requires.standable.lent c.requires.standable.few)
+    (at_end_lem P a.at.left a.at.leaves m c.requires.lent c.requires.few)

@@ -8,11 +8,8 @@ use Rattle.plans.specs.Plan.{plan_with}
 use Rattle.engine.specs.Inner.Progress.{plan, ZeroCorners}
 use Rattle.engine.specs.Inner.Turns.{NodesReady, Continued}
 use Rattle.engine.proofs.Turns.{same_then, none_stop, came_through}
-use Rattle.engine.proofs.NodeLaws.{nodes_few, node_ready, continued_node, continued_end}
+use Rattle.engine.proofs.NodeLaws.{node_ready, continued_node, continued_end}
 use Rattle.engine.proofs.nodes.run_nodes.Goals as goal
-
-pub node_total-node-end-requires : goal.node_total-node-end-requires
-node_total-node-end-requires c = omega (arith, nodes_few c.args.task.grid c.requires.sized.0)
 
 pub run_from_corner-done-requires-clause-ready : goal.run_from_corner-done-requires-clause-ready
 unfolding plan_with
@@ -21,7 +18,7 @@ run_from_corner-done-requires-clause-ready c =
     let ready = l.invariant.2 in
     record {
       lent = ready.lent;
-      node = omega (arith, c.loop-node-test.true, c.node_total-node-end.ensures);
+      node = omega (arith, c.loop-node-test.true, c.nodes-node-end.ensures.is);
       at_most = came_through _ ready.at_most (none_stop (sym c.if-is_some.ensures));
     }
 
@@ -30,7 +27,7 @@ unfolding plan_with
 run_from_corner-done-requires-clause-clean c =
     let l = c.loop-node in
     let ready = l.invariant.2 in
-    let own = c.cube_of-own.ensures in (
+    let own = c.node_corners-own.ensures.is in (
       omega (arith, own),
       record {
         within = omega (arith, own, ready.lent.corners);
@@ -46,7 +43,7 @@ loop-node-preserved c =
     let now = held c.run_from_corner-done.new.slices in
     let done = c.run_from_corner-done in
     let through = none_stop (sym c.if-is_some.ensures) in
-    let below : l.node < P.nodes = omega (arith, c.loop-node-test.true, c.node_total-node-end.ensures) in
+    let below : l.node < P.nodes = omega (arith, c.loop-node-test.true, c.nodes-node-end.ensures.is) in
     let cleared = came_through (ZeroCorners (held l.slices)) l.invariant.2.cleared through in
     let next : suc l.node ≡ l.node + 1 = sym (add-one l.node) in
     let ready = subst (λ n. NodesReady P n done.result now) next (node_ready P l.node _ _ done.ensures.node) in
@@ -58,5 +55,5 @@ pub returns-clause-continued : goal.returns-clause-continued
 unfolding plan_with
 returns-clause-continued c =
     let l = c.loop-node in
-    let all : l.node ≡ (plan c.args.task c.args.model.now).nodes = omega (arith, c.loop-node-test.false, c.node_total-node-end.ensures, l.invariant.0) in
+    let all : l.node ≡ (plan c.args.task c.args.model.now).nodes = omega (arith, c.loop-node-test.false, c.nodes-node-end.ensures.is, l.invariant.0) in
     continued_end (plan c.args.task c.args.model.now) l.node all l.invariant.3

@@ -2,23 +2,24 @@
 use Rattle.schedule.specs.Lent.{held}
 use Rattle.plans.specs.Plan.{decide_by}
 use Rattle.rows.specs.Inner.ModelValue.{model_at}
+use Rattle.engine.proofs.Sizes.{sized}
 use Rattle.engine.proofs.NodeLaws.{leaves_inside, node_points}
 use Rattle.engine.proofs.nodes.run_points.Goals as goal
 
 pub leaf_from-requires : goal.leaf_from-requires
 leaf_from-requires c =
     let a = c.args in (
-      c.requires.sized.0.leaf_least,
-      c.requires.sized.0.leaf_most,
-      c.requires.sized.2,
-      c.requires.sized.3,
-      leaves_inside a.task.grid (decide_by a.task.band) (model_at a.model.now) a.leaf.node a.leaf.child a.leaf.point a.leaf.left a.leaf.leaves
-          (held a.slices.now) c.requires.ready c.requires.sized.1,
+      (sized a.task.grid).leaf_least,
+      (sized a.task.grid).leaf_most,
+      c.requires.within.1,
+      c.requires.within.2,
+      leaves_inside a.task.grid.grid (decide_by a.task.band) (model_at a.model.now) a.leaf.node a.leaf.child a.leaf.point a.leaf.left a.leaf.leaves
+          (held a.slices.now) c.requires.ready c.requires.within.0,
     )
 
 pub returns-clause-advanced : goal.returns-clause-advanced
 returns-clause-advanced c =
     let a = c.args in
-    node_points a.task.grid (decide_by a.task.band) (model_at a.model.now) a.leaf.node a.leaf.child a.leaf.point a.leaf.left a.leaf.leaves
-    (held a.slices.now) c.requires.ready c.requires.sized.1 c.requires.sized.2 c.node_box-bounds.ensures c.child_box-child.ensures
+    node_points a.task.grid.grid (decide_by a.task.band) (model_at a.model.now) a.leaf.node a.leaf.child a.leaf.point a.leaf.left a.leaf.leaves
+    (held a.slices.now) c.requires.ready c.requires.within.0 c.requires.within.1 c.node_box-bounds.ensures c.child_box-child.ensures
     c.leaf_from.ensures.answer c.leaf_from.ensures.store
