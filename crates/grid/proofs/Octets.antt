@@ -1,7 +1,6 @@
 -- A child's eight corners: their places from the first one, all below the node's (n + 1)³.
-use Rattle.std.proofs.Common.{◌≡◌, ℕ, ◌+◌, ◌*◌, ◌^◌, ◌<◌, ◌≤◌, List, [], ◌∷◌, length, get_or, refl, sym, subst, mul-le-mul_right, mul_assoc, div-lt_iff_lt-mul, mul-le-mul, mul-pos, arith}
+use Rattle.std.proofs.Common.{◌≡◌, ℕ, ◌+◌, ◌*◌, ◌<◌, ◌≤◌, List, [], ◌∷◌, length, get_or, refl, sym, subst, mul-le-mul_right, mul_assoc, div-lt_iff_lt-mul, mul-pos, arith}
 use Rattle.geometry.specs.declared.Vec3i.{Vec3i}
-use Rattle.geometry.specs.Values.{vec3i}
 use Rattle.geometry.specs.Index.{place_of, indices_of}
 use Rattle.geometry.specs.Octet.{octet_order, octet_places}
 use Rattle.geometry.proofs.Inverse.{column_below, line_below}
@@ -44,12 +43,6 @@ last_below n at hi hj hk =
     let slabs : at.k * (s * s) + s * s + s * s ≤ s * (s * s) = omega (arith, mul-le-mul_right (s * s) hk) in
     let rows : at.j * s + s + s ≤ s * s = omega (arith, mul-le-mul_right s hj) in
     omega (arith, mul_assoc s s s)
-
-pub octet_fits : (i j k n : ℕ) → i < n → j < n → k < n → n ≤ 64 → let s = n + 1 in k * (s * s) + j * s + i + s + s * s + 1 < 2 ^ 64
-octet_fits i j k n hi hj hk hn =
-    let s = n + 1 in
-    let side : s ≤ 65 = omega arith in
-    omega (arith, last_below n (vec3i i j k) hi hj hk, mul-le-mul (mul-le-mul side side) side)
 
 -- the indices of a child
 pub record Within (n : ℕ) (at : Vec3i) : Type 0 where
