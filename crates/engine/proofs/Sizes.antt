@@ -1,5 +1,5 @@
 -- The sizes of a grid that causes 2 and 5 do not refuse.
-use Rattle.std.proofs.Common.{ℕ, ◌*◌, ◌≤◌, ◌<◌, arith}
+use Rattle.std.proofs.Common.{◌*◌, ◌≤◌, ◌<◌, arith}
 use Rattle.grid.specs.declared.Grid.{Grid}
 use Rattle.grid.specs.declared.sized.SizedGrid.{SizedGrid}
 use Rattle.grid.specs.Blocks.{cube}

@@ -140,7 +140,14 @@ fn run_child(
         leaves: visit.leaves + 1,
         left: visit.left,
     };
-    leaf_from(model, child, task.grid.grid.leaf, leaf, scratch, slices.store)
+    leaf_from(
+        model,
+        child,
+        task.grid.grid.leaf,
+        leaf,
+        scratch,
+        slices.store,
+    )
 }
 
 // The children of a node, from the one at a visit's place on.

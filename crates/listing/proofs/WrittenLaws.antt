@@ -1,5 +1,5 @@
 -- What writing a record's listing answers, case by case, and the sizes that a possible record gives.
-use Prim.Native.Nat.{ℕ, ◌*◌, ◌≤◌}
+use Prim.Native.Nat.{ℕ, ◌≤◌}
 use mathlib.Core.Path.{◌≡◌, refl, sym, ap, ◌∙◌}
 use mathlib.Core.Bool.{true, false}
 use mathlib.Core.List.{List}
@@ -7,10 +7,9 @@ use native.Mathlib.Omega.{arith}
 use lib.ListN.{length}
 use Rattle.grid.specs.declared.Grid.{Grid}
 use Rattle.grid.specs.Blocks.{cube}
-use Rattle.grid.specs.Nodes.{nodes_of}
-use Rattle.grid.specs.Limits.{children_of}
+use Rattle.grid.specs.Limits.{refused_by_two, refused_by_five, children_of}
 use Rattle.grid.proofs.BlockLaws.{cube_le}
-use Rattle.grid.proofs.LimitLaws.{inner_block, leaf_block, few_children, bound_fits}
+use Rattle.grid.proofs.LimitLaws.{inner_block, few_children, bound_fits}
 use Rattle.schedule.specs.Memory.{Memory}
 use Rattle.schedule.specs.Opened.{lengths_of}
 use Rattle.schedule.specs.Possible.{impossible}
@@ -32,13 +31,12 @@ use Rattle.listing.specs.Written.{at_end, all_placed, printable, record_listing,
 
 -- what an accepted grid gives, with slices of so many kinds, numbers and places
 pub record Ready (g : Grid) (kinds numbers places : ℕ) : Type 0 where
-  pub inner : g.inner ≤ 65
-  pub leaf : g.leaf ≤ 65
-  pub nodes : nodes_of g ≤ 2097152
-  pub sizes : Sizes (nodes_of g * cube g.inner) (cube g.inner) (cube g.leaf)
-  pub enough_kinds : nodes_of g * cube g.inner ≤ kinds
-  pub enough_numbers : nodes_of g * cube g.inner ≤ numbers
-  pub enough_places : nodes_of g * cube g.inner ≤ places
+  pub two : refused_by_two g ≡ false
+  pub five : refused_by_five g ≡ false
+  pub sizes : Sizes (children_of g) (cube g.inner) (cube g.leaf)
+  pub enough_kinds : children_of g ≤ kinds
+  pub enough_numbers : children_of g ≤ numbers
+  pub enough_places : children_of g ≤ places
 
 pub ready : (j : Job) (m : Memory) → impossible sparse j m ≡ false
     → Ready j.input.grid (length m.kinds) (length m.numbers) (length m.places)
@@ -51,9 +49,8 @@ ready j m judged =
     let fits = bound_fits g none.two none.five in
     let eight : 8 ≤ cube g.inner = cube_le g.inner 2 n.least in
     record {
-      inner = omega (arith, n.most);
-      leaf = omega (arith, (leaf_block g none.two).most);
-      nodes = fits.nodes;
+      two = none.two;
+      five = none.five;
       sizes = record { some = omega arith; size = fits.points; few = few_children g none.five };
       enough_kinds = none.lent.kinds;
       enough_numbers = none.lent.numbers;
@@ -61,9 +58,9 @@ ready j m judged =
     }
 
 -- the same of the sizes that the code reads of the grid
-pub sizes_read : {g : Grid} {kinds numbers places : ℕ} → Ready g kinds numbers places → {nodes children points : ℕ}
-    → nodes ≡ nodes_of g → children ≡ cube g.inner → points ≡ cube g.leaf → Sizes (nodes * children) children points
-sizes_read r nodes children points = rw (nodes, children, points) r.sizes
+pub sizes_read : {g : Grid} {kinds numbers places : ℕ} → Ready g kinds numbers places → {total children points : ℕ}
+    → total ≡ children_of g → children ≡ cube g.inner → points ≡ cube g.leaf → Sizes total children points
+sizes_read r total children points = rw (total, children, points) r.sizes
 
 -- ---- a possible record
 
@@ -91,25 +88,25 @@ module _ (j : Job) (nan : ℕ) (m : Memory) (out : List ℕ) where
   unfolding printable
   unfinished is = not_printed (rw is)
 
-  module _ {nodes children points : ℕ} (n : nodes ≡ nodes_of g) (c : children ≡ cube g.inner) (p : points ≡ cube g.leaf) where
-    placed_as : all_placed points (length m.store) m.kinds m.places (nodes * children) 0
-        ≡ all_placed (cube g.leaf) (length m.store) m.kinds m.places (nodes_of g * cube g.inner) 0
-    placed_as = rw (n, c, p)
+  module _ {total children points : ℕ} (n : total ≡ children_of g) (c : children ≡ cube g.inner) (p : points ≡ cube g.leaf) where
+    placed_as : all_placed points (length m.store) m.kinds m.places total 0
+        ≡ all_placed (cube g.leaf) (length m.store) m.kinds m.places (children_of g) 0
+    placed_as = rw (n, p)
 
-    listing_as : listing_to (nodes * children) children points nan j.counts m
+    listing_as : listing_to total children points nan j.counts m
         ≡ record_listing j nan m
-    unfolding record_listing listing plan_with line_at
+    unfolding record_listing listing plan_with line_at children_of
     listing_as = rw (n, c, p)
 
-    pub unplaced : at_end j.cursor ≡ true → all_placed points (length m.store) m.kinds m.places (nodes * children) 0 ≡ false
+    pub unplaced : at_end j.cursor ≡ true → all_placed points (length m.store) m.kinds m.places total 0 ≡ false
         → possible_written j nan m out ≡ refused_put NotPrintable out
-    unfolding printable plan_with
+    unfolding printable plan_with children_of
     unplaced end is = let fails = sym placed_as ∙ is in not_printed (rw (end, fails))
 
-    pub printed : at_end j.cursor ≡ true → all_placed points (length m.store) m.kinds m.places (nodes * children) 0 ≡ true
+    pub printed : at_end j.cursor ≡ true → all_placed points (length m.store) m.kinds m.places total 0 ≡ true
         → possible_written j nan m out
-        ≡ put_listing (listing_to (nodes * children) children points nan j.counts m) out
-    unfolding printable plan_with
+        ≡ put_listing (listing_to total children points nan j.counts m) out
+    unfolding printable plan_with children_of
     printed end is =
         let holds = sym placed_as ∙ is in
         listed_whole (rw (end, holds)) ∙ ap (λ bs. put_listing bs out) (sym listing_as)

@@ -49,7 +49,7 @@ impl<'a> Sheet<'a> {
     {
         let v = (j / self.children) as u64;
         let c = (j % self.children) as u64;
-        match Kind::of(self.slices.kinds[j]) {
+        match Kind::from(self.slices.kinds[j]) {
             Kind::Empty => {}
             Kind::Active => put_constant(v, c, self.slices.numbers[j], sink),
             Kind::Leaf => put_leaf(self.nan, v, c, self.leaf(j), sink),

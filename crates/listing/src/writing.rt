@@ -12,7 +12,7 @@ use crate::Unlisted;
 use crate::sheet::Sheet;
 use crate::text::{self, Line};
 use causes::Cause;
-use grid::Kind;
+use grid::{Kind, SizedGrid};
 use schedule::{Cursor, Job, View};
 
 // Whether a child of this kind is no leaf, or has its stretch inside a store of this size.
@@ -21,7 +21,7 @@ fn is_placed(points: usize, size: usize, kind: u8, place: u32) -> bool
     requires { points ≤ 262144 }
     ensures { result ≡ placed points size kind place }
 {
-    kind != Kind::Leaf.number() || (place as usize + 1) * points <= size
+    Kind::from(kind) != Kind::Leaf || (place as usize + 1) * points <= size
 }
 
 // Whether the first children are no leaves, or have their stretches inside a store of this size.
@@ -49,17 +49,18 @@ fn write_possible(job: &Job, nan: u64, slices: &View, out: &mut [u8]) -> Result<
     let Cursor::End = job.cursor else {
         return Err(Unlisted::NotPrintable);
     };
-    let g = job.input.grid;
-    let children = grid::cube_of(g.inner as usize);
-    let points = grid::cube_of(g.leaf as usize);
-    let total = grid::node_total(g) * children;
+    let grid = SizedGrid {
+        grid: job.input.grid,
+    };
+    let total = grid.children();
+    let points = grid.leaf_points();
     if !all_placed(total, points, slices) {
         return Err(Unlisted::NotPrintable);
     }
     let sheet = Sheet {
         counts: job.counts,
         total,
-        children,
+        children: grid.node_children(),
         points,
         nan,
         slices: *slices,

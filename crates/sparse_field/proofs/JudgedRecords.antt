@@ -17,14 +17,14 @@ use Rattle.schedule.specs.declared.Job.{Job}
 use Rattle.schedule.specs.declared.Cursor.{Cursor}
 use Rattle.schedule.specs.declared.Cursor.TheVariants.{End, Corner, Point}
 use Rattle.schedule.specs.Totals.{count_before, count_all, active_up_to, evaluations_bound}
-use Rattle.schedule.specs.Opened.{lengths_of, active_at}
+use Rattle.schedule.specs.Opened.{lengths_of, active_at, ActiveKinds}
 use Rattle.schedule.specs.Counts.{counts_with, same_counts}
 use Rattle.schedule.specs.Possible.{same_lengths, valid_cursor, inside_child, impossible}
 use Rattle.schedule.specs.Memory.{Memory}
 use Rattle.plans.specs.Plan.{plan_with, plan_of}
 use Rattle.plans.specs.Sparse.{sparse}
 use Rattle.plans.specs.Inner.GridPlan.{grid_plan}
-use Rattle.judging.specs.Inner.Judged.{RightKinds, wrong_progress}
+use Rattle.judging.specs.Inner.Judged.{wrong_progress}
 
 -- how far a job is depends on its grid alone
 progress_same : (i : Input) (c : Counts) (a : Cursor) → wrong_progress (grid_plan i.grid) c a ≡ wrong_progress (plan_of i) c a
@@ -97,16 +97,9 @@ module _ (j : Job) (m : Memory) where
       impossible_kinds c = judged_third meets_cause other_lengths other_kinds other_counts many_evaluations other_cursor many_leaves no_leaf a b c
 
       module _ (c : other_kinds ≡ false) where
-        pub possible_kinds : RightKinds j.input.grid m.kinds
+        pub right_kinds : ActiveKinds (grid_plan j.input.grid) m.kinds
         unfolding plan_with
-        possible_kinds =
-            let n = possible_input in
-            record {
-              two = n.two;
-              five = n.five;
-              long = n.lent.kinds;
-              right = λ p h. rw zero-add at (agrees_each (active_at (plan_of j.input)) m.kinds 0 (not-false _ c) p h);
-            }
+        right_kinds p h = rw zero-add at (agrees_each (active_at (plan_of j.input)) m.kinds 0 (not-false _ c) p h)
 
         pub impossible_progress : {x : Bool} → x ≡ wrong_progress (grid_plan j.input.grid) j.counts j.cursor → x ≡ is_impossible
         unfolding impossible

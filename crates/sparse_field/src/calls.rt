@@ -13,6 +13,7 @@ ghost use Rattle.plans.specs.Sparse.{sparse};
 use crate::{jobs, judgement};
 use causes::Cause;
 use engine::Standing;
+use grid::SizedGrid;
 use input::{Input, Lengths};
 use schedule::{Cursor, Job, Slices};
 
@@ -24,7 +25,7 @@ fn prepare(input: Input, slices: &mut Slices)
     ensures memory { held slices.new ≡ start_memory input (lengths_of (held slices.old)) }
 {
     slices.zero();
-    kinds::set_kinds(input.grid, slices.kinds);
+    kinds::set_kinds(SizedGrid { grid: input.grid }, slices.kinds);
 }
 
 // An accepted open: the memory is prepared, and the job runs on to its first evaluation or its end.
@@ -41,7 +42,8 @@ fn opened(input: Input, lengths: Lengths, slices: &mut Slices) -> Job
         left: 0,
     };
     let turn = engine::run_job(&input, start, slices);
-    jobs::job_at(input, lengths, grid::grid_counts(input.grid), turn, 0)
+    let grid = SizedGrid { grid: input.grid };
+    jobs::job_at(input, lengths, grid.counts(), turn, 0)
 }
 
 // Opens a job of an input, in place of the one that it finds, whatever record that is. A refusal leaves

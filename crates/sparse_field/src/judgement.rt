@@ -4,6 +4,8 @@ ghost use Rattle.schedule.specs.Possible.{impossible};
 ghost use Rattle.schedule.specs.Lent.{viewed};
 ghost use Rattle.plans.specs.Sparse.{sparse};
 
+use grid::SizedGrid;
+use judging::RightKinds;
 use schedule::{Job, View};
 
 // Whether a job's record is impossible with these slices: open would refuse its input, its lengths or
@@ -12,13 +14,21 @@ pub fn is_impossible(job: &Job, slices: &View) -> bool
     ensures { result ≡ impossible sparse job.now (viewed slices.now) }
 {
     let lengths = slices.lengths();
-    let grid = job.input.grid;
     if input::open_refusal(&job.input, lengths).is_err() {
         return true;
     }
     if job.lengths != lengths {
         return true;
     }
-    !kinds::kinds_right(grid, slices.kinds)
-        || judging::wrong_progress(grid, slices.kinds, job.counts, job.cursor)
+    let grid = SizedGrid {
+        grid: job.input.grid,
+    };
+    if !kinds::kinds_right(grid, slices.kinds) {
+        return true;
+    }
+    let right = RightKinds {
+        grid,
+        kinds: slices.kinds,
+    };
+    right.wrong_progress(job.counts, job.cursor)
 }

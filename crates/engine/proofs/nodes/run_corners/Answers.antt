@@ -12,26 +12,29 @@ pub overflow_mul-first : goal.overflow_mul-first
 unfolding plan_with
 overflow_mul-first c = omega (arith, part_few c.args.task.grid.grid c.args.visit.node (sized c.args.task.grid) c.requires.ready.node c.node_children-children.ensures.is)
 
-pub overflow_add-first : goal.overflow_add-first
+pub overflow_add-node : goal.overflow_add-node
 unfolding plan_with
-overflow_add-first c = omega (arith, part_few c.args.task.grid.grid c.args.visit.node (sized c.args.task.grid) c.requires.ready.node c.node_children-children.ensures.is)
+overflow_add-node c = omega (arith, part_few c.args.task.grid.grid c.args.visit.node (sized c.args.task.grid) c.requires.ready.node c.node_children-children.ensures.is)
 
-pub slice_bounds-run_corners-end : goal.slice_bounds-run_corners-end
+pub slice_bounds-node-end : goal.slice_bounds-node-end
 unfolding plan_with
-slice_bounds-run_corners-end c =
+slice_bounds-node-end c =
     part_inside c.args.task.grid.grid c.args.visit.node (sized c.args.task.grid) c.requires.ready.node c.node_children-children.ensures.is _ c.requires.ready.lent.kinds
+
+pub invariant_of-node : goal.invariant_of-node
+unfolding plan_with
+invariant_of-node c =
+    let n = c.node_children-children.result in
+    let inside = part_inside c.args.task.grid.grid c.args.visit.node (sized c.args.task.grid) c.requires.ready.node c.node_children-children.ensures.is _ c.requires.ready.lent.kinds in
+    record {
+      some = (sized c.args.task.grid).inner_least;
+      few = (sized c.args.task.grid).inner_most;
+      whole = part_long (held c.args.slices.now).kinds (c.args.visit.node * n) n inside ∙ c.node_children-children.ensures.is;
+    }
 
 pub run_corners-end-requires : goal.run_corners-end-requires
 unfolding plan_with
-run_corners-end-requires c =
-    let n = c.node_children-children.result in
-    let inside = part_inside c.args.task.grid.grid c.args.visit.node (sized c.args.task.grid) c.requires.ready.node c.node_children-children.ensures.is _ c.requires.ready.lent.kinds in (
-      (sized c.args.task.grid).inner_least,
-      (sized c.args.task.grid).inner_most,
-      part_long (held c.args.slices.now).kinds (c.args.visit.node * n) n inside ∙ c.node_children-children.ensures.is,
-      c.requires.ready.lent.corners,
-      c.requires.within,
-    )
+run_corners-end-requires c = (c.requires.ready.lent.corners, c.requires.within)
 
 pub returns-then-end-node_corners-clause-advanced : goal.returns-then-end-node_corners-clause-advanced
 returns-then-end-node_corners-clause-advanced c =

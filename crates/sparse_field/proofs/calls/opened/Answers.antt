@@ -13,7 +13,7 @@ use Rattle.sparse_field.proofs.calls.opened.Goals as goal
 pub run_job-turn-requires-clause-sized : goal.run_job-turn-requires-clause-sized
 run_job-turn-requires-clause-sized c =
     let none = nothing c.args.input (lengths_of (held c.args.slices.now)) c.requires.1 in
-    (sized c.args.input none, none.four)
+    (none.two, none.five, none.four)
 
 pub run_job-turn-requires-clause-lent : goal.run_job-turn-requires-clause-lent
 run_job-turn-requires-clause-lent c =
@@ -21,10 +21,10 @@ run_job-turn-requires-clause-lent c =
     let l = lengths_of (held c.args.slices.now) in
     (subst (λ m. Lent (plan_of i) m) (sym c.prepare.ensures.memory) (start_lent i l c.requires.1), start_startable i l c.requires.1, omega arith)
 
-pub grid_counts-requires : goal.grid_counts-requires
-grid_counts-requires c =
+pub invariant_of-grid : goal.invariant_of-grid
+invariant_of-grid c =
     let none = nothing c.args.input (lengths_of (held c.args.slices.now)) c.requires.1 in
-    (none.two, none.five)
+    record { two = none.two; five = none.five }
 
 pub job_at-requires : goal.job_at-requires
 job_at-requires c =
@@ -38,7 +38,7 @@ returns-clause-next c =
     let i = c.args.input in
     let l = lengths_of (held c.args.slices.now) in
     let engine = opened_after i l c.requires.1 c.prepare.ensures.memory c.run_job-turn.ensures.advanced in
-    let counted = c.grid_counts.ensures ∙ counts_same i.grid (decide_by i.band) (value_of i.model) in
+    let counted = c.counts.ensures ∙ counts_same i.grid (decide_by i.band) (value_of i.model) in
     ap (λ j. Some j) (c.job_at.ensures ∙ job_same i c.run_job-turn.result c.requires.0 counted refl) ∙ sym (ap (λ e. e.job) engine)
 
 pub returns-clause-memory : goal.returns-clause-memory

@@ -15,12 +15,16 @@ use Rattle.sparse_field.proofs.calls.prepare.Goals as goal
 long : (m : Memory) {z : Memory} → z ≡ zero_memory (lengths_of m) → length z.kinds ≡ length m.kinds
 long m zero = ap (λ m. length m.kinds) zero ∙ length-replicate (length m.kinds) 0
 
+pub invariant_of-set_kinds : goal.invariant_of-set_kinds
+invariant_of-set_kinds c =
+    let none = nothing c.args.input (lengths_of (held c.args.slices.now)) c.requires in
+    record { two = none.two; five = none.five }
+
 pub set_kinds-requires : goal.set_kinds-requires
 unfolding children_of
 set_kinds-requires c =
     let m = held c.args.slices.now in
-    let none = nothing c.args.input (lengths_of m) c.requires in
-    (none.two, none.five, omega (arith, none.lent.kinds, long m c.zero.ensures.memory))
+    omega (arith, (nothing c.args.input (lengths_of m) c.requires).lent.kinds, long m c.zero.ensures.memory)
 
 pub returns-clause-memory : goal.returns-clause-memory
 unfolding opened plan_with

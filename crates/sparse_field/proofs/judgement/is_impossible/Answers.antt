@@ -8,7 +8,7 @@ use Rattle.plans.specs.Plan.{plan_with}
 use Rattle.schedule.specs.Calls.{Answer}
 use Rattle.schedule.specs.Lent.{viewed}
 use Rattle.schedule.specs.Possible.{same_lengths}
-use Rattle.sparse_field.proofs.JudgedRecords.{impossible_cause, possible_input, impossible_lengths, impossible_kinds, possible_kinds, impossible_progress}
+use Rattle.sparse_field.proofs.JudgedRecords.{impossible_cause, possible_input, impossible_lengths, impossible_kinds, right_kinds, impossible_progress}
 use Rattle.sparse_field.proofs.judgement.is_impossible.Goals as goal
 
 -- whether a cause of open applies
@@ -46,39 +46,42 @@ returns-then-ne c =
     (caused _ c.lengths-lengths.ensures c.open_refusal.ensures c.is_err.ensures.value c.if-is_err.false)
     (other a.job.now.lengths c.lengths-lengths.ensures c.ne.ensures c.if-ne.true)
 
+pub invariant_of-grid : goal.invariant_of-grid
+invariant_of-grid c =
+    let n = possible_input c.args.job.now (viewed c.args.slices.now)
+    (caused _ c.lengths-lengths.ensures c.open_refusal.ensures c.is_err.ensures.value c.if-is_err.false) in
+    record { two = n.two; five = n.five }
+
 pub kinds_right-requires : goal.kinds_right-requires
 unfolding children_of
 kinds_right-requires c =
-    let a = c.args in
-    let n = possible_input a.job.now (viewed a.slices.now)
-    (caused _ c.lengths-lengths.ensures c.open_refusal.ensures c.is_err.ensures.value c.if-is_err.false) in
-    (n.two, n.five, n.lent.kinds)
-
-pub wrong_progress-requires : goal.wrong_progress-requires
-unfolding plan_with
-wrong_progress-requires c =
-    let a = c.args in
-    possible_kinds a.job.now (viewed a.slices.now)
-    (caused _ c.lengths-lengths.ensures c.open_refusal.ensures c.is_err.ensures.value c.if-is_err.false)
-    (other a.job.now.lengths c.lengths-lengths.ensures c.ne.ensures c.if-ne.false)
-    (ap not (sym c.kinds_right.ensures ∙ c.if-not-kinds_right.false))
+    (possible_input c.args.job.now (viewed c.args.slices.now)
+    (caused _ c.lengths-lengths.ensures c.open_refusal.ensures c.is_err.ensures.value c.if-is_err.false)).lent.kinds
 
 pub returns-then-not-kinds_right : goal.returns-then-not-kinds_right
 unfolding plan_with
 returns-then-not-kinds_right c =
-    let a = c.args in
-    ap not c.if-not-kinds_right.true
-    ∙ impossible_kinds a.job.now (viewed a.slices.now)
+    impossible_kinds c.args.job.now (viewed c.args.slices.now)
     (caused _ c.lengths-lengths.ensures c.open_refusal.ensures c.is_err.ensures.value c.if-is_err.false)
-    (other a.job.now.lengths c.lengths-lengths.ensures c.ne.ensures c.if-ne.false)
+    (other c.args.job.now.lengths c.lengths-lengths.ensures c.ne.ensures c.if-ne.false)
     (ap not (sym c.kinds_right.ensures ∙ c.if-not-kinds_right.true))
 
-pub returns-else-not-kinds_right : goal.returns-else-not-kinds_right
+pub invariant_of-right : goal.invariant_of-right
 unfolding plan_with
-returns-else-not-kinds_right c =
-    let a = c.args in
-    impossible_progress a.job.now (viewed a.slices.now)
+invariant_of-right c =
+    let cause = caused _ c.lengths-lengths.ensures c.open_refusal.ensures c.is_err.ensures.value c.if-is_err.false in
+    record {
+      long = (possible_input c.args.job.now (viewed c.args.slices.now) cause).lent.kinds;
+      right = right_kinds c.args.job.now (viewed c.args.slices.now) cause
+          (other c.args.job.now.lengths c.lengths-lengths.ensures c.ne.ensures c.if-ne.false)
+          (ap not (sym c.kinds_right.ensures ∙ c.if-not-kinds_right.false));
+    }
+
+pub returns : goal.returns
+unfolding plan_with
+returns c =
+    impossible_progress c.args.job.now (viewed c.args.slices.now)
     (caused _ c.lengths-lengths.ensures c.open_refusal.ensures c.is_err.ensures.value c.if-is_err.false)
-    (other a.job.now.lengths c.lengths-lengths.ensures c.ne.ensures c.if-ne.false)
+    (other c.args.job.now.lengths c.lengths-lengths.ensures c.ne.ensures c.if-ne.false)
     (ap not (sym c.kinds_right.ensures ∙ c.if-not-kinds_right.false))
     c.wrong_progress.ensures
