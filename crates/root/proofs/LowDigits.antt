@@ -1,5 +1,5 @@
 -- Squares and differences but for a multiple of 2 ^ 61.
-use mathlib.Core.Path.{◌≡◌, sym, ap, ap₂, ◌∙◌}
+use mathlib.Core.Path.{◌≡◌, sym, ap, ap₂, ◌∙◌, subst}
 use Prim.Native.Nat.{ℕ, zero, suc, ◌+◌, ◌-◌, ◌*◌, ◌/◌, ◌%◌, ◌^◌, ◌≤◌, ◌<◌}
 use native.Mathlib.Nat.{mul_comm, mul-le-mul, mod-lt, mod-add-mod}
 use native.Mathlib.Omega.{arith}
@@ -53,10 +53,11 @@ low_top p =
     go (suc zero) h = omega arith
     go (suc (suc r)) h = absurd (let n : suc (suc r) < 2 = h in omega arith)
 
-pub scaled_digits : (p : ℕ) → Digits (nearest_root (scaled p))
-scaled_digits p =
+-- the number nearest to an operand's root has 53 digits
+pub scaled_digits : (p q : ℕ) → q ≡ nearest_root (scaled p) → Digits q
+scaled_digits p q e =
     let t = low_top p in
-    root_digits (top p) t.least t.most
+    subst Digits (sym e) (root_digits (top p) t.least t.most)
 
 last_digit : (x t : ℕ) → x < 2 → t < 2 ^ 52 → (x * 2 ^ 52 + t + 1022 * 2 ^ 52) / 2 ^ 52 % 2 ≡ x
 last_digit x t h l =
