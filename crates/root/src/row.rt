@@ -6,14 +6,6 @@ ghost use Rattle.root.specs.Root.{square_root};
 
 use crate::{bits, operand, seed, trial};
 
-// Where a row that begins at `at` ends: after 64 elements, or where there are no more.
-pub fn end_from(at: usize, len: usize) -> usize
-    requires { at < len }
-    ensures { (at < result) × (result ≤ len) × (result ≤ at + 64) }
-{
-    if len - at < 64 { len } else { at + 64 }
-}
-
 // The bits of an estimate for each element.
 fn estimate_all(xs: &[f64], work: &mut [u64])
     requires { length xs.now ≤ length work.old }
