@@ -5,7 +5,7 @@ use Prim.Native.Nat.{ℕ, ◌+◌, ◌-◌, ◌≤◌}
 use native.Mathlib.Omega.{arith}
 use borrow.Rule.Slice.PartMut.{put_mid}
 use lib.Ieee.{Float}
-use lib.ListN.{length, take, drop}
+use lib.ListN.{take, drop}
 use Rattle.root.specs.Root.{square_root}
 use Rattle.root.proofs.RowLaws.{map_first, map_first_none, map_first_all, map_first_part}
 use Rattle.root.proofs.sqrt_row.Goals as goal

@@ -1,7 +1,7 @@
 -- `root` meets its contract: the float is what its bits stand for.
 use mathlib.Core.Path.{sym, ap, ◌∙◌, subst}
 use lib.Dec.{T}
-use lib.Ieee.{Float, binary64}
+use lib.Ieee.{binary64}
 use lib.Ieee.Bits.{of_bits-to_bits}
 use Rattle.root.specs.Root.{square_root}
 use Rattle.root.proofs.BitsRoots.{zero_by_zero, root_of_nan}

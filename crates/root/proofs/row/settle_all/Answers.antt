@@ -18,14 +18,14 @@ pub settled-requires : goal.settled-requires
 settled-requires c =
     let i = c.loop-i.i in
     let same : get_or c.loop-i.xs i nan ≡ get_or c.args.xs.now i nan =
-      ap (λ (x : List Float). get_or x i nan) c.loop-i.invariant ∙ map_first_next square_root i _ nan in
+    ap (λ (x : List Float). get_or x i nan) c.loop-i.invariant ∙ map_first_next square_root i _ nan in
     subst (λ (x : Float). Tried x (get_or c.args.work.now i 0)) (sym same) (c.requires.1.each i (omega arith))
 
 pub loop-i-preserved : goal.loop-i-preserved
 loop-i-preserved c =
     let i = c.loop-i.i in
     let same : get_or c.loop-i.xs i nan ≡ get_or c.args.xs.now i nan =
-      ap (λ (x : List Float). get_or x i nan) c.loop-i.invariant ∙ map_first_next square_root i _ nan in
+    ap (λ (x : List Float). get_or x i nan) c.loop-i.invariant ∙ map_first_next square_root i _ nan in
     ap₂ (λ x y. set x i y) c.loop-i.invariant (c.settled.ensures ∙ ap square_root same)
     ∙ map_first_set square_root i c.args.xs.now nan
     ∙ ap (λ (n : ℕ). map_first square_root n c.args.xs.now) (sym (add-one i))
