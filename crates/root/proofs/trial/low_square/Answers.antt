@@ -4,4 +4,4 @@ use Rattle.root.proofs.LowDigits.{low_square, products}
 use Rattle.root.proofs.trial.low_square.Goals as goal
 
 pub returns : goal.returns
-returns c = (omega (arith, products c.args.q), low_square _ (omega arith))
+returns c = (omega (arith, products c.args.guess.digits), low_square _ (omega arith))
