@@ -16,6 +16,8 @@ impl Vec3i {
 }
 
 // The place of (i, j, k) in a flat list, i fastest.
+// Kept: the indices and the dimensions go one by one, here and below, as in the original's functions of these
+// names (math_helper.rs).
 #[tactic(auto, unfolding(crate::specs::Index::index1d_of, crate::specs::Index::place_of, causes::specs::First::first_of))]
 pub fn index1d_from_index3d(
     i: usize,
