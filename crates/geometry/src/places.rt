@@ -53,6 +53,7 @@ pub fn index3d_from_index1d(index: usize, nx: usize, ny: usize, nz: usize) -> Re
 }
 
 // The indices of number `index` in a grid of nx by ny, i fastest. Two divisions, and no product.
+#[tactic(auto, using(crate::proofs::Division::by_rows))]
 pub fn indices(index: usize, nx: usize, ny: usize) -> Vec3i
     requires { (0 < nx) × (0 < ny) }
     ensures { result ≡ indices_of index nx ny }
