@@ -6,7 +6,7 @@ use lib.Dec.{ltb}
 use borrow.Author.Tests.{ltb-true, ltb-false}
 use borrow.Rule.Slice.PartMut.{put_mid}
 use Rattle.lists.specs.Filled.{filled}
-use Rattle.lists.proofs.Lists.{get_or_map_in}
+use Rattle.std.proofs.lemmas.List.{get_or-map}
 use Rattle.lists.proofs.Filling.{filled_is}
 
 module _ {A : Type 0} (at count : ℕ) (g : ℕ → A) (l part : List A) (d : A) (within : at + count ≤ length l) (size : length part ≡ count)
@@ -91,7 +91,7 @@ module _ {A : Type 0} (at count : ℕ) (l : List A) (d : A) (within : at + count
       let long : length row ≡ count = length-take-le (end - at) (drop at l) (omega (arith, length-drop at l)) ∙ omega arith in
       lent_copy (λ q. f (get_or l q d)) end (map f row) e is (length-map row f ∙ long)
       (λ k h.
-      get_or_map_in f row k d d (omega arith)
+      get_or-map f row k d d (omega arith)
       ∙ ap f (get_or-take (end - at) (drop at l) k d (omega arith) ∙ get_or-drop at l k d))
 
 -- The same at a list's front, as a range without a start lends it.

