@@ -1,5 +1,5 @@
 -- The places passed so far hold their parts' entries.
-use Rattle.std.proofs.Common.{◌≡◌, ◌∙◌, sym, ap, ap₂, length, map, replicate, List, ℕ, arith}
+use Rattle.std.proofs.Common.{◌≡◌, ◌∙◌, sym, ap, ap₂, map, replicate, ℕ, arith}
 use lib.ListN.{length-replicate}
 use lib.Ieee.{Float}
 use Rattle.std.proofs.lemmas.List.{get_or-map}

@@ -1,9 +1,8 @@
 -- One value more.
-use Rattle.std.proofs.Common.{◌≡◌, ◌∙◌, refl, sym, ap, length, get_or, arith}
-use lib.Ieee.{Float}
+use Rattle.std.proofs.Common.{◌∙◌, refl, sym, ap, arith}
 use Rattle.std.proofs.lemmas.List.{get_or-map}
 use Rattle.model.specs.Part.{part_in, part_value, placed}
-use Rattle.model.specs.Model.{parts_in, values_to, part_at, part_of}
+use Rattle.model.specs.Model.{parts_in, values_to, part_at}
 use Rattle.model.specs.declared.Part.{Part}
 use Rattle.model.proofs.PartValues.{written_more}
 use Rattle.model.proofs.point.fill_values.Goals as goal

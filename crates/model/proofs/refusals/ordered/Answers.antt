@@ -1,9 +1,8 @@
 -- One part more, or one that is not in order.
 use Rattle.std.proofs.Common.{rules, refl, sym, ap, ◌∙◌, add-one, arith}
-use borrow.Author.Tests.{not-true, not-false}
 use Rattle.std.proofs.lemmas.List.{get_or-map}
 use Rattle.model.specs.Part.{part_in, inputs_below}
-use Rattle.model.specs.Model.{parts_in, ordered_to}
+use Rattle.model.specs.Model.{ordered_to}
 use Rattle.model.proofs.InOrder.{unordered}
 use Rattle.model.proofs.refusals.ordered.Goals as goal
 
