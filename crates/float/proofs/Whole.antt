@@ -232,6 +232,3 @@ ceil_by_test a b n w plus small count float test = rw (← test, float, count) (
 
 pub floor_minus : (x : Float) → negative x ≡ true → neg (ceil_of (abs_of x)) ≡ floor_of x
 floor_minus x minus = neg_ceil (abs_of x) ∙ ap floor_of (neg_abs x minus)
-
-pub ceil_minus : (x : Float) → negative x ≡ true → neg (floor_of (abs_of x)) ≡ ceil_of x
-ceil_minus x minus = neg_floor (abs_of x) ∙ ap ceil_of (neg_abs x minus)

@@ -8,12 +8,14 @@ use crate::to_bits;
 // The value as it is, and a NaN with the bits 7ff8000000000000 (rule F7). The proofs know one NaN,
 // without bits. The machine's operators make NaNs of other bits, so what a public call computes goes
 // through here before it is stored or returned.
+#[tactic(auto, using(crate::proofs::Nan::only_nan, crate::proofs::Nan::zero_by_zero))]
 pub fn computed(x: f64) -> f64
     ensures { result ≡ x }
 {
     if x != x { 0.0 / 0.0 } else { x }
 }
 
+#[tactic(auto, using(crate::proofs::Nan::ne_self))]
 pub fn is_nan(x: f64) -> bool
     ensures { result ≡ is_nan x }
 {
@@ -28,6 +30,7 @@ pub fn is_finite(x: f64) -> bool
 }
 
 // Whether the sign of x is a minus: -0 has one, and a NaN has no sign.
+#[tactic(auto, using(crate::proofs::Sign::negative_test))]
 pub fn is_negative(x: f64) -> bool
     ensures { result ≡ negative x }
 {

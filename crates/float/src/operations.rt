@@ -14,12 +14,16 @@ pub trait Operation {
         ensures { result ≡ of a b };
 }
 
+#[derive(Clone, Copy, Debug, PartialEq, Eq)]
 pub struct Min;
 
+#[derive(Clone, Copy, Debug, PartialEq, Eq)]
 pub struct Max;
 
+#[derive(Clone, Copy, Debug, PartialEq, Eq)]
 pub struct Add;
 
+#[derive(Clone, Copy, Debug, PartialEq, Eq)]
 pub struct Sub;
 
 impl Operation for Min {

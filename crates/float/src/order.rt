@@ -18,6 +18,7 @@ pub fn at_most(a: f64, b: f64) -> bool
 }
 
 // The smaller of the two, a number before a NaN. Of equal ones, as +0 and -0, it is a.
+#[tactic(auto, using(crate::proofs::Nan::ne_self), unfolding(crate::specs::Select::min_of))]
 pub fn min(a: f64, b: f64) -> f64
     ensures { result ≡ min_of a b }
 {
@@ -28,6 +29,7 @@ pub fn min(a: f64, b: f64) -> f64
 }
 
 // The larger of the two, a number before a NaN. Of equal ones it is a.
+#[tactic(auto, using(crate::proofs::Nan::ne_self), unfolding(crate::specs::Select::max_of))]
 pub fn max(a: f64, b: f64) -> f64
     ensures { result ≡ max_of a b }
 {

@@ -14,6 +14,7 @@ pub fn from_bits(b: u64) -> f64
 }
 
 // The bits of x, and 7ff8000000000000 for a NaN.
+#[tactic(auto, using(crate::proofs::Nan::only_nan, crate::proofs::Nan::no_nan, crate::proofs::Bits::nan_pattern))]
 pub fn to_bits(x: f64) -> u64
     ensures { result ≡ to_bits binary64 x }
 {
@@ -24,6 +25,7 @@ pub fn to_bits(x: f64) -> u64
 }
 
 // |x|: the sign's bit cleared. A NaN counts as computed.
+#[tactic(auto, using(crate::proofs::Sign::cleared_abs))]
 pub fn abs(x: f64) -> f64
     ensures { result ≡ abs_of x }
 {

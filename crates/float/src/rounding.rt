@@ -50,17 +50,10 @@ pub fn floor(x: f64) -> f64
     computed(x)
 }
 
-// The least whole number that is not below x, with x's sign: the ceiling of -0.5 is -0. The rest is
-// as for the floor.
+// The least whole number that is not below x, with x's sign: the floor's mirror, so the ceiling of -0.5
+// is -0. The rest is as for the floor.
 pub fn ceil(x: f64) -> f64
     ensures { result ≡ ceil_of x }
 {
-    let a = abs(x);
-    if a < 4503599627370496.0 {
-        if is_negative(x) {
-            return -floor_size(a);
-        }
-        return ceil_size(a);
-    }
-    computed(x)
+    computed(-floor(-x))
 }

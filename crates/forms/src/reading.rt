@@ -8,14 +8,14 @@ use crate::Piece;
 use crate::digits::{decimal_digit, digit_of};
 
 // A number at the front of a text, and the text after it.
-#[derive(Clone, Copy)]
+#[derive(Clone, Copy, Debug, PartialEq, Eq)]
 struct Front<'a> {
     value: u64,
     rest: &'a [u8],
 }
 
 // A line's numbers, with 0 after them, and the text after the line.
-#[derive(Clone, Copy)]
+#[derive(Clone, Copy, Debug, PartialEq, Eq)]
 pub struct Line<'a, const N: usize> {
     pub numbers: [u64; N],
     pub rest: &'a [u8],
@@ -33,10 +33,11 @@ fn read_hex(text: &[u8]) -> Option<Front<'_>>
     Some(Front { value, rest })
 }
 
-// The decimal digits at the front, after those that make `first`.
+// The decimal digits at the front, after those that make `first`. A product or a sum that does not fit
+// is above any limit. Kept: what follows the digits is part of the answer, and a `for` over the bytes
+// would have to count its way back to it.
 fn digits_after(text: &[u8], first: u64, limit: u64) -> Option<Front<'_>>
-    requires within { first ≤ limit }
-    requires small { limit < 2 ^ 60 }
+    requires { first ≤ limit }
     ensures { front_in result ≡ decimal_after limit first text.now }
 {
     let mut value = first;
@@ -45,7 +46,7 @@ fn digits_after(text: &[u8], first: u64, limit: u64) -> Option<Front<'_>>
         let Some(d) = decimal_digit(*b) else {
             break;
         };
-        let more = value * 10 + u64::from(d);
+        let more = value.checked_mul(10)?.checked_add(u64::from(d))?;
         if more > limit {
             return None;
         }
@@ -57,7 +58,6 @@ fn digits_after(text: &[u8], first: u64, limit: u64) -> Option<Front<'_>>
 
 // A decimal number without leading zeros, not above a limit.
 fn read_decimal(text: &[u8], limit: u64) -> Option<Front<'_>>
-    requires { limit < 2 ^ 60 }
     ensures { front_in result ≡ decimal_front limit text.now }
 {
     let (b, rest) = text.split_first()?;
@@ -87,7 +87,6 @@ fn read_byte(text: &[u8], b: u8) -> Option<Front<'_>>
 // A piece of a line.
 #[tactic(auto, unfolding(crate::specs::Forms::read_piece))]
 fn read_piece(text: &[u8], piece: Piece, limit: u64) -> Option<Front<'_>>
-    requires { limit < 2 ^ 60 }
     ensures { front_in result ≡ read_piece limit piece text.now }
 {
     match piece {
@@ -100,8 +99,7 @@ fn read_piece(text: &[u8], piece: Piece, limit: u64) -> Option<Front<'_>>
 // A line of a form with at most N numbers, none of its decimal ones above a limit. Kept: the place
 // of the next number is counted, as in fixed memory there is no list to push it to.
 pub fn read_form<'a, const N: usize>(text: &'a [u8], form: &[u8], limit: u64) -> Option<Line<'a, N>>
-    requires few { fields (map piece_of form.now) ≤ N }
-    requires small { limit < 2 ^ 60 }
+    requires { fields (map piece_of form.now) ≤ N }
     ensures line { let count = fields (map piece_of form.now) in
         line_in count result ≡ read_form limit (map piece_of form.now) text.now }
     ensures zeros { let count = fields (map piece_of form.now) in

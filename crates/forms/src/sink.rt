@@ -30,7 +30,7 @@ pub trait Sink {
 }
 
 // How many bytes were put.
-#[derive(Clone, Copy)]
+#[derive(Clone, Copy, Debug, PartialEq, Eq)]
 pub struct Count {
     pub bytes: usize,
 }

@@ -1,11 +1,11 @@
 -- A grid that cause 9 does not refuse: its dimensions are above 0, and the products that an index takes are small.
 use mathlib.Core.Path.{◌≡◌, refl}
-use mathlib.Core.Bool.{true, false, ◌||◌, or-true}
+use mathlib.Core.Bool.{false, ◌||◌}
 use Prim.Native.Nat.{ℕ, zero, suc, ◌+◌, ◌*◌, ◌^◌, ◌≤◌, ◌<◌}
-use native.Mathlib.Nat.{mul-pos, mul_comm, mul_assoc, le-mul_of_pos_right, mul-le-mul, mul-le-mul_right}
+use native.Mathlib.Nat.{mul-pos, mul_comm, mul_assoc, le-mul_of_pos_right, mul-le-mul_right}
 use native.Mathlib.Omega.{arith}
 use lib.Dec.{eqb}
-use borrow.Author.Tests.{lt-ltb, ltb-false, eqb-false}
+use borrow.Author.Tests.{ltb-false, eqb-false}
 use Rattle.lists.proofs.Tests.{or_left, or_right}
 use Rattle.geometry.specs.Index.{dimensions_refused}
 
@@ -31,10 +31,6 @@ accepted nx ny nz e =
       few = ltb-false 16777216 (nx * ny * nz) (or_right (eqb nx 0 || eqb ny 0 || eqb nz 0) _ e);
     }
 
-pub too_many : (nx ny nz : ℕ) → 16777216 < nx * ny * nz → dimensions_refused nx ny nz ≡ true
-unfolding dimensions_refused
-too_many nx ny nz h = rw (lt-ltb _ _ h) (or-true (eqb nx 0 || eqb ny 0 || eqb nz 0))
-
 -- a product is no smaller than its factors
 pub x_le : (nx ny nz : ℕ) → 0 < ny → 0 < nz → nx ≤ nx * ny * nz
 x_le nx ny nz hy hz = omega (arith, le-mul_of_pos_right nx hy, le-mul_of_pos_right (nx * ny) hz)
@@ -44,10 +40,6 @@ y_le nx ny nz hx hz = omega (arith, le-mul_of_pos_right ny hx, mul_comm ny nx, l
 
 pub z_le : (nx ny nz : ℕ) → 0 < nx → 0 < ny → nz ≤ nx * ny * nz
 z_le nx ny nz hx hy = omega (arith, le-mul_of_pos_right nz (mul-pos hx hy), mul_comm nz (nx * ny))
-
--- two factors that are small have a product that fits
-pub small_product : (a b : ℕ) → a ≤ 16777216 → b ≤ 16777216 → a * b < 2 ^ 64
-small_product a b ha hb = omega (arith, mul-le-mul ha hb)
 
 module _ {nx ny nz : ℕ} (g : Accepted nx ny nz) where
   pub area_le : nx * ny ≤ 16777216

@@ -1,9 +1,8 @@
 -- A row whose first points are set one after the other.
-use Rattle.std.proofs.Common.{◌≡◌, ℕ, ◌+◌, ◌<◌, Float, refl, sym, ap, ◌∙◌, arith}
+use Rattle.std.proofs.Common.{◌≡◌, ℕ, ◌+◌, ◌<◌, sym, ap, arith}
 use Rattle.geometry.specs.declared.Vec3.{Vec3}
 use Rattle.geometry.specs.declared.PointRow.{PointRow}
 use Rattle.geometry.specs.PointRow.{with_point, with_points}
-use Rattle.lists.specs.Filled.{filled}
 use Rattle.lists.proofs.Filling.{filled_none, front_store, filled_same}
 
 module _ (r : PointRow) where

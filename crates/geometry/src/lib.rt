@@ -32,7 +32,7 @@ pub struct Vec3i {
 }
 
 // The coordinates of up to 64 points.
-#[derive(Clone, Copy)]
+#[derive(Clone, Copy, Debug, PartialEq)]
 pub struct PointRow {
     pub xs: [f64; 64],
     pub ys: [f64; 64],

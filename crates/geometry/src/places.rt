@@ -16,6 +16,8 @@ impl Vec3i {
 }
 
 // The place of (i, j, k) in a flat list, i fastest.
+// Kept: the indices and the dimensions go one by one, here and below, as in the original's functions of these
+// names (math_helper.rs).
 #[tactic(auto, unfolding(crate::specs::Index::index1d_of, crate::specs::Index::place_of, causes::specs::First::first_of))]
 pub fn index1d_from_index3d(
     i: usize,
@@ -51,6 +53,7 @@ pub fn index3d_from_index1d(index: usize, nx: usize, ny: usize, nz: usize) -> Re
 }
 
 // The indices of number `index` in a grid of nx by ny, i fastest. Two divisions, and no product.
+#[tactic(auto, using(crate::proofs::Division::by_rows))]
 pub fn indices(index: usize, nx: usize, ny: usize) -> Vec3i
     requires { (0 < nx) × (0 < ny) }
     ensures { result ≡ indices_of index nx ny }

@@ -34,6 +34,7 @@ pub fn cell_refused(cell: f64) -> bool
 }
 
 // Whether a grid has a dimension of 0 or too many points. No product is taken before its factors are known to be small.
+// Kept: the dimensions go one by one, since the two calls on flat indices carry them so.
 #[tactic(auto, unfolding(crate::specs::Index::dimensions_refused))]
 pub fn dimensions_refused(nx: usize, ny: usize, nz: usize) -> bool
     ensures { result ≡ dimensions_refused nx ny nz }

@@ -3,15 +3,18 @@ use mathlib.Core.Path.{◌≡◌, refl, sym, ap, ◌∙◌}
 use Prim.Native.Nat.{ℕ, zero, suc, ◌+◌, ◌-◌, ◌≤◌, ◌<◌}
 use native.Mathlib.Numerals.{add-one}
 use native.Mathlib.Omega.{arith}
-use mathlib.Core.List.{List}
+use mathlib.Core.List.{List, map}
 use lib.ListN.{length, get_or, take, set, get_or-eq_default}
-use lib.Seq.{get_or-take, take-suc-set}
+use lib.Seq.{get_or-take, length-take-le, take-suc-set}
+use Rattle.std.proofs.lemmas.List.{take-map}
 use Rattle.float.specs.Zero.{plus_zero}
 use Rattle.lists.proofs.Lists.{get_d_any}
 use Rattle.lists.proofs.Tables.{length_more, get_or_last}
+use Rattle.model.specs.declared.ModelComponent.{ModelComponent}
 use Rattle.model.specs.declared.Part.{Part}
 use Rattle.model.specs.declared.Part.TheVariants.{Constant}
 use Rattle.model.specs.Model.{part_of}
+use Rattle.model.specs.Part.{part_in}
 use Rattle.job_text.specs.NanBits.{computed_nan, nan_of, nans_to, nan_pattern}
 
 module _ (parts : List Part) (patterns : List ℕ) where
@@ -54,3 +57,20 @@ module _ (parts : List Part) (patterns : List ℕ) where
       get_d_any nans (count - 1) 0 computed_nan (omega arith)
       ∙ sym (get_or-take count nans (count - 1) computed_nan (omega arith))
       ∙ ap (λ (l : List ℕ). get_or l (count - 1) computed_nan) so
+
+-- the parts from `count` on do not matter
+pub nans_front : (parts : List Part) (patterns : List ℕ) (count p : ℕ) → p ≤ count → nans_to (take count parts) patterns p ≡ nans_to parts patterns p
+unfolding nans_to
+nans_front parts patterns count zero h = refl
+nans_front parts patterns count (suc p) h =
+    let earlier = nans_front parts patterns count p (omega arith) in
+    let part : part_of (take count parts) p ≡ part_of parts p = get_or-take count parts p (Constant plus_zero) h in
+    rw (earlier, part) refl
+
+pub nan_front : (cs part : List ModelComponent) (patterns : List ℕ) (count : ℕ) → count ≤ length cs → part ≡ take count cs
+    → nan_pattern (map part_in part) patterns (length part) ≡ nan_pattern (map part_in cs) patterns count
+unfolding nan_pattern
+nan_front cs part patterns count h is =
+    let long : length part ≡ count = ap length is ∙ length-take-le count cs h in
+    let front : map part_in part ≡ take count (map part_in cs) = ap (map part_in) is ∙ sym (take-map part_in count cs) in
+    rw (long, front, nans_front (map part_in cs) patterns count count (omega arith)) refl

@@ -16,6 +16,7 @@ pub use reader::read_job;
 pub const LIMIT: u64 = 4294967295;
 
 // The input that a text spells, and the bits of each constant as they are written.
+// Kept: Clone and Copy alone, as what it holds has no equality (model::ImplicitModel).
 #[derive(Clone, Copy)]
 pub struct Job {
     pub input: Input,

@@ -30,37 +30,29 @@ fn nan_of(part: Part, pattern: u64, earlier: &[u64]) -> u64
     }
 }
 
-// The bits of the last of the first `count` parts.
-fn last_nan(parts: &[ModelComponent; 64], patterns: &[u64; 64], count: usize) -> u64
-    requires some { 0 < count }
-    requires most { count ≤ 64 }
-    ensures { result ≡ nan_pattern (map part_in parts.now) patterns.now count }
+// The bits of the last of some parts.
+fn last_nan(parts: &[ModelComponent], patterns: &[u64; 64]) -> u64
+    requires some { 0 < length parts.now }
+    requires most { length parts.now ≤ 64 }
+    ensures { result ≡ nan_pattern (map part_in parts.now) patterns.now (length parts.now) }
 {
     let mut nans = [0; 64];
-    for p in 0..count {
-        let component = parts[p];
+    for (p, component) in parts.iter().enumerate() {
         nans[p] = nan_of(component.part, patterns[p], &nans[..p]);
     }
-    nans[count - 1]
+    nans[parts.len() - 1]
 }
 
-// The same for any count. A part past the array is a constant without bits.
-fn nan_among(parts: &[ModelComponent; 64], patterns: &[u64; 64], count: usize) -> u64
-    ensures { result ≡ nan_pattern (map part_in parts.now) patterns.now count }
-{
-    if count == 0 {
-        return COMPUTED_NAN;
-    }
-    if count > 64 {
-        return 0;
-    }
-    last_nan(parts, patterns, count)
-}
-
-// The bits with which a job's NaN leaf values are printed.
+// The bits with which a job's NaN leaf values are printed. A part past the array is a constant without bits.
 pub fn nan_pattern(job: Job) -> u64
     ensures { result ≡ job_nan job }
 {
     let model = job.input.model;
-    nan_among(&model.parts, &job.patterns, model.count as usize)
+    let Some((parts, _)) = model.parts.split_at_checked(model.count as usize) else {
+        return 0;
+    };
+    if parts.is_empty() {
+        return COMPUTED_NAN;
+    }
+    last_nan(parts, &job.patterns)
 }

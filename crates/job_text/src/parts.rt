@@ -54,7 +54,7 @@ impl PartKind {
 }
 
 // A part line: its kind, its numbers with 0 after them, and the text after it.
-#[derive(Clone, Copy)]
+#[derive(Clone, Copy, Debug, PartialEq, Eq)]
 pub struct PartLine<'a> {
     pub kind: PartKind,
     pub numbers: [u64; 4],

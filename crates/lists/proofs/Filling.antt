@@ -7,7 +7,7 @@ use native.Mathlib.Nat.{zero-add, add-zero}
 use native.Mathlib.Numerals.{add-one}
 use native.Mathlib.Omega.{arith}
 use lib.Dec.{eqb, ltb}
-use lib.ListN.{length, get_or, set, take, length-set, replicate, length-replicate, get_or-replicate}
+use lib.ListN.{length, get_or, set, take, length-set}
 use lib.Seq.{ext_get_or, get_or-set_same, get_or-set_other, set_comm, take-suc-set}
 use borrow.Author.Tests.{eqb-true, eqb-false, ltb-true, ltb-false}
 use Rattle.lists.specs.Tabulate.{tabulate}
@@ -155,14 +155,6 @@ module _ {A : Type 0} where
       (λ i h.
       let below : i < n = omega (arith, filled_length 0 n g l) in
       get_or_filled 0 n g l i d (omega arith) (omega arith) (omega arith) ∙ sym (get_d_tabulate n g i d below))
-
-  pub filled_constant : (n : ℕ) (v : A) (l : List A) → length l ≡ n → filled 0 n (λ q. v) l ≡ replicate n v
-  filled_constant n v l long =
-      ext_get_or v (filled 0 n (λ q. v) l) (replicate n v)
-      (filled_length 0 n (λ q. v) l ∙ long ∙ sym (length-replicate n v))
-      (λ i h.
-      let below : i < n = omega (arith, filled_length 0 n (λ q. v) l) in
-      get_or_filled 0 n (λ q. v) l i v (omega arith) (omega arith) (omega arith) ∙ sym (get_or-replicate n i v v below))
 
   -- all of a list by its own elements of another list of its length
   pub filled_copy : (s l : List A) (d : A) → length l ≡ length s → filled 0 (length s) (λ q. get_or s q d) l ≡ s

@@ -1,12 +1,12 @@
 -- A part of a list that is lent as a list of its own, and comes back with other elements: the list is filled there.
-use Rattle.std.proofs.Common.{◌≡◌, ℕ, ◌+◌, ◌-◌, ◌≤◌, ◌<◌, Bool, true, false, nat_lt, List, ◌++◌, length, replicate, map, take, drop, get_or, refl, sym, ap, ◌∙◌, arith, length-append, length-drop}
+use Rattle.std.proofs.Common.{◌≡◌, ℕ, ◌+◌, ◌-◌, ◌≤◌, ◌<◌, Bool, true, false, List, ◌++◌, length, replicate, map, take, drop, get_or, refl, ap, ◌∙◌, arith, length-append, length-drop}
 use lib.ListN.{length-map, length-replicate, get_or-append, get_or-replicate}
 use lib.Seq.{length-take-le, get_or-take, get_or-drop, get_or-append-add}
 use lib.Dec.{ltb}
 use borrow.Author.Tests.{ltb-true, ltb-false}
 use borrow.Rule.Slice.PartMut.{put_mid}
 use Rattle.lists.specs.Filled.{filled}
-use Rattle.lists.proofs.Lists.{get_or_map_in}
+use Rattle.std.proofs.lemmas.List.{get_or-map}
 use Rattle.lists.proofs.Filling.{filled_is}
 
 module _ {A : Type 0} (at count : ℕ) (g : ℕ → A) (l part : List A) (d : A) (within : at + count ≤ length l) (size : length part ≡ count)
@@ -91,24 +91,19 @@ module _ {A : Type 0} (at count : ℕ) (l : List A) (d : A) (within : at + count
       let long : length row ≡ count = length-take-le (end - at) (drop at l) (omega (arith, length-drop at l)) ∙ omega arith in
       lent_copy (λ q. f (get_or l q d)) end (map f row) e is (length-map row f ∙ long)
       (λ k h.
-      get_or_map_in f row k d d (omega arith)
+      get_or-map f row k d d (omega arith)
       ∙ ap f (get_or-take (end - at) (drop at l) k d (omega arith) ∙ get_or-drop at l k d))
 
 -- The same at a list's front, as a range without a start lends it.
 module _ {A : Type 0} (count : ℕ) (l : List A) (d : A) (within : count ≤ length l) where
-  none_before : (part : List A) → part ++ drop count l ≡ put_mid 0 count l part
-  none_before part = refl
-
   pub front_set : (v : A) {part : List A} → part ≡ replicate (length (take count l)) v → part ++ drop count l ≡ filled 0 count (λ q. v) l
   front_set v {part} is =
       let all : part ≡ replicate count v = is ∙ ap (λ (n : ℕ). replicate n v) (length-take-le count l within) in
-      none_before part
-      ∙ lent_part 0 count (λ q. v) l part d (omega arith) (ap length all ∙ length-replicate count v)
+      lent_part 0 count (λ q. v) l part d (omega arith) (ap length all ∙ length-replicate count v)
       (λ k h. ap (λ (t : List A). get_or t k d) all ∙ get_or-replicate count k v d h)
 
   pub front_copy : (g : ℕ → A) (other : List A) {part : List A} → part ≡ other → length other ≡ count
       → ((k : ℕ) → k < count → get_or other k d ≡ g k) → part ++ drop count l ≡ filled 0 count g l
   front_copy g other {part} is size same =
-      none_before part
-      ∙ lent_part 0 count g l part d (omega arith) (ap length is ∙ size)
+      lent_part 0 count g l part d (omega arith) (ap length is ∙ size)
       (λ k h. let here : k ≡ 0 + k = omega arith in ap (λ (t : List A). get_or t k d) is ∙ same k h ∙ ap g here)

@@ -37,6 +37,3 @@ and_else b failed same = same ∙ failed ∙ rw failed refl
 -- tests in a row that do not hold, and one more
 pub or_fifth : (a b c d e : Bool) → a ≡ false → b ≡ false → c ≡ false → d ≡ false → e ≡ (a || b || c || d || e)
 or_fifth a b c d e ha hb hc hd = rw (ha, hb, hc, hd) refl
-
-pub or_sixth : (a b c d e f : Bool) → a ≡ false → b ≡ false → c ≡ false → d ≡ false → e ≡ false → f ≡ (a || b || c || d || e || f)
-or_sixth a b c d e f ha hb hc hd he = rw (ha, hb, hc, hd, he) refl

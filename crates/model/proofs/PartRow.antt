@@ -1,6 +1,5 @@
 -- The row of a part at place p: lane k holds the part's value at point k, from lane k of the rows before it.
-use Rattle.std.proofs.Common.{◌≡◌, ℕ, ◌<◌, Bool, true, false, ◌&&◌, List, get_or, Float, refl, sym, ap, ◌∙◌, arith}
-use lib.Ieee.{binary64, add, sub, neg}
+use Rattle.std.proofs.Common.{◌≡◌, ℕ, true, false, ◌&&◌, List, get_or, Float, sym, ap, ◌∙◌}
 use lib.Dec.{ltb}
 use borrow.Author.Tests.{ltb-true}
 use Rattle.lists.proofs.Tables.{get_d_tabulate}
@@ -11,7 +10,6 @@ use Rattle.geometry.specs.PointRow.{point_in}
 use Rattle.model.specs.Part.{past, part_value, inputs_below, placed}
 use Rattle.model.specs.Inner.Lanes.{lane_at, filled_row, lane}
 use Rattle.model.specs.declared.Part.{Part}
-use Rattle.model.specs.declared.Part.TheVariants.{Constant, Sphere, Plane, Min, Max, Add, Sub, Neg}
 use Rattle.model.proofs.Placed.{placed_same, placed_zero}
 use Rattle.model.proofs.Rows.{filled_cong}
 

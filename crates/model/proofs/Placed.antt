@@ -1,5 +1,5 @@
 -- What counts as a part at a place: its inputs stand below it, and a part whose inputs do is itself.
-use Rattle.std.proofs.Common.{◌≡◌, ℕ, ◌<◌, Bool, true, false, cond, List, refl, arith, ◌∙◌}
+use Rattle.std.proofs.Common.{◌≡◌, ℕ, Bool, true, false, cond, List, refl, ◌∙◌}
 use Rattle.std.proofs.Common.{Float}
 use Rattle.lists.proofs.Tables.{get_d_tabulate}
 use Rattle.float.specs.Zero.{plus_zero}

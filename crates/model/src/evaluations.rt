@@ -43,7 +43,7 @@ pub fn evaluate_at_coord(model: &ImplicitModel, x: f64, y: f64, z: f64) -> Resul
 }
 
 // The values of the parts of a model of any contents at n points, 64 at most of each: part p's value at point i is
-// left at p * 64 + i.
+// left at p * 64 + i. Kept: any n goes, here and below, and a slice of n results would ask for n ≤ 64.
 pub fn evaluate_row(model: &ImplicitModel, points: &PointRow, n: usize, values: &mut [f64; 4096])
     ensures { values.new
         ≡ evaluated_rows (parts_in model.now) (min model.now.count 64) (min n 64) points.now values.old }

@@ -1,5 +1,8 @@
 // A part's values at a row of points, one loop for each kind of part, each loop over lanes that do not depend on each
 // other. Part p's value at lane i stands at p * 64 + i, and an operation reads the rows of earlier parts.
+// Kept: each loop takes all values with a row's number p and its length n. An operation writes one row and reads
+// others of the same array, so lent rows would be cut out of it by three ranges at each call, and the facts p < 64
+// and n ≤ 64 would be asked where the ranges are taken.
 ghost use Rattle.std.specs.Prelude.{◌≡◌, ◌+◌, ◌*◌, ◌≤◌, ◌<◌, length, get_or};
 ghost use Rattle.std.specs.Float.{binary64};
 ghost use Rattle.std.specs.Float.Ieee.{sub, neg};

@@ -1,4 +1,6 @@
 // The values of parts at a row of points, part by part.
+// Kept: the values go whole, with a row's number and length, for the reason in lanes.rt; and a model goes with the
+// count of its parts that are filled, since a model of any contents may say more than 64.
 ghost use Rattle.std.specs.Prelude.{◌≡◌, ◌≤◌, ◌<◌, length, get_or};
 ghost use Rattle.lists.specs.Filled.{filled};
 ghost use Rattle.geometry.specs.PointRow.{point_in};

@@ -1,10 +1,9 @@
 -- Squares and differences but for a multiple of 2 ^ 61.
-use mathlib.Core.Path.{◌≡◌, sym, ap, ap₂, ◌∙◌}
+use mathlib.Core.Path.{◌≡◌, sym, ap, ap₂, ◌∙◌, subst}
 use Prim.Native.Nat.{ℕ, zero, suc, ◌+◌, ◌-◌, ◌*◌, ◌/◌, ◌%◌, ◌^◌, ◌≤◌, ◌<◌}
 use native.Mathlib.Nat.{mul_comm, mul-le-mul, mod-lt, mod-add-mod}
 use native.Mathlib.Omega.{arith}
 use lib.Dec.{lit<}
-use lib.Pow.{pow_pos, mod-pow-add}
 use Rattle.root.specs.Inner.Reduced.{top, scaled}
 use Rattle.root.specs.Inner.Trials.{Near}
 use Rattle.root.specs.Nearest.{nearest_root}
@@ -53,24 +52,11 @@ low_top p =
     go (suc zero) h = omega arith
     go (suc (suc r)) h = absurd (let n : suc (suc r) < 2 = h in omega arith)
 
-pub scaled_digits : (p : ℕ) → Digits (nearest_root (scaled p))
-scaled_digits p =
+-- the number nearest to an operand's root has 53 digits
+pub scaled_digits : (p q : ℕ) → q ≡ nearest_root (scaled p) → Digits q
+scaled_digits p q e =
     let t = low_top p in
-    root_digits (top p) t.least t.most
-
-last_digit : (x t : ℕ) → x < 2 → t < 2 ^ 52 → (x * 2 ^ 52 + t + 1022 * 2 ^ 52) / 2 ^ 52 % 2 ≡ x
-last_digit x t h l =
-    let g : (x * 2 ^ 52 + t + 1022 * 2 ^ 52) / 2 ^ 52 ≡ x + 1022 = omega arith in
-    ap (λ (y : ℕ). y % 2) g ∙ (let e : (x + 1022) % 2 ≡ x = omega arith in e)
-
--- reducing an operand leaves its digits and the last digit of its exponent
-pub same_top : (b : ℕ) → top (b % 2 ^ 53 + 1022 * 2 ^ 52) ≡ top b
-same_top b =
-    let d : (b % 2 ^ 53 + 1022 * 2 ^ 52) % 2 ^ 52 ≡ b % 2 ^ 52 = omega arith in
-    let e : (b % 2 ^ 53 + 1022 * 2 ^ 52) / 2 ^ 52 % 2 ≡ b / 2 ^ 52 % 2 =
-    ap (λ (x : ℕ). (x + 1022 * 2 ^ 52) / 2 ^ 52 % 2) (mod-pow-add b 1 52)
-    ∙ last_digit (b / 2 ^ 52 % 2) (b % 2 ^ 52) (mod-lt (b / 2 ^ 52) (lit< tt)) (mod-lt b (pow_pos 52)) in
-    ap₂ (λ x y. (x + 2 ^ 52) * (2 - y)) d e
+    subst Digits (sym e) (root_digits (top p) t.least t.most)
 
 like : (c a b : ℕ) → a % 2 ^ 61 ≡ b % 2 ^ 61 → (c + a) % 2 ^ 61 ≡ (c + b) % 2 ^ 61
 like c a b e = omega arith

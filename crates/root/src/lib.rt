@@ -30,10 +30,8 @@ pub fn sqrt(x: f64) -> f64
 pub fn sqrt_row(xs: &mut [f64])
     ensures { xs.new ≡ map square_root xs.old }
 {
-    let mut at = 0;
-    while at < xs.len() {
-        let end = row::end_from(at, xs.len());
+    for at in (0..xs.len()).step_by(64) {
+        let end = xs.len().min(at + 64);
         row::roots(&mut xs[at..end]);
-        at = end;
     }
 }

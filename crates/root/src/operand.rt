@@ -5,6 +5,13 @@ ghost use Rattle.std.specs.Float.Ieee.{of_bits};
 ghost use Rattle.std.specs.Float.{binary64};
 ghost use Rattle.root.specs.Inner.Reduced.{Reduced, top};
 
+// A number in [1/2, 2), by its bit pattern.
+#[derive(Clone, Copy, Debug, PartialEq, Eq)]
+pub struct Operand {
+    pub pattern: u64,
+    ghost reduced: { Reduced pattern },
+}
+
 // The bits of x; those of 0 for a NaN.
 pub fn pattern_of(x: f64) -> u64
     ensures { 2 ^ 52 ≤ result → x ≡ of_bits binary64 result }
@@ -13,12 +20,14 @@ pub fn pattern_of(x: f64) -> u64
     f64::to_bits(v)
 }
 
-// The bit pattern of a: the digits of the pattern and the last digit of its exponent.
-pub fn reduced(pattern: u64) -> u64
-    ensures range { Reduced result }
-    ensures digits { top result ≡ top pattern }
+// The operand of a normal number above 0: the digits of the number's pattern and the last digit of its
+// exponent.
+pub fn reduced(pattern: u64) -> Operand
+    ensures { top result.pattern ≡ top pattern }
 {
-    pattern % 0x20_0000_0000_0000 + 0x3fe0_0000_0000_0000
+    Operand {
+        pattern: pattern % 0x20_0000_0000_0000 + 0x3fe0_0000_0000_0000,
+    }
 }
 
 // 1 where the pattern is not that of a normal number above 0, and else 0: of an exponent and sign from

@@ -6,22 +6,12 @@ ghost use Rattle.root.specs.Root.{square_root};
 
 use crate::{bits, operand, seed, trial};
 
-// Where a row that begins at `at` ends: after 64 elements, or where there are no more.
-pub fn end_from(at: usize, len: usize) -> usize
-    requires { at < len }
-    ensures { (at < result) × (result ≤ len) × (result ≤ at + 64) }
-{
-    if len - at < 64 { len } else { at + 64 }
-}
-
 // The bits of an estimate for each element.
 fn estimate_all(xs: &[f64], work: &mut [u64])
     requires { length xs.now ≤ length work.old }
 {
-    let mut i = 0;
-    while i < xs.len() {
-        work[i] = seed::estimate(operand::reduced(operand::pattern_of(xs[i])));
-        i += 1;
+    for (i, x) in xs.iter().enumerate() {
+        work[i] = seed::estimate(operand::reduced(operand::pattern_of(*x)));
     }
 }
 
@@ -30,10 +20,8 @@ fn try_all(xs: &[f64], work: &mut [u64])
     requires { length xs.now ≤ length work.old }
     ensures { AllTried (length xs.now) xs.now work.new }
 {
-    let mut i = 0;
-    while i < xs.len() {
-        work[i] = trial::try_root(xs[i], work[i]);
-        i += 1;
+    for (i, x) in xs.iter().enumerate() {
+        work[i] = trial::try_root(*x, work[i]);
     }
 }
 
@@ -53,10 +41,8 @@ fn settle_all(xs: &mut [f64], work: &[u64])
     requires { (length xs.old ≤ length work.now) × AllTried (length xs.old) xs.old work.now }
     ensures { xs.new ≡ map square_root xs.old }
 {
-    let mut i = 0;
-    while i < xs.len() {
+    for i in 0..xs.len() {
         xs[i] = settled(xs[i], work[i]);
-        i += 1;
     }
 }
 

@@ -6,44 +6,54 @@
 // the operand, n - q² is small; a small difference is known from its last 61 binary digits, and those
 // take two small products. The difference then tells which of q - 1, q and q + 1 is nearest.
 ghost use Rattle.std.specs.Prelude.{◌≡◌, ◌+◌, ◌*◌, ◌%◌, ◌^◌, ◌≤◌, ◌<◌};
-ghost use Rattle.root.specs.Inner.Reduced.{Reduced, scaled};
+ghost use Rattle.root.specs.Inner.Reduced.{scaled};
 ghost use Rattle.root.specs.Inner.Trials.{Near, TriedDigits, Tried};
 
-use crate::operand;
+use crate::operand::{self, Operand};
 
 // The digits that a trial takes for a root's, and how many objections it has to them.
-#[derive(Clone, Copy)]
+#[derive(Clone, Copy, Debug, PartialEq, Eq)]
 pub struct Trial {
     pub digits: u64,
     pub objections: u64,
 }
 
+// A number of 53 digits that is tried for a root's.
+#[derive(Clone, Copy, Debug, PartialEq, Eq)]
+struct Guess {
+    digits: u64,
+    ghost least: { 2 ^ 52 ≤ digits },
+    ghost most: { digits < 2 ^ 53 },
+}
+
 // q² but for a multiple of 2 ^ 61, by two products: q is split into 22 and 31 digits. (The remainder
 // tells the compiler that the upper ones are 22.)
-fn low_square(q: u64) -> u64
-    requires { q < 2 ^ 53 }
-    ensures { (result < 2 ^ 63) × (result % 2 ^ 61 ≡ q * q % 2 ^ 61) }
+fn low_square(guess: Guess) -> u64
+    ensures { (result < 2 ^ 63) × (result % 2 ^ 61 ≡ guess.digits * guess.digits % 2 ^ 61) }
 {
+    let q = guess.digits;
     let h = q / 0x8000_0000 % 0x40_0000;
     let l = q % 0x8000_0000;
     h * l % 0x4000_0000 * 0x1_0000_0000 + l * l
 }
 
 // n - q² + 3 * 2 ^ 52 but for a multiple of 2 ^ 61, with n the scaled operand.
-fn low_difference(pattern: u64, q: u64) -> u64
-    requires { q < 2 ^ 53 }
-    ensures { (result < 2 ^ 61) × ((result + q * q) % 2 ^ 61 ≡ (scaled pattern + 3 * 2 ^ 52) % 2 ^ 61) }
+fn low_difference(operand: Operand, guess: Guess) -> u64
+    ensures { let q = guess.digits in
+        (result < 2 ^ 61) × ((result + q * q) % 2 ^ 61 ≡ (scaled operand.pattern + 3 * 2 ^ 52) % 2 ^ 61) }
 {
+    let pattern = operand.pattern;
     let low = pattern % 0x200 * (2 - pattern / 0x10_0000_0000_0000 % 2);
-    (low * 0x10_0000_0000_0000 + 0x8030_0000_0000_0000 - low_square(q)) % 0x2000_0000_0000_0000
+    (low * 0x10_0000_0000_0000 + 0x8030_0000_0000_0000 - low_square(guess)) % 0x2000_0000_0000_0000
 }
 
 // How many of two objections there are to q: the float square of q's float lies four floats or more
 // below a, or four or more above it.
-fn apart(pattern: u64, q: u64) -> u64
-    requires { Reduced pattern × (2 ^ 52 ≤ q) × (q < 2 ^ 53) }
-    ensures { (result ≤ 2) × (result ≡ 0 → Near (scaled pattern) (q * q)) }
+fn apart(operand: Operand, guess: Guess) -> u64
+    ensures { let q = guess.digits in (result ≤ 2) × (result ≡ 0 → Near (scaled operand.pattern) (q * q)) }
 {
+    let pattern = operand.pattern;
+    let q = guess.digits;
     let first = pattern - pattern % 0x10_0000_0000_0000;
     let r = f64::from_bits(first + (q - 0x10_0000_0000_0000));
     let low = f64::from_bits(pattern - 4);
@@ -57,18 +67,18 @@ fn apart(pattern: u64, q: u64) -> u64
 // The root's 53 digits for a reduced operand, from the bits of an estimate: those of the estimate, or
 // of a neighbour. `up` is 1 where n is above q² + q, and `down` where it is not above q² - q; both are
 // carries into digit 62. A difference of 3 * 2 ^ 52 or more is an objection.
-pub fn try_digits(pattern: u64, estimate: u64) -> Trial
-    requires { Reduced pattern }
-    ensures { TriedDigits pattern result.digits result.objections }
+pub fn try_digits(operand: Operand, estimate: u64) -> Trial
+    ensures { TriedDigits operand.pattern result.digits result.objections }
 {
     let q = estimate % 0x10_0000_0000_0000 + 0x10_0000_0000_0000;
-    let d = low_difference(pattern, q);
+    let guess = Guess { digits: q };
+    let d = low_difference(operand, guess);
     let up = (d + 0x3fcf_ffff_ffff_ffff - q) / 0x4000_0000_0000_0000;
     let down = (0x4030_0000_0000_0000 - q - d) / 0x4000_0000_0000_0000;
     let far = (d + 0x20_0000_0000_0000) / 0x80_0000_0000_0000;
     Trial {
         digits: q + up - down,
-        objections: far + apart(pattern, q),
+        objections: far + apart(operand, guess),
     }
 }
 

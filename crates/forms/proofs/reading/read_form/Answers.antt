@@ -15,13 +15,13 @@ returns-in_err-front-clause-line g c =
 
 pub bounds-numbers-count : goal.bounds-numbers-count
 bounds-numbers-count g c =
-    kept_room c.loop-b-test.true _ c.from-piece.ensures c.loop-b.invariant c.requires.few (sym c.if-is_field.ensures)
+    kept_room c.loop-b-test.true _ c.from-piece.ensures c.loop-b.invariant c.requires (sym c.if-is_field.ensures)
 
 pub loop-b-preserved : goal.loop-b-preserved
 loop-b-preserved g c = elim c.if-is_field.branch [
   | then-is_field w ↦
       rw (w.numbers-is, w.count-is)
-      (kept_number c.loop-b-test.true _ c.from-piece.ensures c.loop-b.invariant _ _ (sym c.in_ok-front.ensures) c.requires.few
+      (kept_number c.loop-b-test.true _ c.from-piece.ensures c.loop-b.invariant _ _ (sym c.in_ok-front.ensures) c.requires
       (sym c.is_field.ensures ∙ w.if-is_field.true))
   | else-is_field w ↦
       rw (w.numbers-is, w.count-is)

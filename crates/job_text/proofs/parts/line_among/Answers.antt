@@ -5,7 +5,7 @@ use Rattle.job_text.proofs.PartTurns.{among_off, among_found, among_none}
 use Rattle.job_text.proofs.parts.line_among.Goals as goal
 
 pub read_form-requires : goal.read_form-requires
-read_form-requires c = (omega arith, (rw c.form.ensures (part_fields _), omega arith))
+read_form-requires c = (omega arith, rw c.form.ensures (part_fields _))
 
 pub returns-in-Some : goal.returns-in-Some
 returns-in-Some c =

@@ -1,8 +1,8 @@
 -- The places passed so far hold their parts' entries.
-use Rattle.std.proofs.Common.{◌≡◌, ◌∙◌, sym, ap, ap₂, length, map, replicate, List, ℕ, arith}
+use Rattle.std.proofs.Common.{◌≡◌, ◌∙◌, sym, ap, ap₂, map, replicate, ℕ, arith}
 use lib.ListN.{length-replicate}
 use lib.Ieee.{Float}
-use Rattle.lists.proofs.Lists.{get_or_map_in}
+use Rattle.std.proofs.lemmas.List.{get_or-map}
 use Rattle.float.specs.Zero.{plus_zero}
 use Rattle.model.specs.Part.{part_in}
 use Rattle.model.specs.Flat.{flat_of, word_entries, number_entries}
@@ -16,7 +16,7 @@ pub loop-p-preserved : goal.loop-p-preserved
 loop-p-preserved c =
     let parts = c.args.model.now.parts in
     let p = c.loop-p.p in
-    let same = sym (get_or_map_in part_in parts p _ _ (omega arith)) in (
+    let same = sym (get_or-map part_in parts p _ _ (omega arith)) in (
       words_more (map part_in parts) p same (omega arith) (replicate 192 0) c.loop-p.invariant.0 c.store_part.ensures.words,
       numbers_more (map part_in parts) p same (omega arith) (replicate 256 plus_zero) c.loop-p.invariant.1 c.store_part.ensures.numbers,
     )

@@ -1,6 +1,5 @@
 -- The row's lanes are copied to the front.
-use Rattle.std.proofs.Common.{◌+◌, ◌*◌, ◌-◌, ◌≡◌, ◌∙◌, ap, take, drop, length, arith, length-drop}
-use lib.ListN.{get_or}
+use Rattle.std.proofs.Common.{◌+◌, ◌*◌, ◌-◌, ◌≡◌, ◌∙◌, take, drop, length, arith, length-drop}
 use lib.Seq.{length-take-le, get_or-take, get_or-drop}
 use Rattle.lists.proofs.LentPart.{front_copy}
 use Rattle.model.specs.Part.{past}

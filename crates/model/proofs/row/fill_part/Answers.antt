@@ -1,10 +1,9 @@
 -- Each arm fills the row of its own sort of part.
-use Rattle.std.proofs.Common.{◌≡◌, ◌∙◌, sym, refl, ap, true, get_or, ◌&&◌}
+use Rattle.std.proofs.Common.{◌≡◌, ◌∙◌, sym, refl, ap, true, ◌&&◌}
 use lib.Dec.{ltb}
 use lib.Ieee.{binary64, add, sub, neg}
 use Rattle.float.specs.Select.{min_of, max_of}
-use Rattle.geometry.specs.PointRow.{point_in}
-use Rattle.model.specs.Part.{sphere_value, plane_value, part_value, inputs_below}
+use Rattle.model.specs.Part.{part_value, inputs_below}
 use Rattle.model.specs.declared.Part.TheVariants.{Constant, Sphere, Plane, Min, Max, Add, Sub, Neg}
 use Rattle.model.proofs.PartRow.{row_late, row_is, row_two, input}
 use Rattle.model.proofs.row.fill_part.Goals as goal

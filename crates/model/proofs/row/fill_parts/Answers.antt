@@ -1,6 +1,6 @@
 -- One row more, and at the end all rows.
 use Rattle.std.proofs.Common.{◌≡◌, ◌∙◌, refl, sym, ap, arith}
-use Rattle.lists.proofs.Lists.{get_or_map_in}
+use Rattle.std.proofs.lemmas.List.{get_or-map}
 use Rattle.geometry.specs.PointRow.{point_in}
 use Rattle.model.specs.Part.{part_in, part_value, placed}
 use Rattle.model.specs.Model.{parts_in, part_at}
@@ -17,7 +17,7 @@ unfolding part_at
 loop-p-preserved c =
     let a = c.args in
     let p = c.loop-p.p in
-    let part = sym (get_or_map_in part_in a.model.now.parts p _ _ (omega arith)) in
+    let part = sym (get_or-map part_in a.model.now.parts p _ _ (omega arith)) in
     rows_more (parts_in a.model.now) a.n a.points.now a.values.now p c.loop-p.invariant
     (c.fill_part.ensures
     ∙ ap (λ q. filled_row c.loop-p.values p a.n (λ k. let at = point_in a.points.now k in part_value (placed p q) at.x at.y at.z (lane c.loop-p.values k p))) part)

@@ -4,6 +4,3 @@ use Rattle.root.proofs.row.settled.Goals as goal
 
 pub float_from_bits-result : goal.float_from_bits-result
 float_from_bits-result c = number_bits _ (c.requires.number c.if-tried-lt9223372036854775808.true)
-
-pub returns-then-tried-lt9223372036854775808 : goal.returns-then-tried-lt9223372036854775808
-returns-then-tried-lt9223372036854775808 c = c.requires.root c.if-tried-lt9223372036854775808.true

@@ -14,18 +14,12 @@ float_from_bits-low c = number_bits _ (omega arith)
 pub float_from_bits-high : goal.float_from_bits-high
 float_from_bits-high c = number_bits _ (omega arith)
 
-pub overflow_add-result : goal.overflow_add-result
-overflow_add-result c = elim c.if-low-square.branch [
-  | then-low-square v ↦ elim c.if-square-high.branch [ then-square-high w ↦ omega (arith, v.below-is, w.above-is) | else-square-high w ↦ omega (arith, v.below-is, w.above-is) ]
-  | else-low-square v ↦ elim c.if-square-high.branch [ then-square-high w ↦ omega (arith, v.below-is, w.above-is) | else-square-high w ↦ omega (arith, v.below-is, w.above-is) ]
-]
-
 pub returns : goal.returns
 returns c =
-    let p = c.requires in
+    let g = c.args.guess in
     elim c.if-low-square.branch [
       | then-low-square v ↦ elim c.if-square-high.branch [
-        | then-square-high w ↦ (omega (arith, v.below-is, w.above-is), λ z. square_near _ p.0 _ p.1 p.2 v.if-low-square.true w.if-square-high.true)
+        | then-square-high w ↦ (omega (arith, v.below-is, w.above-is), λ z. square_near _ c.args.operand.reduced _ g.least g.most v.if-low-square.true w.if-square-high.true)
         | else-square-high w ↦ (omega (arith, v.below-is, w.above-is), λ z. absurd (omega (arith, v.below-is, w.above-is)))
       ]
       | else-low-square v ↦ elim c.if-square-high.branch [

@@ -18,5 +18,5 @@ returns c =
       least = normal.0;
       most = normal.1;
       half = omega arith;
-      digits = t.try_digits-t.ensures.nearest (omega arith) ∙ ap (λ (k : ℕ). nearest_root (k * 2 ^ 52)) r.reduced.ensures.digits;
+      digits = t.try_digits-t.ensures.nearest (omega arith) ∙ ap (λ (k : ℕ). nearest_root (k * 2 ^ 52)) r.reduced.ensures;
     })

@@ -1,7 +1,0 @@
--- `reduced` meets its contract: the digits and the last digit of the exponent stay.
-use Rattle.root.proofs.LowDigits.{same_top}
-use borrow.Author.Rules.{rules}
-use Rattle.root.proofs.operand.reduced.Goals as goal
-
-pub returns : goal.returns
-returns c = record { range = search rules; digits = same_top _ }
