@@ -6,6 +6,7 @@ ghost use Rattle.field_host.specs.Answers.{outcome_number};
 
 use crate::given::input_given;
 use causes::Cause;
+use grid::SizedGrid;
 use input::{Input, Lengths};
 
 // The cause that an open of the input meets on the longest slices.
@@ -44,7 +45,8 @@ pub fn jisampode_lengths(
     if let Err(cause) = any_refusal(&input) {
         return cause.number();
     }
-    let l = input::needed_lengths(input.grid);
+    let grid = SizedGrid { grid: input.grid };
+    let l = input::needed_lengths(grid);
     *lengths = [l.kinds, l.numbers, l.places, l.store, l.corners];
     0
 }
