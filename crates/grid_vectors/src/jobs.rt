@@ -1,7 +1,7 @@
 // The causes by which open refuses a job, and what is known of an accepted one.
-ghost use Rattle.cases.specs.Answer.{Answers};
+ghost use Rattle.cases.specs.Answer.{Given};
 
-use cases::{Answer, Fault, Numbers};
+use cases::{Answer, Numbers};
 use input::{Band, Input, Lengths};
 use model::{ImplicitModel, ModelComponent, Part};
 
@@ -47,8 +47,8 @@ fn lengths_of(numbers: &mut Numbers) -> Lengths {
 
 // `open GRID MIN MAX COUNT PLACE KIND A B KINDS NUMBERS PLACES STORE CORNERS`: the cause by which open
 // refuses the job, or of an accepted one the nodes and the active children.
-pub fn open(mut numbers: Numbers, answer: &mut Answer) -> Result<(), Fault>
-    ensures { Answers result answer.old answer.new }
+pub fn open(mut numbers: Numbers) -> Answer
+    ensures { Given result }
 {
     let input = Input {
         grid: numbers.grid(),
@@ -59,12 +59,9 @@ pub fn open(mut numbers: Numbers, answer: &mut Answer) -> Result<(), Fault>
         model: model_of(&mut numbers),
     };
     match input::open_refusal(&input, lengths_of(&mut numbers)) {
-        Err(cause) => answer.refused(cause)?,
-        Ok(()) => {
-            answer.accepted()?;
-            answer.place(grid::node_total(input.grid))?;
-            answer.number(grid::active_children(input.grid))?;
-        }
+        Err(cause) => Answer::refused(cause),
+        Ok(()) => Answer::accepted()
+            .place(grid::node_total(input.grid))
+            .number(grid::active_children(input.grid)),
     }
-    Ok(())
 }

@@ -16,7 +16,7 @@ const LONGEST: usize = 88176;
 const HEAD: usize = 17;
 
 // The texts that are left, each with its length before it. The last may be cut short.
-#[derive(Clone, Copy)]
+#[derive(Clone, Copy, Debug, PartialEq, Eq)]
 struct Texts<'a>(&'a [u8]);
 
 impl<'a> Iterator for Texts<'a> {

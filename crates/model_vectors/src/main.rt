@@ -138,11 +138,11 @@ fn case_after(case: Case, said: Option<Line>) -> Case
     }
 }
 
-fn take_lines(rt: &(impl Print + AllocGlobal), text: &[u8]) -> io::Result<()> {
+fn take_lines(rt: &impl Print, text: &[u8]) -> io::Result<()> {
     let mut tally = Tally::new();
     let mut case = case::start(geometry::Vec3::new(0.0, 0.0, 0.0));
     for (place, line) in Lines::new(text).enumerate() {
-        let said = line::read(rt.alloc(), line)?;
+        let said = line::read(line);
         judge_line(rt, &case, said, place.wrapping_add(1), &mut tally)?;
         case = case_after(case, said);
     }

@@ -1,7 +1,7 @@
 // Elements of slices, made from numbers and given as such.
 
 // An element of one of the slices.
-pub trait Element: Copy {
+pub trait Element: Copy + Default {
     // The element that a number stands for.
     fn of(n: u64) -> Self;
 
