@@ -1,8 +1,8 @@
 // Records and inputs, from and to numbers. A record is its flag, its input, its lengths, its counts and
 // its cursor (a kind and three numbers). An input is GRID MIN MAX COUNT, 12 numbers, and five numbers
 // for each of 64 parts.
-ghost use Rattle.std.specs.Prelude.{◌≡◌, ◌+◌, ◌≤◌, length};
-ghost use Rattle.cases.specs.Answer.{Given};
+ghost use Rattle.std.specs.Prelude.{◌≡◌, ◌+◌, ◌≤◌, ◌++◌, length};
+ghost use Rattle.sparse_cases.specs.Calls.{call_numbers, count_numbers, cursor_numbers};
 
 use cases::{Answer, Numbers, Written};
 use causes::Cause;
@@ -89,7 +89,7 @@ pub fn record_of(mut numbers: Numbers) -> Record {
     }
 }
 
-// The numbers of an input, 332 of them, behind those that are written.
+// An input: its grid, its band, its count of parts, and its parts.
 fn put_input<const N: usize>(numbers: Written<N>, input: Input) -> Written<N>
     requires { length numbers.numbers.items + 332 ≤ N }
     ensures { length result.numbers.items ≡ length numbers.entry.numbers.items + 332 }
@@ -119,7 +119,7 @@ fn put_lengths<const N: usize>(numbers: Written<N>, lengths: Lengths) -> Written
 
 fn put_counts<const N: usize>(numbers: Written<N>, counts: Counts) -> Written<N>
     requires { length numbers.numbers.items + 5 ≤ N }
-    ensures { length result.numbers.items ≡ length numbers.entry.numbers.items + 5 }
+    ensures { result.numbers.items ≡ numbers.entry.numbers.items ++ count_numbers counts }
 {
     numbers
         .number(counts.grid.nodes)
@@ -132,7 +132,7 @@ fn put_counts<const N: usize>(numbers: Written<N>, counts: Counts) -> Written<N>
 // A cursor: 0 is the end, 1 a corner, 2 a point; and its place.
 fn put_cursor<const N: usize>(numbers: Written<N>, cursor: Cursor) -> Written<N>
     requires { length numbers.numbers.items + 4 ≤ N }
-    ensures { length result.numbers.items ≡ length numbers.entry.numbers.items + 4 }
+    ensures { result.numbers.items ≡ numbers.entry.numbers.items ++ cursor_numbers cursor }
 {
     let site = match cursor {
         Cursor::End => [0, 0, 0, 0],
@@ -153,12 +153,10 @@ pub fn record_numbers(record: Record) -> [u64; RECORD_NUMBERS] {
 
 // What a call answers: the refusal's number, the flag, the counts, whether the cursor is at the end, and
 // the cursor.
-pub fn call_answer<T: Copy>(done: Result<T, Cause>, next: &Record) -> Answer
-    ensures { Given result }
+pub fn call_answer<T: Copy>(done: Result<T, Cause>, opened: bool, job: &Job) -> Answer
+    ensures { result.numbers.items ≡ call_numbers done opened job.now.counts job.now.cursor }
 {
-    let job = &next.job;
-    let flagged = Answer::outcome(done).flag(next.opened);
-    let counted = put_counts(flagged, job.counts);
+    let counted = put_counts(Answer::outcome(done).flag(opened), job.counts);
     let ended = counted.flag(matches!(job.cursor, Cursor::End));
     put_cursor(ended, job.cursor)
 }

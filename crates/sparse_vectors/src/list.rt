@@ -122,7 +122,7 @@ impl List {
     fn keep(&mut self, outcome: Outcome) -> Answer {
         let next = outcome.next;
         self.record = sparse_cases::record_numbers(next);
-        sparse_cases::call_answer(outcome.answer, &next)
+        sparse_cases::call_answer(outcome.answer, next.opened, &next.job)
     }
 
     // Does what a word says.
