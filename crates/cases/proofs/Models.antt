@@ -1,11 +1,10 @@
 -- A model's 64 places: the parts that are read, and the constants after them.
-use Rattle.std.proofs.Common.{◌≡◌, ℕ, suc, ◌+◌, ◌-◌, ◌*◌, ◌<◌, min, List, ◌∷◌, [], ◌++◌, drop, take, length, slice_set, replicate, refl, ap, sym, ◌∙◌, arith}
+use Rattle.std.proofs.Common.{◌≡◌, ℕ, suc, ◌+◌, ◌*◌, ◌<◌, min, List, ◌++◌, drop, take, length, slice_set, replicate, ap, ◌∙◌, arith}
 use Rattle.std.proofs.lemmas.List.{drop-replicate, take_more_set}
 use lib.Seq.{drop-drop}
 use Rattle.float.specs.Zero.{plus_zero}
 use Rattle.model.specs.declared.Part.TheVariants.{Constant}
 use Rattle.model.specs.declared.ModelComponent.{ModelComponent}
-use Rattle.model.specs.declared.ImplicitModel.{ImplicitModel}
 use Rattle.cases.specs.Parts.{component, model_at, part_at, parts_at}
 
 pub one_more : (xs : List ℕ) (places : List ModelComponent) (i : ℕ)

@@ -1,5 +1,5 @@
 -- The numbers that an answer's values are written as.
-use Rattle.std.specs.Prelude.{ℕ, ◌+◌, ◌<◌, ◌≤◌, Bool, Result, Ok, Err, if◌then◌else◌, List, [], ◌∷◌, ◌++◌, Float, to_bits}
+use Rattle.std.specs.Prelude.{ℕ, ◌<◌, ◌≤◌, Bool, Result, Ok, Err, if◌then◌else◌, List, [], ◌∷◌, ◌++◌, Float, to_bits}
 use Rattle.std.specs.Float.{binary64}
 use Rattle.arrayvec.specs.ArrayVec.{array_vec_len}
 use Rattle.causes.specs.declared.Cause.{Cause}

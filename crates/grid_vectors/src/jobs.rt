@@ -2,7 +2,7 @@
 ghost use Rattle.cases.specs.Answer.{Given};
 
 use cases::{Answer, Numbers};
-use input::{Band, Input, Lengths};
+use input::{Band, Input};
 use model::{ImplicitModel, ModelComponent, Part};
 
 // The part of this kind, with these inputs; 5 and above are constants.
@@ -34,17 +34,6 @@ fn model_of(numbers: &mut Numbers) -> ImplicitModel {
     ImplicitModel { parts, count }
 }
 
-// The slices' lengths: KINDS NUMBERS PLACES STORE CORNERS.
-fn lengths_of(numbers: &mut Numbers) -> Lengths {
-    Lengths {
-        kinds: numbers.place(),
-        numbers: numbers.place(),
-        places: numbers.place(),
-        store: numbers.place(),
-        corners: numbers.place(),
-    }
-}
-
 // `open GRID MIN MAX COUNT PLACE KIND A B KINDS NUMBERS PLACES STORE CORNERS`: the cause by which open
 // refuses the job, or of an accepted one the nodes and the active children.
 pub fn open(mut numbers: Numbers) -> Answer
@@ -58,7 +47,7 @@ pub fn open(mut numbers: Numbers) -> Answer
         },
         model: model_of(&mut numbers),
     };
-    match input::open_refusal(&input, lengths_of(&mut numbers)) {
+    match input::open_refusal(&input, numbers.lengths()) {
         Err(cause) => Answer::refused(cause),
         Ok(()) => Answer::accepted()
             .place(grid::node_total(input.grid))

@@ -36,6 +36,7 @@ fn answer_to(text: &[u8]) -> Option<Answer>
     answer(word, Numbers::new(&line.numbers))
 }
 
+// Kept: a main of its own, since the two calls are all that it is.
 fn main(rt: HostRuntime) -> io::Result<()> {
     let mut text = Vec::new(rt.alloc());
     rt.stdin().read_to_end(&mut text)?;

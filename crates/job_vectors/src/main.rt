@@ -66,6 +66,7 @@ fn list_texts(rt: &impl Print, bytes: &[u8]) -> io::Result<()> {
     Ok(())
 }
 
+// Kept: a main of its own, since the two calls are all that it is.
 fn main(rt: HostRuntime) -> io::Result<()> {
     let mut bytes = Vec::new(rt.alloc());
     rt.stdin().read_to_end(&mut bytes)?;

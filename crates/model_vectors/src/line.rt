@@ -26,6 +26,7 @@ fn float(field: &[u8]) -> Option<f64> {
     Some(float::from_bits(number(field)?))
 }
 
+// Kept: the three fields as three parameters, since a pattern names them one by one.
 fn vector(x: &[u8], y: &[u8], z: &[u8]) -> Option<Vec3> {
     Some(Vec3::new(float(x)?, float(y)?, float(z)?))
 }

@@ -29,6 +29,8 @@ enum Comparison {
 const NAMES: [&str; 4] = ["points", "parts", "rows", "refused"];
 
 impl Comparison {
+    // Which count the comparison has.
+    // Kept: `usize::from` is no plainer at the one call, and a contract of it is a ghost member.
     fn number(self) -> usize
         ensures { result ≡ number_of self }
     {
@@ -149,6 +151,7 @@ fn take_lines(rt: &impl Print, text: &[u8]) -> io::Result<()> {
     tally.report(rt, &NAMES)
 }
 
+// Kept: a main of its own, since the two calls are all that it is.
 fn main(rt: HostRuntime) -> io::Result<()> {
     let mut text = Vec::new(rt.alloc());
     rt.stdin().read_to_end(&mut text)?;

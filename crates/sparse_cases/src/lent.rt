@@ -1,8 +1,8 @@
 // The five slices: poisoned, one element of them set, and all elements answered. They are numbered from 0
 // in the order of the calls.
-ghost use Rattle.std.specs.Prelude.{◌≡◌, ◌≤◌, [], length, min};
+ghost use Rattle.std.specs.Prelude.{◌≡◌, ◌≤◌, [], length, min, slice_set};
 ghost use Rattle.arrayvec.specs.ArrayVec.{array_vec_len};
-ghost use Rattle.sparse_cases.specs.Lent.{LentBy};
+ghost use Rattle.sparse_cases.specs.Lent.{LentBy, Poked};
 
 use crate::elements::Element;
 use crate::output::Output;
@@ -45,9 +45,11 @@ fn poisoned<T: Element, const N: usize>(count: usize, seed: u64) -> ArrayVec<T, 
 }
 
 // Sets an element, if there is one at the place.
-fn set<T: Element>(elements: &mut [T], place: usize, n: u64) {
-    if let Some(element) = elements.get_mut(place) {
-        *element = T::of(n);
+fn set<T: Element>(elements: &mut [T], place: usize, n: u64)
+    ensures { elements.new ≡ slice_set elements.old place (T.element n) }
+{
+    if place < elements.len() {
+        elements[place] = T::of(n);
     }
 }
 
@@ -104,7 +106,9 @@ impl Slices {
     }
 
     // `poke SLICE PLACE VALUE`: sets one element.
-    pub fn poke(&mut self, mut numbers: Numbers) {
+    pub fn poke(&mut self, mut numbers: Numbers)
+        ensures { Poked numbers.entry.left.now self.old self.new }
+    {
         let slice = numbers.number();
         let place = numbers.place();
         let n = numbers.number();

@@ -42,16 +42,6 @@ fn whole_input_of(numbers: &mut Numbers) -> Input {
     }
 }
 
-fn lengths_of(numbers: &mut Numbers) -> Lengths {
-    Lengths {
-        kinds: numbers.place(),
-        numbers: numbers.place(),
-        places: numbers.place(),
-        store: numbers.place(),
-        corners: numbers.place(),
-    }
-}
-
 fn counts_of(numbers: &mut Numbers) -> Counts {
     Counts {
         grid: GridCounts {
@@ -82,7 +72,7 @@ pub fn record_of(mut numbers: Numbers) -> Record {
         opened: numbers.number() != 0,
         job: Job {
             input: whole_input_of(&mut numbers),
-            lengths: lengths_of(&mut numbers),
+            lengths: numbers.lengths(),
             counts: counts_of(&mut numbers),
             cursor: cursor_of(&mut numbers),
         },

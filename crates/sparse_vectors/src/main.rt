@@ -45,6 +45,7 @@ fn take_lines(rt: &impl Print, text: &[u8]) -> io::Result<()> {
     output.close(rt)
 }
 
+// Kept: a main of its own, since the two calls are all that it is.
 fn main(rt: HostRuntime) -> io::Result<()> {
     let mut text = Vec::new(rt.alloc());
     rt.stdin().read_to_end(&mut text)?;

@@ -1,5 +1,5 @@
 -- `values_of` reads the first 150 numbers.
-use Rattle.std.proofs.Common.{◌≡◌, from_bits, map, take, length, min, arith, ap, ◌∙◌}
+use Rattle.std.proofs.Common.{◌≡◌, from_bits, map, take, length, arith, ap, ◌∙◌}
 use Rattle.std.specs.Float.{binary64}
 use Rattle.std.proofs.Math.Seq.{take-length}
 use Rattle.std.proofs.lemmas.List.{take_min}

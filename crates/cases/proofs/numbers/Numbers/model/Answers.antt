@@ -1,5 +1,5 @@
 -- `model` reads the parts that are given into the first places.
-use Rattle.std.proofs.Common.{◌≡◌, ◌∙◌, rules, arith}
+use Rattle.std.proofs.Common.{◌∙◌, rules}
 use Rattle.cases.proofs.Models.{whole}
 use Rattle.cases.proofs.numbers.Numbers.model.Goals as goal
 

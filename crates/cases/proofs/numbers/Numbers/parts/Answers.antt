@@ -1,5 +1,5 @@
 -- `parts` fills one place after the other.
-use Rattle.std.proofs.Common.{◌≡◌, ◌+◌, ◌*◌, drop, refl, arith, rules, sym, ap, ◌∙◌}
+use Rattle.std.proofs.Common.{refl, rules}
 use Rattle.cases.specs.Parts.{parts_at}
 use Rattle.cases.proofs.Models.{five_more, one_more}
 use Rattle.cases.proofs.numbers.Numbers.parts.Goals as goal
