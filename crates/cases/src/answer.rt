@@ -73,6 +73,8 @@ impl<const N: usize> Written<N> {
         self.number(float::to_bits(x))
     }
 
+    // Kept: beside `copied`, a loop of two lines over another type. One function for both would take what
+    // becomes of an element, and say it in its contract.
     pub fn floats(self, xs: &[f64]) -> Self
         requires { array_vec_len self.numbers + length xs.now ≤ N }
         ensures { result.numbers.items ≡ self.entry.numbers.items ++ map bits_of xs.now }

@@ -5,8 +5,8 @@ ghost use Rattle.cases.specs.Answer.{Given};
 use crate::bits::set_bit;
 use cases::{Answer, Numbers};
 
-// Kept: the cases below have few shapes among them, and each is a call of its own, which a reader finds
-// by its word.
+// Kept: the cases here, in `points` and in `pruning` have few shapes among them, and each is a call of
+// its own, which a reader finds by its word.
 
 // `block N`: whether a block may have this size.
 pub fn block(mut numbers: Numbers) -> Answer

@@ -48,6 +48,7 @@ fn poisoned<T: Element, const N: usize>(count: usize, seed: u64) -> ArrayVec<T, 
 fn set<T: Element>(elements: &mut [T], place: usize, n: u64)
     ensures { elements.new ≡ slice_set elements.old place (T.element n) }
 {
+    // Kept: an index and no `get_mut`, of which the proof did not close.
     if place < elements.len() {
         elements[place] = T::of(n);
     }
