@@ -1,14 +1,14 @@
 -- The numbers that an answer's values are written as.
-use Rattle.std.specs.Prelude.{ℕ, ◌+◌, ◌<◌, ◌≤◌, Bool, Result, Ok, Err, OnOk, vec_len, if◌then◌else◌, List, [], ◌∷◌, ◌++◌, Float, to_bits}
+use Rattle.std.specs.Prelude.{ℕ, ◌<◌, ◌≤◌, Bool, Result, Ok, Err, if◌then◌else◌, List, [], ◌∷◌, ◌++◌, Float, to_bits}
 use Rattle.std.specs.Float.{binary64}
+use Rattle.arrayvec.specs.ArrayVec.{array_vec_len}
 use Rattle.causes.specs.declared.Cause.{Cause}
 use Rattle.causes.specs.Number.{number_of}
 use Rattle.geometry.specs.declared.Vec3.{Vec3}
 use Rattle.geometry.specs.declared.Vec3i.{Vec3i}
 use Rattle.geometry.specs.declared.BoundingBox.{BoundingBox}
 use Rattle.grid.specs.declared.Grid.{Grid}
-use Rattle.cases.specs.declared.answer.Answer.{Answer}
-use Rattle.cases.specs.declared.answer.Fault.{Fault}
+use Rattle.cases.specs.declared.answer.Written.{Written}
 use Rattle.model.specs.declared.Part.{Part}
 use Rattle.model.specs.declared.Part.TheVariants.{Constant, Sphere, Plane, Min, Max, Add, Sub, Neg}
 
@@ -48,6 +48,6 @@ part_bits (Add a b) = 5 ∷ a ∷ b ∷ 0 ∷ 0 ∷ []
 part_bits (Sub a b) = 6 ∷ a ∷ b ∷ 0 ∷ 0 ∷ []
 part_bits (Neg a) = 7 ∷ a ∷ 0 ∷ 0 ∷ 0 ∷ []
 
--- a case has an answer of 1 to 160 numbers, if it has one
-abbrev pub Answers : Result Unit Fault → Answer → Answer → Type 0
-Answers result old new = OnOk result ((vec_len old.numbers < vec_len new.numbers) × (vec_len new.numbers ≤ vec_len old.numbers + 160))
+-- an answer that is given has 1 to 160 numbers
+abbrev pub Given : Written 160 → Type 0
+Given answer = (0 < array_vec_len answer.numbers) × (array_vec_len answer.numbers ≤ 160)

@@ -5,6 +5,7 @@ use Rattle.geometry.specs.declared.Vec3.{Vec3}
 use Rattle.geometry.specs.declared.Vec3i.{Vec3i}
 use Rattle.geometry.specs.declared.BoundingBox.{BoundingBox}
 use Rattle.grid.specs.declared.Grid.{Grid}
+use Rattle.input.specs.declared.Lengths.{Lengths}
 
 -- a number of 32 bits; a larger one counts as the largest
 abbrev pub short_at : List ℕ → ℕ → ℕ
@@ -23,6 +24,16 @@ indices_at xs i = record { i = slice_index xs i; j = slice_index xs (i + 1); k =
 
 abbrev pub box_at : List ℕ → ℕ → BoundingBox
 box_at xs i = record { min = vector_at xs i; max = vector_at xs (i + 3) }
+
+-- the lengths of the five slices
+abbrev pub lengths_at : List ℕ → ℕ → Lengths
+lengths_at xs i = record {
+  kinds = slice_index xs i;
+  numbers = slice_index xs (i + 1);
+  places = slice_index xs (i + 2);
+  store = slice_index xs (i + 3);
+  corners = slice_index xs (i + 4);
+}
 
 -- a grid: its bounds, its cell, its blocks
 abbrev pub grid_at : List ℕ → ℕ → Grid

@@ -1,143 +1,159 @@
-// The numbers of an answer, put one after the other.
-ghost use Rattle.std.specs.Prelude.{◌≡◌, ◌++◌, [], ◌∷◌, OnOk, map};
+// Numbers written one after the other: those of an answer, or of a record.
+ghost use Rattle.std.specs.Prelude.{◌≡◌, ◌+◌, ◌-◌, ◌≤◌, ◌++◌, [], ◌∷◌, length, map, replicate};
+ghost use Rattle.arrayvec.specs.ArrayVec.{array_vec_len};
 ghost use Rattle.causes.specs.Number.{number_of};
 ghost use Rattle.cases.specs.Answer.{bits_of, box_bits, flag_of, grid_bits, indices_of, outcome_of, vector_bits};
 
+use arrayvec::ArrayVec;
 use causes::Cause;
 use geometry::{BoundingBox, Vec3, Vec3i};
 use grid::Grid;
-use std::alloc::{AllocError, AllocFailed, Global};
+use vectors::MOST_NUMBERS;
 
-// Why a line has no answer of its own: it is no case, or no memory is left.
-#[derive(Debug, Drop)]
-pub enum Fault {
-    Off,
-    NoMemory(AllocError),
+// What was written so far, with room for N numbers.
+#[derive(Debug, Drop, PartialEq, Eq)]
+pub struct Written<const N: usize> {
+    pub numbers: ArrayVec<u64, N>,
 }
 
-impl From<AllocError> for Fault {
-    fn from(e: AllocError) -> Fault {
-        Fault::NoMemory(e)
-    }
-}
+// An answer has as many numbers as a line has room for.
+pub type Answer = Written<MOST_NUMBERS>;
 
-impl<T: Drop> From<AllocFailed<T>> for Fault {
-    fn from(e: AllocFailed<T>) -> Fault {
-        Fault::NoMemory(AllocError::from(e))
-    }
-}
-
-#[derive(Debug, Drop)]
-pub struct Answer {
-    pub numbers: Vec<u64>,
-}
-
-impl Answer {
-    pub fn new(alloc: Global) -> Self
+impl<const N: usize> Written<N> {
+    pub fn new() -> Self
         ensures { result.numbers.items ≡ [] }
     {
-        Answer {
-            numbers: Vec::new(alloc),
+        Written {
+            numbers: ArrayVec::new(),
         }
     }
 
-    pub fn number(&mut self, n: u64) -> Result<(), AllocError>
-        ensures { OnOk result (self.new.numbers.items ≡ self.old.numbers.items ++ n ∷ []) }
+    // One number more.
+    pub fn number(mut self, n: u64) -> Self
+        requires { array_vec_len self.numbers + 1 ≤ N }
+        ensures { result.numbers.items ≡ self.entry.numbers.items ++ n ∷ [] }
     {
-        self.numbers.push(n)?;
-        Ok(())
+        self.numbers.push(n);
+        self
     }
 
-    pub fn copied(&mut self, numbers: &[u64]) -> Result<(), AllocError>
-        ensures { OnOk result (self.new.numbers.items ≡ self.old.numbers.items ++ numbers.now) }
+    // The same of more numbers.
+    pub fn copied(self, numbers: &[u64]) -> Self
+        requires { array_vec_len self.numbers + length numbers.now ≤ N }
+        ensures { result.numbers.items ≡ self.entry.numbers.items ++ numbers.now }
     {
-        self.numbers.extend_from_slice(numbers)
-    }
-
-    // That the call was accepted.
-    pub fn accepted(&mut self) -> Result<(), AllocError>
-        ensures { OnOk result (self.new.numbers.items ≡ self.old.numbers.items ++ 0 ∷ []) }
-    {
-        self.number(0)
-    }
-
-    // That the call was refused, by its cause.
-    pub fn refused(&mut self, cause: Cause) -> Result<(), AllocError>
-        ensures { OnOk result (self.new.numbers.items ≡ self.old.numbers.items ++ number_of cause ∷ []) }
-    {
-        self.number(u64::from(cause.number()))
-    }
-
-    // What became of a call: 0, or the cause of its refusal.
-    pub fn outcome<T: Copy>(&mut self, done: Result<T, Cause>) -> Result<(), AllocError>
-        ensures { OnOk result (self.new.numbers.items ≡ self.old.numbers.items ++ outcome_of done ∷ []) }
-    {
-        match done {
-            Ok(_) => self.accepted(),
-            Err(cause) => self.refused(cause),
+        let mut written = self;
+        for n in numbers {
+            written = written.number(*n);
         }
+        written
     }
 
     // A count or an index.
-    pub fn place(&mut self, n: usize) -> Result<(), AllocError>
-        ensures { OnOk result (self.new.numbers.items ≡ self.old.numbers.items ++ n ∷ []) }
+    pub fn place(self, n: usize) -> Self
+        requires { array_vec_len self.numbers + 1 ≤ N }
+        ensures { result.numbers.items ≡ self.entry.numbers.items ++ n ∷ [] }
     {
         self.number(n as u64)
     }
 
     // A yes is 1, a no 0.
-    pub fn flag(&mut self, b: bool) -> Result<(), AllocError>
-        ensures { OnOk result (self.new.numbers.items ≡ self.old.numbers.items ++ flag_of b ∷ []) }
+    pub fn flag(self, b: bool) -> Self
+        requires { array_vec_len self.numbers + 1 ≤ N }
+        ensures { result.numbers.items ≡ self.entry.numbers.items ++ flag_of b ∷ [] }
     {
         self.number(u64::from(b))
     }
 
     // A float by its bits.
-    pub fn float(&mut self, x: f64) -> Result<(), AllocError>
-        ensures { OnOk result (self.new.numbers.items ≡ self.old.numbers.items ++ bits_of x ∷ []) }
+    pub fn float(self, x: f64) -> Self
+        requires { array_vec_len self.numbers + 1 ≤ N }
+        ensures { result.numbers.items ≡ self.entry.numbers.items ++ bits_of x ∷ [] }
     {
         self.number(float::to_bits(x))
     }
 
-    pub fn floats(&mut self, xs: &[f64]) -> Result<(), AllocError>
-        ensures { OnOk result (self.new.numbers.items ≡ self.old.numbers.items
-            ++ map bits_of xs.now) }
+    // Kept: beside `copied`, a loop of two lines over another type. One function for both would take what
+    // becomes of an element, and say it in its contract.
+    pub fn floats(self, xs: &[f64]) -> Self
+        requires { array_vec_len self.numbers + length xs.now ≤ N }
+        ensures { result.numbers.items ≡ self.entry.numbers.items ++ map bits_of xs.now }
     {
+        let mut written = self;
         for x in xs {
-            self.float(*x)?;
+            written = written.float(*x);
         }
-        Ok(())
+        written
     }
 
-    pub fn vector(&mut self, p: Vec3) -> Result<(), AllocError>
-        ensures { OnOk result (self.new.numbers.items ≡ self.old.numbers.items ++ vector_bits p) }
+    pub fn vector(self, p: Vec3) -> Self
+        requires { array_vec_len self.numbers + 3 ≤ N }
+        ensures { result.numbers.items ≡ self.entry.numbers.items ++ vector_bits p }
     {
         self.floats(&[p.x, p.y, p.z])
     }
 
     // The indices or the counts along the axes.
-    pub fn indices(&mut self, n: Vec3i) -> Result<(), AllocError>
-        ensures { OnOk result (self.new.numbers.items ≡ self.old.numbers.items ++ indices_of n) }
+    pub fn indices(self, n: Vec3i) -> Self
+        requires { array_vec_len self.numbers + 3 ≤ N }
+        ensures { result.numbers.items ≡ self.entry.numbers.items ++ indices_of n }
     {
-        self.place(n.i)?;
-        self.place(n.j)?;
-        self.place(n.k)
+        self.place(n.i).place(n.j).place(n.k)
+    }
+
+    pub fn bounds(self, b: BoundingBox) -> Self
+        requires { array_vec_len self.numbers + 6 ≤ N }
+        ensures { result.numbers.items ≡ self.entry.numbers.items ++ box_bits b }
+    {
+        self.vector(b.min).vector(b.max)
     }
 
     // A grid: its bounds, its cell, its blocks.
-    pub fn grid(&mut self, g: Grid) -> Result<(), AllocError>
-        ensures { OnOk result (self.new.numbers.items ≡ self.old.numbers.items ++ grid_bits g) }
+    pub fn grid(self, g: Grid) -> Self
+        requires { array_vec_len self.numbers + 9 ≤ N }
+        ensures { result.numbers.items ≡ self.entry.numbers.items ++ grid_bits g }
     {
-        self.bounds(g.bounds)?;
-        self.float(g.cell)?;
-        self.number(u64::from(g.inner))?;
-        self.number(u64::from(g.leaf))
+        self.bounds(g.bounds)
+            .float(g.cell)
+            .number(u64::from(g.inner))
+            .number(u64::from(g.leaf))
+    }
+}
+
+impl<const N: usize> Written<N> {
+    // All N numbers. Those that were not written are 0.
+    pub fn whole(self) -> [u64; N]
+        ensures { result ≡ self.entry.numbers.items ++ replicate (N - array_vec_len self.entry.numbers) 0 }
+    {
+        let mut all = [0; N];
+        let count = self.numbers.len();
+        all[..count].copy_from_slice(&self.numbers);
+        all
+    }
+}
+
+impl Answer {
+    // That a call was accepted. What it gave follows.
+    pub fn accepted() -> Self
+        ensures { result.numbers.items ≡ 0 ∷ [] }
+    {
+        Answer::new().number(0)
     }
 
-    pub fn bounds(&mut self, b: BoundingBox) -> Result<(), AllocError>
-        ensures { OnOk result (self.new.numbers.items ≡ self.old.numbers.items ++ box_bits b) }
+    // That a call was refused, by its cause.
+    pub fn refused(cause: Cause) -> Self
+        ensures { result.numbers.items ≡ number_of cause ∷ [] }
     {
-        self.vector(b.min)?;
-        self.vector(b.max)
+        Answer::new().number(u64::from(cause.number()))
+    }
+
+    // What became of a call: 0, or the cause of its refusal.
+    pub fn outcome<T: Copy>(done: Result<T, Cause>) -> Self
+        ensures { result.numbers.items ≡ outcome_of done ∷ [] }
+    {
+        match done {
+            Ok(_) => Answer::accepted(),
+            Err(cause) => Answer::refused(cause),
+        }
     }
 }

@@ -1,27 +1,33 @@
 // A line of a list of cases, taken apart, and the line that answers it.
-use crate::answer::{Answer, Fault};
-use std::alloc::Global;
+ghost use Rattle.std.specs.Prelude.{◌≡◌, ◌+◌, ◌*◌, IfSome, length, take};
+ghost use Rattle.arrayvec.specs.ArrayVec.{array_vec_len};
+
+use crate::answer::Answer;
+use arrayvec::ArrayVec;
 use std::io;
+use vectors::MOST_NUMBERS;
 
 // A line's word, and the numbers after it.
-#[derive(Debug, Drop)]
+#[derive(Debug, Drop, PartialEq, Eq)]
 pub struct Line<'a> {
     pub word: &'a [u8],
-    pub numbers: Vec<u64>,
+    pub numbers: ArrayVec<u64, MOST_NUMBERS>,
 }
 
 // A line's word and its numbers, where it has the form of a case.
-pub fn read_line(alloc: Global, line: &[u8]) -> Result<Line<'_>, Fault> {
+pub fn read_line(line: &[u8]) -> Option<Line<'_>>
+    ensures word { IfSome result (λ found. found.word.now ≡ take (length found.word.now) line.now) }
+    ensures whole { IfSome result (λ found. length line.now ≡ length found.word.now + 17 * array_vec_len found.numbers + 1) }
+{
     let (word, rest) = line.split_at(vectors::word_end(line));
-    let numbers = vectors::read_numbers(alloc, rest)?.ok_or(Fault::Off)?;
-    Ok(Line { word, numbers })
+    let numbers = vectors::read_numbers(rest)?;
+    Some(Line { word, numbers })
 }
 
 // Writes the answer to a line. A line that is no case is answered by one number.
-pub fn write_answer(rt: &impl Print, answer: Result<Answer, Fault>) -> io::Result<()> {
+pub fn write_answer(rt: &impl Print, answer: Option<Answer>) -> io::Result<()> {
     match answer {
-        Ok(given) => vectors::write_numbers(rt, &given.numbers),
-        Err(Fault::Off) => vectors::write_numbers(rt, &[vectors::OFF]),
-        Err(Fault::NoMemory(e)) => Err(e.into()),
+        Some(given) => vectors::write_numbers(rt, &given.numbers),
+        None => vectors::write_numbers(rt, &[vectors::OFF]),
     }
 }

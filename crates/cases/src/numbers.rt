@@ -1,9 +1,10 @@
 // The numbers of a stored case, read one after the other.
 ghost use Rattle.std.specs.Prelude.{◌≡◌, drop, slice_index};
-ghost use Rattle.cases.specs.Numbers.{box_at, float_at, grid_at, indices_at, short_at, vector_at};
+ghost use Rattle.cases.specs.Numbers.{box_at, float_at, grid_at, indices_at, lengths_at, short_at, vector_at};
 
 use geometry::{BoundingBox, Vec3, Vec3i};
 use grid::Grid;
+use input::Lengths;
 
 // The numbers that are left to read. Past the last each is 0.
 #[derive(Clone, Copy, Debug)]
@@ -64,6 +65,8 @@ impl<'a> Numbers<'a> {
     }
 
     // The indices or the counts along the axes.
+    // Kept: beside `vector`, which reads another type and makes another. One function for both would
+    // take the reading and the making, to save two lines.
     pub fn indices(&mut self) -> Vec3i
         ensures value { result ≡ indices_at self.old.left.now 0 }
         ensures rest { self.new.left.now ≡ drop 3 self.old.left.now }
@@ -81,6 +84,20 @@ impl<'a> Numbers<'a> {
         let min = self.vector();
         let max = self.vector();
         BoundingBox::new(min, max)
+    }
+
+    // The slices' lengths: KINDS NUMBERS PLACES STORE CORNERS.
+    pub fn lengths(&mut self) -> Lengths
+        ensures value { result ≡ lengths_at self.old.left.now 0 }
+        ensures rest { self.new.left.now ≡ drop 5 self.old.left.now }
+    {
+        Lengths {
+            kinds: self.place(),
+            numbers: self.place(),
+            places: self.place(),
+            store: self.place(),
+            corners: self.place(),
+        }
     }
 
     // A grid: its bounds, its cell, its blocks.

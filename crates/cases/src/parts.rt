@@ -1,13 +1,13 @@
 // The parts of a model, each a kind and four numbers.
-ghost use Rattle.std.specs.Prelude.{◌≡◌, ◌≤◌, [], ◌∷◌, ◌++◌, drop, OnOk};
+ghost use Rattle.std.specs.Prelude.{◌≡◌, ◌+◌, ◌*◌, ◌≤◌, [], ◌∷◌, ◌++◌, drop, length, min};
+ghost use Rattle.arrayvec.specs.ArrayVec.{array_vec_len};
 ghost use Rattle.cases.specs.Answer.{bits_of, part_bits};
-ghost use Rattle.cases.specs.Parts.{part_at};
+ghost use Rattle.cases.specs.Parts.{model_at, part_at, parts_at};
 
-use crate::answer::Answer;
+use crate::answer::Written;
 use crate::numbers::Numbers;
 use geometry::Vec3;
 use model::{ImplicitModel, ModelComponent, Part};
-use std::alloc::AllocError;
 
 impl Numbers<'_> {
     // A part: 0 is a constant, 1 a sphere, 2 a plane, 3 to 6 min, max, add and sub, any other kind neg.
@@ -35,18 +35,27 @@ impl Numbers<'_> {
         }
     }
 
+    // As many parts as there are places for.
+    fn parts(&mut self, parts: &mut [ModelComponent])
+        ensures values { parts.new ≡ parts_at self.old.left.now (length parts.old) }
+        ensures rest { self.new.left.now ≡ drop (5 * length parts.old) self.old.left.now }
+    {
+        for component in parts {
+            component.part = self.part();
+        }
+    }
+
     // A model that counts so many parts. Those that are given are read, 64 at most; the others are
     // constants of +0.
     pub fn model(&mut self, given: usize, count: u32) -> ImplicitModel
-        ensures { result.count ≡ count }
+        ensures value { result ≡ model_at self.old.left.now given count }
+        ensures rest { self.new.left.now ≡ drop (5 * min given 64) self.old.left.now }
     {
         let none = ModelComponent {
             part: Part::Constant(0.0),
         };
         let mut parts = [none; 64];
-        for component in &mut parts[..given.min(64)] {
-            component.part = self.part();
-        }
+        self.parts(&mut parts[..given.min(64)]);
         ImplicitModel { parts, count }
     }
 }
@@ -85,9 +94,10 @@ fn part_numbers(part: Part) -> [u64; 5]
     }
 }
 
-impl Answer {
-    pub fn part(&mut self, part: Part) -> Result<(), AllocError>
-        ensures { OnOk result (self.new.numbers.items ≡ self.old.numbers.items ++ part_bits part) }
+impl<const N: usize> Written<N> {
+    pub fn part(self, part: Part) -> Self
+        requires { array_vec_len self.numbers + 5 ≤ N }
+        ensures { result.numbers.items ≡ self.entry.numbers.items ++ part_bits part }
     {
         self.copied(&part_numbers(part))
     }

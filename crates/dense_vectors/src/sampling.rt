@@ -1,9 +1,8 @@
 // Sampling of a model that a case holds part by part.
-ghost use Rattle.cases.specs.Answer.{Answers};
+ghost use Rattle.cases.specs.Answer.{Given};
 
-use cases::{Answer, Fault, Numbers};
+use cases::{Answer, Numbers};
 use dense_cases::MOST_VALUES;
-use std::alloc::Global;
 
 // What each value is before a call.
 const BEFORE: f64 = 100.0;
@@ -13,8 +12,8 @@ const MOST_PARTS: usize = 30;
 
 // `sample`: the origin, a cell's size, the dimensions, how many values are lent, the model's count
 // of parts, its parts.
-pub fn sample(alloc: Global, mut numbers: Numbers, answer: &mut Answer) -> Result<(), Fault>
-    ensures { Answers result answer.old answer.new }
+pub fn sample(mut numbers: Numbers) -> Answer
+    ensures { Given result }
 {
     let origin = numbers.vector();
     let cell = numbers.float();
@@ -22,9 +21,8 @@ pub fn sample(alloc: Global, mut numbers: Numbers, answer: &mut Answer) -> Resul
     let lent = numbers.place().min(MOST_VALUES);
     let count = numbers.short();
     let model = numbers.model(MOST_PARTS.min(count as usize), count);
-    let mut values = vec![in alloc; BEFORE; lent]?;
-    let done = dense_field::sample(&model, origin, cell, n, &mut values);
-    answer.outcome(done)?;
-    answer.floats(&values)?;
-    Ok(())
+    // Kept: the call is lent a part of a room of fixed size.
+    let mut values = [BEFORE; MOST_VALUES];
+    let done = dense_field::sample(&model, origin, cell, n, &mut values[..lent]);
+    Answer::outcome(done).floats(&values[..lent])
 }

@@ -1,49 +1,45 @@
 // Calls that change a field's values. The values end the case, and what they are after ends the
 // answer.
-ghost use Rattle.cases.specs.Answer.{Answers};
+ghost use Rattle.cases.specs.Answer.{Given};
 
-use cases::{Answer, Fault, Numbers};
+use cases::{Answer, Numbers};
 use causes::Cause;
 use dense_cases::MOST_VALUES;
 use geometry::Vec3i;
-use std::alloc::Global;
 
 // What each value of the scratch is before a call.
 const BEFORE: f64 = 100.0;
 
 // A call with one number, on the values: the dimensions, the number, the values.
 fn changed<F: FnOnce(Vec3i, f64, &mut [f64]) -> Result<(), Cause>>(
-    alloc: Global,
     mut numbers: Numbers,
-    answer: &mut Answer,
     call: F,
-) -> Result<(), Fault>
+) -> Answer
     requires { F.IsAlwaysCallable call }
-    ensures { Answers result answer.old answer.new }
+    ensures { Given result }
 {
     let n = numbers.indices();
     let number = numbers.float();
-    let mut values = dense_cases::values_of(alloc, numbers)?;
+    let mut values = dense_cases::values_of(numbers);
     let done = call(n, number, &mut values);
-    answer.outcome(done)?;
-    answer.floats(&values)?;
-    Ok(())
+    Answer::outcome(done).floats(&values)
 }
 
 // `pad`: the number is the value to set.
-pub fn pad(alloc: Global, numbers: Numbers, answer: &mut Answer) -> Result<(), Fault>
-    ensures { Answers result answer.old answer.new }
+pub fn pad(numbers: Numbers) -> Answer
+    ensures { Given result }
 {
-    changed(alloc, numbers, answer, |n, value, values: &mut [f64]| {
+    changed(numbers, |n, value, values: &mut [f64]| {
         dense_field::padding(n, value, values)
     })
 }
 
 // `threshold`: the number is the limit.
-pub fn threshold(alloc: Global, numbers: Numbers, answer: &mut Answer) -> Result<(), Fault>
-    ensures { Answers result answer.old answer.new }
+// Kept: beside `pad`, since a function of another crate cannot be handed on by its name.
+pub fn threshold(numbers: Numbers) -> Answer
+    ensures { Given result }
 {
-    changed(alloc, numbers, answer, |n, limit, values: &mut [f64]| {
+    changed(numbers, |n, limit, values: &mut [f64]| {
         dense_field::threshold(n, limit, values)
     })
 }
@@ -67,18 +63,18 @@ fn scratch_after(scratch: &[f64]) -> u64 {
 }
 
 // `smooth`: the dimensions, the factor, the rounds, the scratch's length, the values.
-pub fn smooth(alloc: Global, mut numbers: Numbers, answer: &mut Answer) -> Result<(), Fault>
-    ensures { Answers result answer.old answer.new }
+pub fn smooth(mut numbers: Numbers) -> Answer
+    ensures { Given result }
 {
     let n = numbers.indices();
     let factor = numbers.float();
     let rounds = numbers.short();
     let room = numbers.place().min(MOST_VALUES);
-    let mut values = dense_cases::values_of(alloc, numbers)?;
-    let mut scratch = vec![in alloc; BEFORE; room]?;
-    let done = dense_field::smooth(n, factor, rounds, &mut values, &mut scratch);
-    answer.outcome(done)?;
-    answer.number(scratch_after(&scratch))?;
-    answer.floats(&values)?;
-    Ok(())
+    let mut values = dense_cases::values_of(numbers);
+    // Kept: the call is lent a part of a room of fixed size.
+    let mut scratch = [BEFORE; MOST_VALUES];
+    let done = dense_field::smooth(n, factor, rounds, &mut values, &mut scratch[..room]);
+    Answer::outcome(done)
+        .number(scratch_after(&scratch[..room]))
+        .floats(&values)
 }

@@ -21,6 +21,7 @@ pub enum Word {
 
 impl Word {
     // The word with these letters.
+    // Kept: each list of cases has words of its own, and no function takes words of more than one.
     pub fn named(letters: &[u8]) -> Option<Word>
         ensures { IfSome result (λ word. letters.now ≡ letters_of word) }
     {

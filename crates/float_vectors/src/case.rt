@@ -56,6 +56,7 @@ impl Operation {
     }
 
     // Which count the operation has.
+    // Kept: `usize::from` is no plainer at the one call, and a contract of it is a ghost member.
     pub fn number(self) -> usize
         ensures { result ≡ number_of self }
     {

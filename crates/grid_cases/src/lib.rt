@@ -2,14 +2,13 @@
 // grid share: their words, and bits.
 #![tactic(auto)]
 
+mod answers; // answers.rt: the answer to a case
 mod bits; // bits.rt: sets as bits, 64 to a number
 mod nodes; // nodes.rt: nodes, children, activity
 mod points; // points.rt: corner and leaf points
 mod pruning; // pruning.rt: the pruning rule
 mod words; // words.rt: the words of the cases
 
+pub use answers::answer;
 pub use bits::{has_bit, set_bit};
-pub use nodes::{active, along, axis, block, child, counts, node, size};
-pub use points::{corner, corners, leaf, leaves, places};
-pub use pruning::{extremes, half, pruned};
 pub use words::Word;

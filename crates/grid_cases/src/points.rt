@@ -1,10 +1,9 @@
 // Corner points, leaf points, and the places of a child's corners.
-ghost use Rattle.std.specs.Prelude.{◌≡◌, ◌+◌, ◌*◌, ◌≤◌, vec_len, OnOk};
-ghost use Rattle.cases.specs.Answer.{Answers};
+ghost use Rattle.std.specs.Prelude.{◌≤◌, IfSome};
+ghost use Rattle.cases.specs.Answer.{Given};
 
-use cases::{Answer, Fault, Numbers};
+use cases::{Answer, Numbers};
 use geometry::PointRow;
-use std::alloc::AllocError;
 
 // The most points of an answer, and the most of the first one's number.
 const MOST_POINTS: usize = 50;
@@ -12,41 +11,38 @@ const MOST_POINTS: usize = 50;
 const MOST_FIRST: u32 = 1_000_000;
 
 // `corner BOX N C`: a corner of a node.
-pub fn corner(mut numbers: Numbers, answer: &mut Answer) -> Result<(), Fault>
-    ensures { Answers result answer.old answer.new }
+pub fn corner(mut numbers: Numbers) -> Answer
+    ensures { Given result }
 {
     let b = numbers.bounds();
     let n = numbers.short();
     let c = numbers.place();
-    answer.accepted()?;
-    answer.vector(grid::corner_point(b, n, c))?;
-    Ok(())
+    Answer::accepted().vector(grid::corner_point(b, n, c))
 }
 
 // `leaf BOX L P`: a point of a leaf.
-pub fn leaf(mut numbers: Numbers, answer: &mut Answer) -> Result<(), Fault>
-    ensures { Answers result answer.old answer.new }
+pub fn leaf(mut numbers: Numbers) -> Option<Answer>
+    ensures { IfSome result Given }
 {
     let b = numbers.bounds();
     let l = numbers.short();
     let p = numbers.place();
     if l == 0 {
-        return Err(Fault::Off);
+        return None;
     }
-    answer.accepted()?;
-    answer.vector(grid::leaf_point(b, l, p))?;
-    Ok(())
+    Some(Answer::accepted().vector(grid::leaf_point(b, l, p)))
 }
 
-// Puts the first points of a row.
-fn put_row(row: &PointRow, count: usize, answer: &mut Answer) -> Result<(), AllocError>
+// The first points of a row.
+fn row_answer(row: &PointRow, count: usize) -> Answer
     requires { count ≤ 50 }
-    ensures { OnOk result (vec_len answer.new.numbers ≡ vec_len answer.old.numbers + 3 * count) }
+    ensures { Given result }
 {
+    let mut answer = Answer::accepted();
     for q in 0..count {
-        answer.vector(row.get(q))?;
+        answer = answer.vector(row.get(q));
     }
-    Ok(())
+    answer
 }
 
 // The 64 numbers from `first` on.
@@ -61,52 +57,47 @@ fn numbers_from(first: u32) -> [u32; 64]
 }
 
 // `corners BOX N FIRST COUNT`: corners of a node, in a row.
-pub fn corners(mut numbers: Numbers, answer: &mut Answer) -> Result<(), Fault>
-    ensures { Answers result answer.old answer.new }
+pub fn corners(mut numbers: Numbers) -> Option<Answer>
+    ensures { IfSome result Given }
 {
     let b = numbers.bounds();
     let n = numbers.short();
     let first = numbers.short();
     let count = numbers.place();
     if first > MOST_FIRST || count > MOST_POINTS {
-        return Err(Fault::Off);
+        return None;
     }
     let list = numbers_from(first);
     let mut row = PointRow::new();
     grid::corner_points(b, n, &list[..count], &mut row);
-    answer.accepted()?;
-    put_row(&row, count, answer)?;
-    Ok(())
+    Some(row_answer(&row, count))
 }
 
 // `leaves BOX L FIRST COUNT`: points of a leaf, in a row.
-pub fn leaves(mut numbers: Numbers, answer: &mut Answer) -> Result<(), Fault>
-    ensures { Answers result answer.old answer.new }
+pub fn leaves(mut numbers: Numbers) -> Option<Answer>
+    ensures { IfSome result Given }
 {
     let b = numbers.bounds();
     let l = numbers.short();
     let first = numbers.place();
     let count = numbers.place();
     if l == 0 || first > MOST_FIRST as usize || count > MOST_POINTS {
-        return Err(Fault::Off);
+        return None;
     }
     let mut row = PointRow::new();
     grid::leaf_points(b, l, first, count, &mut row);
-    answer.accepted()?;
-    put_row(&row, count, answer)?;
-    Ok(())
+    Some(row_answer(&row, count))
 }
 
 // `places N C`: the places of a child's corners among its node's.
-pub fn places(mut numbers: Numbers, answer: &mut Answer) -> Result<(), Fault>
-    ensures { Answers result answer.old answer.new }
+pub fn places(mut numbers: Numbers) -> Option<Answer>
+    ensures { IfSome result Given }
 {
     let n = numbers.short();
     let c = numbers.place();
     if n == 0 || n > 64 || c >= grid::cube_of(n as usize) {
-        return Err(Fault::Off);
+        return None;
     }
-    answer.accepted()?;
-    answer.copied(&grid::octet(n, c).map(|place| place as u64))?;
-    Ok(())
+    let octet = grid::octet(n, c).map(|place| place as u64);
+    Some(Answer::accepted().copied(&octet))
 }

@@ -1,15 +1,13 @@
 // Half diagonals, the extremes and the mean of an octet, and which children are pruned.
-ghost use Rattle.cases.specs.Answer.{Answers};
+ghost use Rattle.cases.specs.Answer.{Given};
 
-use cases::{Answer, Fault, Numbers};
+use cases::{Answer, Numbers};
 
 // `half BOX`: the half diagonal.
-pub fn half(mut numbers: Numbers, answer: &mut Answer) -> Result<(), Fault>
-    ensures { Answers result answer.old answer.new }
+pub fn half(mut numbers: Numbers) -> Answer
+    ensures { Given result }
 {
-    answer.accepted()?;
-    answer.float(grid::half_diagonal(numbers.bounds()))?;
-    Ok(())
+    Answer::accepted().float(grid::half_diagonal(numbers.bounds()))
 }
 
 // The values at a child's corners.
@@ -22,25 +20,23 @@ fn octet(mut numbers: Numbers) -> [f64; 8] {
 }
 
 // `extremes V V V V V V V V`: the least and the greatest of an octet, and the mean.
-pub fn extremes(numbers: Numbers, answer: &mut Answer) -> Result<(), Fault>
-    ensures { Answers result answer.old answer.new }
+pub fn extremes(numbers: Numbers) -> Answer
+    ensures { Given result }
 {
     let values = octet(numbers);
-    answer.accepted()?;
-    answer.float(grid::lowest(values))?;
-    answer.float(grid::highest(values))?;
-    answer.float(grid::average(values))?;
-    Ok(())
+    Answer::accepted()
+        .float(grid::lowest(values))
+        .float(grid::highest(values))
+        .float(grid::average(values))
 }
 
 // `pruned MIN MAX H V V V V V V V V`: whether a child with this octet and half diagonal is pruned.
-pub fn pruned(mut numbers: Numbers, answer: &mut Answer) -> Result<(), Fault>
-    ensures { Answers result answer.old answer.new }
+pub fn pruned(mut numbers: Numbers) -> Answer
+    ensures { Given result }
 {
     let min_val = numbers.float();
     let max_val = numbers.float();
     let h = numbers.float();
-    answer.accepted()?;
-    answer.flag(grid::is_pruned(min_val, max_val, octet(numbers), h))?;
-    Ok(())
+    let pruned = grid::is_pruned(min_val, max_val, octet(numbers), h);
+    Answer::accepted().flag(pruned)
 }

@@ -28,6 +28,7 @@ pub enum Word {
 
 impl Word {
     // The word with these letters. Those past the eighth do not count.
+    // Kept: each list of cases has words of its own, and no function takes words of more than one.
     pub fn named(letters: &[u8]) -> Option<Word>
         ensures { IfSome result (λ word. take 8 letters.now ≡ letters_of word) }
     {

@@ -1,8 +1,8 @@
 // The list of the corners that a node's active children need.
-ghost use Rattle.std.specs.Prelude.{◌≤◌};
-ghost use Rattle.cases.specs.Answer.{Answers};
+ghost use Rattle.std.specs.Prelude.{◌≤◌, IfSome};
+ghost use Rattle.cases.specs.Answer.{Given};
 
-use cases::{Answer, Fault, Numbers};
+use cases::{Answer, Numbers};
 use grid_cases::{has_bit, set_bit};
 
 // What the lent list holds before the call.
@@ -54,47 +54,45 @@ fn words_of(n: u32) -> usize
 }
 
 // Calls on so many kinds and a list so long, and answers.
-fn call(n: u32, kinds: &[u8], end: usize, answer: &mut Answer) -> Result<(), Fault>
+fn call(n: u32, kinds: &[u8], end: usize) -> Answer
     requires { end ≤ 800 }
-    ensures { Answers result answer.old answer.new }
+    ensures { Given result }
 {
     // Kept: the call is lent a part of the list, and what lies past it is answered too.
     let mut list = [BEFORE; LONGEST];
-    let found = grid::corner_list(n, kinds, &mut list[..end]);
-    match found {
+    match grid::corner_list(n, kinds, &mut list[..end]) {
         Err(cause) => {
-            answer.refused(cause)?;
-            answer.flag(list.iter().all(|corner| *corner == BEFORE))?;
+            let same = list.iter().all(|corner| *corner == BEFORE);
+            Answer::refused(cause).flag(same)
         }
         Ok(count) => {
             let corners = list.get(..count).unwrap_or(&[]);
-            answer.accepted()?;
-            answer.place(count)?;
-            answer.number(sum_of(corners))?;
-            answer.flag(list.iter().take(end).skip(count).all(|corner| *corner == 0))?;
-            answer.flag(list.iter().skip(end).all(|corner| *corner == BEFORE))?;
-            answer.copied(&bits_of(corners)[..words_of(n)])?;
+            let zero = list.iter().take(end).skip(count).all(|corner| *corner == 0);
+            let same = list.iter().skip(end).all(|corner| *corner == BEFORE);
+            Answer::accepted()
+                .place(count)
+                .number(sum_of(corners))
+                .flag(zero)
+                .flag(same)
+                .copied(&bits_of(corners)[..words_of(n)])
         }
     }
-    Ok(())
 }
 
 // `list N KINDS LIST KIND BITS`, or `longlist` where the bits are eight numbers: the corner list of a
 // node with N children along an axis, from so many kinds, into a list so long. Answers how many are
 // listed, their sum, whether the rest is 0, whether what lies past the list is as it was, and the bits;
 // or where refused, whether the whole list is as it was.
-pub fn list(mut numbers: Numbers, answer: &mut Answer) -> Result<(), Fault>
-    ensures { Answers result answer.old answer.new }
+pub fn list(mut numbers: Numbers) -> Option<Answer>
+    ensures { IfSome result Given }
 {
     let n = numbers.short();
     let most = numbers.place();
     let end = numbers.place();
-    let Ok(kind) = u8::try_from(numbers.number()) else {
-        return Err(Fault::Off);
-    };
+    let kind = u8::try_from(numbers.number()).ok()?;
     if most > MOST_KINDS || end > LONGEST {
-        return Err(Fault::Off);
+        return None;
     }
     let kinds = kinds_of(numbers.left, kind);
-    call(n, &kinds[..most], end, answer)
+    Some(call(n, &kinds[..most], end))
 }

@@ -1,8 +1,8 @@
 // The causes by which open refuses a job, and what is known of an accepted one.
-ghost use Rattle.cases.specs.Answer.{Answers};
+ghost use Rattle.cases.specs.Answer.{Given};
 
-use cases::{Answer, Fault, Numbers};
-use input::{Band, Input, Lengths};
+use cases::{Answer, Numbers};
+use input::{Band, Input};
 use model::{ImplicitModel, ModelComponent, Part};
 
 // The part of this kind, with these inputs; 5 and above are constants.
@@ -34,21 +34,10 @@ fn model_of(numbers: &mut Numbers) -> ImplicitModel {
     ImplicitModel { parts, count }
 }
 
-// The slices' lengths: KINDS NUMBERS PLACES STORE CORNERS.
-fn lengths_of(numbers: &mut Numbers) -> Lengths {
-    Lengths {
-        kinds: numbers.place(),
-        numbers: numbers.place(),
-        places: numbers.place(),
-        store: numbers.place(),
-        corners: numbers.place(),
-    }
-}
-
 // `open GRID MIN MAX COUNT PLACE KIND A B KINDS NUMBERS PLACES STORE CORNERS`: the cause by which open
 // refuses the job, or of an accepted one the nodes and the active children.
-pub fn open(mut numbers: Numbers, answer: &mut Answer) -> Result<(), Fault>
-    ensures { Answers result answer.old answer.new }
+pub fn open(mut numbers: Numbers) -> Answer
+    ensures { Given result }
 {
     let input = Input {
         grid: numbers.grid(),
@@ -58,13 +47,10 @@ pub fn open(mut numbers: Numbers, answer: &mut Answer) -> Result<(), Fault>
         },
         model: model_of(&mut numbers),
     };
-    match input::open_refusal(&input, lengths_of(&mut numbers)) {
-        Err(cause) => answer.refused(cause)?,
-        Ok(()) => {
-            answer.accepted()?;
-            answer.place(grid::node_total(input.grid))?;
-            answer.number(grid::active_children(input.grid))?;
-        }
+    match input::open_refusal(&input, numbers.lengths()) {
+        Err(cause) => Answer::refused(cause),
+        Ok(()) => Answer::accepted()
+            .place(grid::node_total(input.grid))
+            .number(grid::active_children(input.grid)),
     }
-    Ok(())
 }

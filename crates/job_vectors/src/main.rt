@@ -16,7 +16,7 @@ const LONGEST: usize = 88176;
 const HEAD: usize = 17;
 
 // The texts that are left, each with its length before it. The last may be cut short.
-#[derive(Clone, Copy)]
+#[derive(Clone, Copy, Debug, PartialEq, Eq)]
 struct Texts<'a>(&'a [u8]);
 
 impl<'a> Iterator for Texts<'a> {
@@ -66,6 +66,7 @@ fn list_texts(rt: &impl Print, bytes: &[u8]) -> io::Result<()> {
     Ok(())
 }
 
+// Kept: a main of its own, since the two calls are all that it is.
 fn main(rt: HostRuntime) -> io::Result<()> {
     let mut bytes = Vec::new(rt.alloc());
     rt.stdin().read_to_end(&mut bytes)?;

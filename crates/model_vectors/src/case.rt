@@ -5,6 +5,7 @@ ghost use Rattle.model_vectors.specs.Case.{longer, started, with_part};
 use geometry::Vec3;
 use model::{ImplicitModel, ModelComponent, Part};
 
+// Kept: without Debug and PartialEq, which a model does not have.
 #[derive(Clone, Copy)]
 pub struct Case {
     pub point: Vec3,

@@ -1,16 +1,19 @@
 // One line of the list: a point, a part of a model, or the stored answer.
+use arrayvec::ArrayVec;
 use geometry::Vec3;
 use model::Part;
-use std::alloc::{AllocError, Global};
 
 // What a line says. The answer is a value's bits, or a refusal by 4.
-#[derive(Clone, Copy)]
+#[derive(Clone, Copy, Debug, PartialEq)]
 pub enum Line {
     Point(Vec3),
     Component(Part),
     Value(u64),
     Refused,
 }
+
+// The most fields of a line: a word and four numbers.
+const MOST_FIELDS: usize = 5;
 
 fn number(field: &[u8]) -> Option<u64> {
     if field.len() != 16 {
@@ -23,6 +26,7 @@ fn float(field: &[u8]) -> Option<f64> {
     Some(float::from_bits(number(field)?))
 }
 
+// Kept: the three fields as three parameters, since a pattern names them one by one.
 fn vector(x: &[u8], y: &[u8], z: &[u8]) -> Option<Vec3> {
     Some(Vec3::new(float(x)?, float(y)?, float(z)?))
 }
@@ -57,10 +61,11 @@ fn meaning(fields: &[&[u8]]) -> Option<Line> {
 }
 
 // What a line says, if it has one of the forms.
-pub fn read(alloc: Global, line: &[u8]) -> Result<Option<Line>, AllocError> {
-    let Some(words) = line.strip_suffix(b"\n") else {
-        return Ok(None);
-    };
-    let fields: Vec<&[u8]> = words.split(|b| *b == b' ').collect(alloc)?;
-    Ok(meaning(&fields))
+pub fn read(line: &[u8]) -> Option<Line> {
+    let words = line.strip_suffix(b"\n")?;
+    let mut fields: ArrayVec<&[u8], MOST_FIELDS> = ArrayVec::new();
+    for field in words.split(|b| *b == b' ') {
+        fields.try_push(field).ok()?;
+    }
+    meaning(&fields)
 }

@@ -29,6 +29,8 @@ enum Comparison {
 const NAMES: [&str; 4] = ["points", "parts", "rows", "refused"];
 
 impl Comparison {
+    // Which count the comparison has.
+    // Kept: `usize::from` is no plainer at the one call, and a contract of it is a ghost member.
     fn number(self) -> usize
         ensures { result ≡ number_of self }
     {
@@ -138,17 +140,18 @@ fn case_after(case: Case, said: Option<Line>) -> Case
     }
 }
 
-fn take_lines(rt: &(impl Print + AllocGlobal), text: &[u8]) -> io::Result<()> {
+fn take_lines(rt: &impl Print, text: &[u8]) -> io::Result<()> {
     let mut tally = Tally::new();
     let mut case = case::start(geometry::Vec3::new(0.0, 0.0, 0.0));
     for (place, line) in Lines::new(text).enumerate() {
-        let said = line::read(rt.alloc(), line)?;
+        let said = line::read(line);
         judge_line(rt, &case, said, place.wrapping_add(1), &mut tally)?;
         case = case_after(case, said);
     }
     tally.report(rt, &NAMES)
 }
 
+// Kept: a main of its own, since the two calls are all that it is.
 fn main(rt: HostRuntime) -> io::Result<()> {
     let mut text = Vec::new(rt.alloc());
     rt.stdin().read_to_end(&mut text)?;

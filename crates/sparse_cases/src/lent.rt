@@ -1,12 +1,13 @@
 // The five slices: poisoned, one element of them set, and all elements answered. They are numbered from 0
 // in the order of the calls.
-ghost use Rattle.std.specs.Prelude.{◌≡◌, vec_len, IfOk};
-ghost use Rattle.sparse_cases.specs.Lent.{LentBy};
+ghost use Rattle.std.specs.Prelude.{◌≡◌, ◌≤◌, [], length, min, slice_set};
+ghost use Rattle.arrayvec.specs.ArrayVec.{array_vec_len};
+ghost use Rattle.sparse_cases.specs.Lent.{LentBy, Poked};
 
 use crate::elements::Element;
 use crate::output::Output;
-use cases::Numbers;
-use std::alloc::{AllocError, Global};
+use arrayvec::ArrayVec;
+use cases::{Answer, Numbers};
 use std::io;
 
 // The most elements of a slice, and of the store.
@@ -15,13 +16,13 @@ const MOST: usize = 1024;
 const MOST_STORED: usize = 8192;
 
 // The slices that a list lends.
-#[derive(Debug, Drop)]
+#[derive(Debug, Drop, PartialEq)]
 pub struct Slices {
-    pub kinds: Vec<u8>,
-    pub numbers: Vec<f64>,
-    pub places: Vec<u32>,
-    pub store: Vec<f64>,
-    pub corners: Vec<f64>,
+    pub kinds: ArrayVec<u8, MOST>,
+    pub numbers: ArrayVec<f64, MOST>,
+    pub places: ArrayVec<u32, MOST>,
+    pub store: ArrayVec<f64, MOST_STORED>,
+    pub corners: ArrayVec<f64, MOST>,
 }
 
 // The poison of a place: a number that follows from the seed.
@@ -32,73 +33,83 @@ fn mixed(seed: u64, at: usize) -> u64 {
     c ^ (c << 17)
 }
 
-// So many elements that belong to no job.
-fn poisoned<T: Element>(alloc: Global, count: usize, seed: u64) -> Result<Vec<T>, AllocError>
-    ensures { IfOk result (λ elements. vec_len elements ≡ count) }
+// So many elements that belong to no job, as far as there is room.
+fn poisoned<T: Element, const N: usize>(count: usize, seed: u64) -> ArrayVec<T, N>
+    ensures { array_vec_len result ≡ min count N }
 {
-    let mut elements = Vec::new(alloc);
-    for at in 0..count {
-        elements.push(T::poison(mixed(seed, at)))?;
+    let mut elements = ArrayVec::new();
+    for at in 0..count.min(N) {
+        elements.push(T::poison(mixed(seed, at)));
     }
-    Ok(elements)
+    elements
 }
 
 // Sets an element, if there is one at the place.
-fn set<T: Element>(elements: &mut [T], place: usize, n: u64) {
-    if let Some(element) = elements.get_mut(place) {
-        *element = T::of(n);
+fn set<T: Element>(elements: &mut [T], place: usize, n: u64)
+    ensures { elements.new ≡ slice_set elements.old place (T.element n) }
+{
+    // Kept: an index and no `get_mut`, of which the proof did not close.
+    if place < elements.len() {
+        elements[place] = T::of(n);
     }
 }
 
+// A line of elements.
+fn row_of<T: Element>(elements: &[T]) -> Answer
+    requires { length elements.now ≤ 160 }
+{
+    let mut row = Answer::new();
+    for element in elements {
+        row = row.number(element.number());
+    }
+    row
+}
+
 // Answers all elements, 160 to a line.
-fn answer<T: Element>(
-    rt: &(impl Print + AllocGlobal),
-    elements: &[T],
-    output: &mut Output,
-) -> io::Result<()> {
+fn answer<T: Element>(rt: &impl Print, elements: &[T], output: &mut Output) -> io::Result<()> {
     for row in elements.chunks(vectors::MOST_NUMBERS) {
-        let mut numbers = Vec::new(rt.alloc());
-        for element in row {
-            numbers.push(element.number())?;
-        }
-        output.take(rt, &numbers)?;
+        output.take(rt, &row_of(row).numbers)?;
     }
     Ok(())
 }
 
 impl Slices {
     // No elements.
-    pub fn new(alloc: Global) -> Slices {
+    pub fn new() -> Slices
+        ensures { LentBy [] result }
+    {
         Slices {
-            kinds: Vec::new(alloc),
-            numbers: Vec::new(alloc),
-            places: Vec::new(alloc),
-            store: Vec::new(alloc),
-            corners: Vec::new(alloc),
+            kinds: ArrayVec::new(),
+            numbers: ArrayVec::new(),
+            places: ArrayVec::new(),
+            store: ArrayVec::new(),
+            corners: ArrayVec::new(),
         }
     }
 
     // `lend KINDS NUMBERS PLACES STORE CORNERS SEED`: slices so long, each element a poison.
-    pub fn lent(alloc: Global, mut numbers: Numbers) -> Result<Slices, AllocError>
-        ensures { IfOk result (LentBy numbers.entry.left.now) }
+    pub fn lent(mut numbers: Numbers) -> Slices
+        ensures { LentBy numbers.entry.left.now result }
     {
-        let kinds = numbers.place().min(MOST);
-        let given = numbers.place().min(MOST);
-        let places = numbers.place().min(MOST);
-        let store = numbers.place().min(MOST_STORED);
-        let corners = numbers.place().min(MOST);
+        let kinds = numbers.place();
+        let given = numbers.place();
+        let places = numbers.place();
+        let store = numbers.place();
+        let corners = numbers.place();
         let seed = numbers.number();
-        Ok(Slices {
-            kinds: poisoned(alloc, kinds, seed)?,
-            numbers: poisoned(alloc, given, seed.wrapping_add(0x1000))?,
-            places: poisoned(alloc, places, seed.wrapping_add(0x2000))?,
-            store: poisoned(alloc, store, seed.wrapping_add(0x3000))?,
-            corners: poisoned(alloc, corners, seed.wrapping_add(0x6000))?,
-        })
+        Slices {
+            kinds: poisoned(kinds, seed),
+            numbers: poisoned(given, seed.wrapping_add(0x1000)),
+            places: poisoned(places, seed.wrapping_add(0x2000)),
+            store: poisoned(store, seed.wrapping_add(0x3000)),
+            corners: poisoned(corners, seed.wrapping_add(0x6000)),
+        }
     }
 
     // `poke SLICE PLACE VALUE`: sets one element.
-    pub fn poke(&mut self, mut numbers: Numbers) {
+    pub fn poke(&mut self, mut numbers: Numbers)
+        ensures { Poked numbers.entry.left.now self.old self.new }
+    {
         let slice = numbers.number();
         let place = numbers.place();
         let n = numbers.number();
@@ -113,7 +124,7 @@ impl Slices {
     }
 
     // Answers every element of the five slices.
-    pub fn dump(&self, rt: &(impl Print + AllocGlobal), output: &mut Output) -> io::Result<()> {
+    pub fn dump(&self, rt: &impl Print, output: &mut Output) -> io::Result<()> {
         answer(rt, &self.kinds, output)?;
         answer(rt, &self.numbers, output)?;
         answer(rt, &self.places, output)?;

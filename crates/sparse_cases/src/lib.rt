@@ -8,8 +8,7 @@ mod output; // output.rt: the answers of a list, as a digest or whole
 mod records; // records.rt: records and inputs, from and to numbers
 mod words; // words.rt: the words of the lines
 
-pub use elements::Element;
 pub use lent::Slices;
 pub use output::Output;
-pub use records::{RECORD_NUMBERS, input_of, put_counts, put_cursor, record_numbers, record_of};
+pub use records::{RECORD_NUMBERS, call_answer, input_of, record_numbers, record_of};
 pub use words::Word;

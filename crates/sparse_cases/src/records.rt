@@ -1,12 +1,15 @@
 // Records and inputs, from and to numbers. A record is its flag, its input, its lengths, its counts and
 // its cursor (a kind and three numbers). An input is GRID MIN MAX COUNT, 12 numbers, and five numbers
 // for each of 64 parts.
-use cases::{Answer, Numbers};
+ghost use Rattle.std.specs.Prelude.{◌≡◌, ◌+◌, ◌≤◌, ◌++◌, length};
+ghost use Rattle.sparse_cases.specs.Calls.{call_numbers, count_numbers, cursor_numbers};
+
+use cases::{Answer, Numbers, Written};
+use causes::Cause;
 use grid::GridCounts;
 use input::{Band, Input, Lengths};
 use model::{ImplicitModel, ModelComponent};
 use schedule::{Counts, Cursor, Job, Record};
-use std::alloc::{AllocError, Global};
 
 // How many numbers a record is.
 pub const RECORD_NUMBERS: usize = 347;
@@ -36,16 +39,6 @@ fn whole_input_of(numbers: &mut Numbers) -> Input {
         grid,
         band: Band { min, max },
         model: numbers.model(64, count),
-    }
-}
-
-fn lengths_of(numbers: &mut Numbers) -> Lengths {
-    Lengths {
-        kinds: numbers.place(),
-        numbers: numbers.place(),
-        places: numbers.place(),
-        store: numbers.place(),
-        corners: numbers.place(),
     }
 }
 
@@ -79,42 +72,58 @@ pub fn record_of(mut numbers: Numbers) -> Record {
         opened: numbers.number() != 0,
         job: Job {
             input: whole_input_of(&mut numbers),
-            lengths: lengths_of(&mut numbers),
+            lengths: numbers.lengths(),
             counts: counts_of(&mut numbers),
             cursor: cursor_of(&mut numbers),
         },
     }
 }
 
-fn put_input(input: Input, numbers: &mut Answer) -> Result<(), AllocError> {
-    numbers.grid(input.grid)?;
-    numbers.float(input.band.min)?;
-    numbers.float(input.band.max)?;
-    numbers.number(u64::from(input.model.count))?;
+// An input: its grid, its band, its count of parts, and its parts.
+fn put_input<const N: usize>(numbers: Written<N>, input: Input) -> Written<N>
+    requires { length numbers.numbers.items + 332 ≤ N }
+    ensures { length result.numbers.items ≡ length numbers.entry.numbers.items + 332 }
+{
+    let mut written = numbers
+        .grid(input.grid)
+        .float(input.band.min)
+        .float(input.band.max)
+        .number(u64::from(input.model.count));
     for component in input.model.parts {
-        numbers.part(component.part)?;
+        written = written.part(component.part);
     }
-    Ok(())
+    written
 }
 
-fn put_lengths(lengths: Lengths, numbers: &mut Answer) -> Result<(), AllocError> {
-    numbers.place(lengths.kinds)?;
-    numbers.place(lengths.numbers)?;
-    numbers.place(lengths.places)?;
-    numbers.place(lengths.store)?;
-    numbers.place(lengths.corners)
+fn put_lengths<const N: usize>(numbers: Written<N>, lengths: Lengths) -> Written<N>
+    requires { length numbers.numbers.items + 5 ≤ N }
+    ensures { length result.numbers.items ≡ length numbers.entry.numbers.items + 5 }
+{
+    numbers
+        .place(lengths.kinds)
+        .place(lengths.numbers)
+        .place(lengths.places)
+        .place(lengths.store)
+        .place(lengths.corners)
 }
 
-pub fn put_counts(counts: Counts, numbers: &mut Answer) -> Result<(), AllocError> {
-    numbers.number(counts.grid.nodes)?;
-    numbers.number(counts.grid.active)?;
-    numbers.number(counts.leaves)?;
-    numbers.number(counts.sampled)?;
-    numbers.number(counts.evaluations)
+fn put_counts<const N: usize>(numbers: Written<N>, counts: Counts) -> Written<N>
+    requires { length numbers.numbers.items + 5 ≤ N }
+    ensures { result.numbers.items ≡ numbers.entry.numbers.items ++ count_numbers counts }
+{
+    numbers
+        .number(counts.grid.nodes)
+        .number(counts.grid.active)
+        .number(counts.leaves)
+        .number(counts.sampled)
+        .number(counts.evaluations)
 }
 
 // A cursor: 0 is the end, 1 a corner, 2 a point; and its place.
-pub fn put_cursor(cursor: Cursor, numbers: &mut Answer) -> Result<(), AllocError> {
+fn put_cursor<const N: usize>(numbers: Written<N>, cursor: Cursor) -> Written<N>
+    requires { length numbers.numbers.items + 4 ≤ N }
+    ensures { result.numbers.items ≡ numbers.entry.numbers.items ++ cursor_numbers cursor }
+{
     let site = match cursor {
         Cursor::End => [0, 0, 0, 0],
         Cursor::Corner(a, b) => [1, a as u64, b as u64, 0],
@@ -123,13 +132,21 @@ pub fn put_cursor(cursor: Cursor, numbers: &mut Answer) -> Result<(), AllocError
     numbers.copied(&site)
 }
 
-pub fn record_numbers(alloc: Global, record: Record) -> Result<Vec<u64>, AllocError> {
+pub fn record_numbers(record: Record) -> [u64; RECORD_NUMBERS] {
     let job = record.job;
-    let mut numbers = Answer::new(alloc);
-    numbers.flag(record.opened)?;
-    put_input(job.input, &mut numbers)?;
-    put_lengths(job.lengths, &mut numbers)?;
-    put_counts(job.counts, &mut numbers)?;
-    put_cursor(job.cursor, &mut numbers)?;
-    Ok(numbers.numbers)
+    let opened: Written<RECORD_NUMBERS> = Written::new().flag(record.opened);
+    let input = put_input(opened, job.input);
+    let lengths = put_lengths(input, job.lengths);
+    let counts = put_counts(lengths, job.counts);
+    put_cursor(counts, job.cursor).whole()
+}
+
+// What a call answers: the refusal's number, the flag, the counts, whether the cursor is at the end, and
+// the cursor.
+pub fn call_answer<T: Copy>(done: Result<T, Cause>, opened: bool, job: &Job) -> Answer
+    ensures { result.numbers.items ≡ call_numbers done opened job.now.counts job.now.cursor }
+{
+    let counted = put_counts(Answer::outcome(done).flag(opened), job.counts);
+    let ended = counted.flag(matches!(job.cursor, Cursor::End));
+    put_cursor(ended, job.cursor)
 }

@@ -1,10 +1,8 @@
 // What a list of calls holds, and what its lines do with it.
-use cases::{Answer, Fault, Numbers};
+use cases::{Answer, Numbers};
 use model::{ModelComponent, Part};
-use schedule::Cursor;
 use sparse_cases::{Output, RECORD_NUMBERS, Slices, Word};
 use sparse_field::Outcome;
-use std::alloc::{AllocError, Global};
 use std::io;
 
 // The most parts that a line sets, and the last place of the first of them.
@@ -12,11 +10,11 @@ const MOST_PARTS: usize = 31;
 
 const LAST_PLACE: usize = 33;
 
-#[derive(Drop)]
+#[derive(Debug, Drop, PartialEq)]
 pub struct List {
     // The record that calls hand on. Kept: as numbers, since a line may forge any of them, also to what
     // no record says.
-    record: Vec<u64>,
+    record: [u64; RECORD_NUMBERS],
     // The parts of the next open.
     parts: [ModelComponent; 64],
     slices: Slices,
@@ -24,31 +22,29 @@ pub struct List {
 
 impl List {
     // What is held before the first list.
-    pub fn new(alloc: Global) -> Result<List, AllocError> {
-        Ok(List {
-            record: vec![in alloc; 0; RECORD_NUMBERS]?,
+    pub fn new() -> List {
+        List {
+            record: [0; RECORD_NUMBERS],
             parts: [ModelComponent {
                 part: Part::Constant(0.0),
             }; 64],
-            slices: Slices::new(alloc),
-        })
+            slices: Slices::new(),
+        }
     }
 
     // `lend KINDS NUMBERS PLACES STORE CORNERS SEED`: a new list, with a record that has no job and the
     // seed in every other field, and in every field of the parts.
-    fn lent(alloc: Global, numbers: Numbers) -> Result<List, AllocError> {
-        let slices = Slices::lent(alloc, numbers)?;
+    fn lent(numbers: Numbers) -> List {
+        let slices = Slices::lent(numbers);
         let seed = numbers.left.get(5).copied().unwrap_or(0);
-        let mut record = vec![in alloc; seed; RECORD_NUMBERS]?;
-        if let Some(opened) = record.first_mut() {
-            *opened = 0;
-        }
+        let mut record = [seed; RECORD_NUMBERS];
+        record[0] = 0;
         let part = Numbers::new(&[seed; 5]).part();
-        Ok(List {
+        List {
             record,
             parts: [ModelComponent { part }; 64],
             slices,
-        })
+        }
     }
 
     // `parts PLACE PART ..`: 31 parts of the next input from a place on. Those not given are constants
@@ -69,11 +65,11 @@ impl List {
 
     // `dump`: what the record says that its job was opened with, GRID MIN MAX COUNT and the lengths, and
     // every element of the slices.
-    fn dump(&self, rt: &(impl Print + AllocGlobal), output: &mut Output) -> io::Result<()> {
-        let head = self.record.iter().skip(1).take(12);
-        let lengths = self.record.iter().skip(333).take(5);
-        let opened: Vec<u64> = head.chain(lengths).copied().collect(rt.alloc())?;
-        output.take(rt, &opened)?;
+    fn dump(&self, rt: &impl Print, output: &mut Output) -> io::Result<()> {
+        let opened = Answer::new()
+            .copied(&self.record[1..13])
+            .copied(&self.record[333..338]);
+        output.take(rt, &opened.numbers)?;
         self.slices.dump(rt, output)
     }
 
@@ -122,24 +118,17 @@ impl List {
         )
     }
 
-    // Keeps the record that a call hands back, and answers the call: the refusal's number, the flag, the
-    // counts, whether the cursor is at the end, and the cursor.
-    fn keep(&mut self, alloc: Global, outcome: Outcome) -> Result<Answer, AllocError> {
+    // Keeps the record that a call hands back, and answers the call.
+    fn keep(&mut self, outcome: Outcome) -> Answer {
         let next = outcome.next;
-        let mut answer = Answer::new(alloc);
-        answer.outcome(outcome.answer)?;
-        answer.flag(next.opened)?;
-        sparse_cases::put_counts(next.job.counts, &mut answer)?;
-        answer.flag(matches!(next.job.cursor, Cursor::End))?;
-        sparse_cases::put_cursor(next.job.cursor, &mut answer)?;
-        self.record = sparse_cases::record_numbers(alloc, next)?;
-        Ok(answer)
+        self.record = sparse_cases::record_numbers(next);
+        sparse_cases::call_answer(outcome.answer, next.opened, &next.job)
     }
 
     // Does what a word says.
     pub fn take(
         &mut self,
-        rt: &(impl Print + AllocGlobal),
+        rt: &impl Print,
         word: Word,
         numbers: Numbers,
         output: &mut Output,
@@ -150,7 +139,7 @@ impl List {
             Word::Drop => self.drop_job(),
             Word::Dump => return self.dump(rt, output),
             Word::Lend => {
-                *self = List::lent(rt.alloc(), numbers)?;
+                *self = List::lent(numbers);
                 return Ok(());
             }
             Word::Parts => {
@@ -170,7 +159,7 @@ impl List {
                 return Ok(());
             }
         };
-        let answer = self.keep(rt.alloc(), outcome)?;
+        let answer = self.keep(outcome);
         output.take(rt, &answer.numbers)
     }
 }

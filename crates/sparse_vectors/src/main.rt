@@ -5,40 +5,33 @@
 
 mod list; // list.rt: what a list holds, and what its lines do with it
 
-use cases::{Fault, Numbers};
+use cases::{Line, Numbers};
 use list::List;
 use sparse_cases::{Output, Word};
-use std::alloc::Global;
 use std::io;
 use std::io::Read;
 use vectors::{Lines, OFF};
 
-// A line's word and its numbers.
-fn read(alloc: Global, text: &[u8]) -> Result<(Word, Vec<u64>), Fault> {
-    let line = cases::read_line(alloc, text)?;
-    let word = Word::named(line.word).ok_or(Fault::Off)?;
+// A line's word and its numbers, where so many may follow the word.
+fn read(text: &[u8]) -> Option<(Word, Line<'_>)> {
+    let line = cases::read_line(text)?;
+    let word = Word::named(line.word)?;
     if !word.takes(line.numbers.len()) {
-        return Err(Fault::Off);
+        return None;
     }
-    Ok((word, line.numbers))
+    Some((word, line))
 }
 
-fn take_line(
-    rt: &(impl Print + AllocGlobal),
-    text: &[u8],
-    list: &mut List,
-    output: &mut Output,
-) -> io::Result<()> {
-    match read(rt.alloc(), text) {
-        Ok((word, numbers)) => list.take(rt, word, Numbers::new(&numbers), output),
-        Err(Fault::Off) => output.take(rt, &[OFF]),
-        Err(Fault::NoMemory(e)) => Err(e.into()),
+fn take_line(rt: &impl Print, text: &[u8], list: &mut List, output: &mut Output) -> io::Result<()> {
+    match read(text) {
+        Some((word, line)) => list.take(rt, word, Numbers::new(&line.numbers), output),
+        None => output.take(rt, &[OFF]),
     }
 }
 
 // Takes all lines. A list ends before the next line that lends, and at the end of the text.
-fn take_lines(rt: &(impl Print + AllocGlobal), text: &[u8]) -> io::Result<()> {
-    let mut list = List::new(rt.alloc())?;
+fn take_lines(rt: &impl Print, text: &[u8]) -> io::Result<()> {
+    let mut list = List::new();
     let mut output = Output::new();
     for (place, line) in Lines::new(text).enumerate() {
         if place > 0 && line.starts_with(b"lend ") {
@@ -52,6 +45,7 @@ fn take_lines(rt: &(impl Print + AllocGlobal), text: &[u8]) -> io::Result<()> {
     output.close(rt)
 }
 
+// Kept: a main of its own, since the two calls are all that it is.
 fn main(rt: HostRuntime) -> io::Result<()> {
     let mut text = Vec::new(rt.alloc());
     rt.stdin().read_to_end(&mut text)?;

@@ -1,9 +1,12 @@
 // The numbers of a stored case, and those of its answer: at most 160 to a line, each 16 digits.
-ghost use Rattle.std.specs.Prelude.{◌≡◌, ◌+◌, ◌*◌, ◌≤◌, length, vec_len, IfOk, IfSome, OnSome};
+ghost use Rattle.std.specs.Prelude.{◌≡◌, ◌+◌, ◌*◌, ◌≤◌, length, IfSome, OnSome};
+ghost use Rattle.arrayvec.specs.ArrayVec.{array_vec_len};
+ghost use Rattle.vectors.specs.Digest.{with_bytes};
 
 use crate::digest::digest_with;
 use crate::numbers::hex16;
-use std::alloc::{AllocError, Global};
+use arrayvec::ArrayVec;
+use std::fmt::Write;
 use std::{fmt, io};
 
 // The answer to a line that is no case: a number that no call gives.
@@ -17,25 +20,19 @@ const WIDTH: usize = 17;
 
 // The numbers after a line's word, each a space and its digits, up to the line's byte 10. None where
 // the line is off its form.
-pub fn read_numbers(alloc: Global, rest: &[u8]) -> Result<Option<Vec<u64>>, AllocError>
-    ensures few { IfOk result (λ found. IfSome found (λ numbers. vec_len numbers ≤ 160)) }
-    ensures whole { IfOk result
-        (λ found. IfSome found (λ numbers. length rest.now ≡ 17 * vec_len numbers + 1)) }
+pub fn read_numbers(rest: &[u8]) -> Option<ArrayVec<u64, MOST_NUMBERS>>
+    ensures few { IfSome result (λ numbers. array_vec_len numbers ≤ 160) }
+    ensures whole { IfSome result (λ numbers. length rest.now ≡ 17 * array_vec_len numbers + 1) }
 {
-    let Some(fields) = rest.strip_suffix(b"\n") else {
-        return Ok(None);
-    };
+    let fields = rest.strip_suffix(b"\n")?;
     if fields.len() > WIDTH * MOST_NUMBERS {
-        return Ok(None);
+        return None;
     }
-    let mut numbers = Vec::new(alloc);
+    let mut numbers = ArrayVec::new();
     for field in fields.chunks(WIDTH) {
-        let Some(n) = field_number(field) else {
-            return Ok(None);
-        };
-        numbers.push(n)?;
+        numbers.push(field_number(field)?);
     }
-    Ok(Some(numbers))
+    Some(numbers)
 }
 
 // The number of a field, which has a space before its digits.
@@ -49,7 +46,7 @@ fn field_number(field: &[u8]) -> Option<u64>
 }
 
 // The numbers of an answer, with single spaces between.
-#[derive(Clone, Copy)]
+#[derive(Clone, Copy, Debug, PartialEq, Eq)]
 struct Numbers<'a>(&'a [u64]);
 
 impl fmt::Display for Numbers<'_> {
@@ -70,9 +67,23 @@ pub fn write_numbers(rt: &impl Print, numbers: &[u64]) -> io::Result<()> {
     println!(rt; "{line}")
 }
 
+// The digest of what was written.
+#[derive(Clone, Copy, Debug, PartialEq, Eq)]
+struct Digest(u64);
+
+impl fmt::Write for Digest {
+    ghost write_str_gives = { λ s bytes t. t.0 ≡ with_bytes s.0 bytes };
+
+    fn write_str(&mut self, s: &str) -> fmt::Result {
+        self.0 = digest_with(self.0, s.as_bytes());
+        Ok(())
+    }
+}
+
 // The digest of a text whose digest so far is known, and of the line that `write_numbers` would write.
-pub fn digest_numbers(alloc: Global, digest: u64, numbers: &[u64]) -> Result<u64, AllocError> {
+pub fn digest_numbers(digest: u64, numbers: &[u64]) -> u64 {
     let line = Numbers(numbers);
-    let text = format!(in alloc; "{line}\n")?;
-    Ok(digest_with(digest, text.as_bytes()))
+    let mut sum = Digest(digest);
+    let _ = writeln!(sum, "{line}");
+    sum.0
 }

@@ -1,10 +1,9 @@
 -- Lane 3 of the row is the point.
-use Rattle.std.proofs.Common.{◌≡◌, ℕ, min, Float, List, length, get_or, ap, ◌∙◌, arith, rules}
+use Rattle.std.proofs.Common.{◌≡◌, min, Float, List, length, get_or, ap, ◌∙◌, arith, rules}
 use Rattle.lists.proofs.Filling.{get_or_filled}
 use Rattle.geometry.specs.declared.Vec3.{Vec3}
 use Rattle.geometry.specs.declared.PointRow.{PointRow}
 use Rattle.geometry.specs.PointRow.{point_in}
-use Rattle.model.specs.Part.{past}
 use Rattle.model.specs.Model.{parts_in, parts_value}
 use Rattle.model.specs.Row.{model_row}
 use Rattle.model.specs.declared.ImplicitModel.{ImplicitModel}
