@@ -4,6 +4,7 @@ ghost use Rattle.cases.specs.Answer.{Given};
 
 use crate::bits::set_bit;
 use cases::{Answer, Numbers};
+use grid::Axis;
 
 // Kept: the cases here, in `points` and in `pruning` have few shapes among them, and each is a call of
 // its own, which a reader finds by its word.
@@ -62,10 +63,16 @@ pub fn axis(mut numbers: Numbers) -> Answer
     let n = numbers.short();
     let i = numbers.place();
     let child = numbers.place();
+    let axis = Axis {
+        least,
+        most,
+        size: s,
+        n,
+    };
     Answer::accepted()
         .float(grid::node_least(least, s, i))
         .float(grid::node_most(least, s, i))
-        .flag(grid::axis_active(least, most, s, n, i, child))
+        .flag(axis.is_active(i, child))
 }
 
 // `child GRID V C`: a child's box, and whether it is active.

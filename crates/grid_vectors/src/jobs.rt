@@ -2,6 +2,7 @@
 ghost use Rattle.cases.specs.Answer.{Given};
 
 use cases::{Answer, Numbers};
+use grid::SizedGrid;
 use input::{Band, Input};
 use model::{ImplicitModel, ModelComponent, Part};
 
@@ -49,8 +50,11 @@ pub fn open(mut numbers: Numbers) -> Answer
     };
     match input::open_refusal(&input, numbers.lengths()) {
         Err(cause) => Answer::refused(cause),
-        Ok(()) => Answer::accepted()
-            .place(grid::node_total(input.grid))
-            .number(grid::active_children(input.grid)),
+        Ok(()) => {
+            let grid = SizedGrid { grid: input.grid };
+            Answer::accepted()
+                .place(grid.nodes())
+                .number(grid.active_children())
+        }
     }
 }

@@ -25,8 +25,8 @@ enum Comparison {
     Refusals,
 }
 
-// The comparisons' names, in that order.
-const NAMES: [&str; 4] = ["points", "parts", "rows", "refused"];
+// The comparisons' names, in that order. Parts are called flat, as where they were two flat arrays.
+const NAMES: [&str; 4] = ["points", "flat", "rows", "refused"];
 
 impl Comparison {
     // Which count the comparison has.

@@ -1,5 +1,5 @@
-// Records and inputs, from and to numbers. A record is its flag, its input, its lengths, its counts and
-// its cursor (a kind and three numbers). An input is GRID MIN MAX COUNT, 12 numbers, and five numbers
+// Records and inputs, from and to numbers. A record is its flag and its job: the input, the lengths, the
+// counts and the cursor (a kind and three numbers). An input is GRID MIN MAX COUNT, 12 numbers, and five numbers
 // for each of 64 parts.
 ghost use Rattle.std.specs.Prelude.{◌≡◌, ◌+◌, ◌≤◌, ◌++◌, length};
 ghost use Rattle.sparse_cases.specs.Calls.{call_numbers, count_numbers, cursor_numbers};
@@ -9,7 +9,7 @@ use causes::Cause;
 use grid::GridCounts;
 use input::{Band, Input, Lengths};
 use model::{ImplicitModel, ModelComponent};
-use schedule::{Counts, Cursor, Job, Record};
+use schedule::{Counts, Cursor, Job};
 
 // How many numbers a record is.
 pub const RECORD_NUMBERS: usize = 347;
@@ -67,15 +67,13 @@ fn cursor_of(numbers: &mut Numbers) -> Cursor {
     }
 }
 
-pub fn record_of(mut numbers: Numbers) -> Record {
-    Record {
-        opened: numbers.number() != 0,
-        job: Job {
-            input: whole_input_of(&mut numbers),
-            lengths: numbers.lengths(),
-            counts: counts_of(&mut numbers),
-            cursor: cursor_of(&mut numbers),
-        },
+// The job of a record, from the numbers after its flag.
+pub fn job_of(mut numbers: Numbers) -> Job {
+    Job {
+        input: whole_input_of(&mut numbers),
+        lengths: numbers.lengths(),
+        counts: counts_of(&mut numbers),
+        cursor: cursor_of(&mut numbers),
     }
 }
 
@@ -132,9 +130,9 @@ fn put_cursor<const N: usize>(numbers: Written<N>, cursor: Cursor) -> Written<N>
     numbers.copied(&site)
 }
 
-pub fn record_numbers(record: Record) -> [u64; RECORD_NUMBERS] {
-    let job = record.job;
-    let opened: Written<RECORD_NUMBERS> = Written::new().flag(record.opened);
+// The numbers of a record with this flag. A record without a job has fields too, which may be forged.
+pub fn record_numbers(opened: bool, job: &Job) -> [u64; RECORD_NUMBERS] {
+    let opened: Written<RECORD_NUMBERS> = Written::new().flag(opened);
     let input = put_input(opened, job.input);
     let lengths = put_lengths(input, job.lengths);
     let counts = put_counts(lengths, job.counts);

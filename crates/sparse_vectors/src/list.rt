@@ -1,8 +1,9 @@
 // What a list of calls holds, and what its lines do with it.
 use cases::{Answer, Numbers};
+use causes::Cause;
 use model::{ModelComponent, Part};
-use sparse_cases::{Output, RECORD_NUMBERS, Slices, Word};
-use sparse_field::Outcome;
+use schedule::{Job, Slices};
+use sparse_cases::{Output, RECORD_NUMBERS, Slices as Lent, Word};
 use std::io;
 
 // The most parts that a line sets, and the last place of the first of them.
@@ -17,7 +18,18 @@ pub struct List {
     record: [u64; RECORD_NUMBERS],
     // The parts of the next open.
     parts: [ModelComponent; 64],
-    slices: Slices,
+    slices: Lent,
+}
+
+// The five slices, as a call takes them.
+fn lend(lent: &mut Lent) -> Slices<'_> {
+    Slices {
+        kinds: &mut lent.kinds,
+        numbers: &mut lent.numbers,
+        places: &mut lent.places,
+        store: &mut lent.store,
+        corners: &mut lent.corners,
+    }
 }
 
 impl List {
@@ -28,14 +40,14 @@ impl List {
             parts: [ModelComponent {
                 part: Part::Constant(0.0),
             }; 64],
-            slices: Slices::new(),
+            slices: Lent::new(),
         }
     }
 
     // `lend KINDS NUMBERS PLACES STORE CORNERS SEED`: a new list, with a record that has no job and the
     // seed in every other field, and in every field of the parts.
     fn lent(numbers: Numbers) -> List {
-        let slices = Slices::lent(numbers);
+        let slices = Lent::lent(numbers);
         let seed = numbers.left.get(5).copied().unwrap_or(0);
         let mut record = [seed; RECORD_NUMBERS];
         record[0] = 0;
@@ -73,56 +85,58 @@ impl List {
         self.slices.dump(rt, output)
     }
 
+    // The job in the record's numbers, whatever its flag says.
+    fn job(&self) -> Job {
+        sparse_cases::job_of(Numbers::new(&self.record[1..]))
+    }
+
+    // The record that a call takes.
+    fn found(&self) -> Option<Job> {
+        if self.record[0] != 0 {
+            Some(self.job())
+        } else {
+            None
+        }
+    }
+
+    // Keeps the record that a call leaves, and answers the call. Refused, it leaves the fields of a record
+    // without a job as they are; a drop makes them 0.
+    fn keep(&mut self, done: Result<(), Cause>, left: Option<Job>) -> Answer {
+        let opened = left.is_some();
+        let job = match left {
+            Some(job) => job,
+            None => {
+                if done.is_ok() {
+                    self.record = [0; RECORD_NUMBERS];
+                }
+                self.job()
+            }
+        };
+        self.record = sparse_cases::record_numbers(opened, &job);
+        sparse_cases::call_answer(done, opened, &job)
+    }
+
     // `open GRID MIN MAX COUNT`
-    fn open(&mut self, mut numbers: Numbers) -> Outcome {
-        let found = sparse_cases::record_of(Numbers::new(&self.record));
+    fn open(&mut self, mut numbers: Numbers) -> Answer {
+        let mut record = self.found();
         let input = sparse_cases::input_of(&mut numbers, self.parts);
-        let lent = &mut self.slices;
-        sparse_field::open(
-            found,
-            input,
-            &mut lent.kinds,
-            &mut lent.numbers,
-            &mut lent.places,
-            &mut lent.store,
-            &mut lent.corners,
-        )
+        let done = sparse_field::open(&mut record, input, &mut lend(&mut self.slices));
+        self.keep(done, record)
     }
 
     // `step BUDGET`
-    fn step(&mut self, mut numbers: Numbers) -> Outcome {
-        let found = sparse_cases::record_of(Numbers::new(&self.record));
-        let lent = &mut self.slices;
-        sparse_field::step(
-            found,
-            numbers.number(),
-            &mut lent.kinds,
-            &mut lent.numbers,
-            &mut lent.places,
-            &mut lent.store,
-            &mut lent.corners,
-        )
+    fn step(&mut self, mut numbers: Numbers) -> Answer {
+        let mut record = self.found();
+        let budget = numbers.number();
+        let done = sparse_field::step(&mut record, budget, &mut lend(&mut self.slices));
+        self.keep(done, record)
     }
 
     // `drop`
-    fn drop_job(&mut self) -> Outcome {
-        let found = sparse_cases::record_of(Numbers::new(&self.record));
-        let lent = &mut self.slices;
-        sparse_field::drop(
-            found,
-            &mut lent.kinds,
-            &mut lent.numbers,
-            &mut lent.places,
-            &mut lent.store,
-            &mut lent.corners,
-        )
-    }
-
-    // Keeps the record that a call hands back, and answers the call.
-    fn keep(&mut self, outcome: Outcome) -> Answer {
-        let next = outcome.next;
-        self.record = sparse_cases::record_numbers(next);
-        sparse_cases::call_answer(outcome.answer, next.opened, &next.job)
+    fn drop_job(&mut self) -> Answer {
+        let mut record = self.found();
+        sparse_field::drop(&mut record, &mut lend(&mut self.slices));
+        self.keep(Ok(()), record)
     }
 
     // Does what a word says.
@@ -133,7 +147,7 @@ impl List {
         numbers: Numbers,
         output: &mut Output,
     ) -> io::Result<()> {
-        let outcome = match word {
+        let answer = match word {
             Word::Open => self.open(numbers),
             Word::Step => self.step(numbers),
             Word::Drop => self.drop_job(),
@@ -159,7 +173,6 @@ impl List {
                 return Ok(());
             }
         };
-        let answer = self.keep(outcome);
         output.take(rt, &answer.numbers)
     }
 }

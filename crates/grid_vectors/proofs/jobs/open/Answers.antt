@@ -1,12 +1,9 @@
 -- `open` asks for nodes and active children only where open accepts the job.
 use Rattle.std.proofs.Common.{sym, ◌∙◌}
-use Rattle.grid_vectors.proofs.Accepted.{blocks_right, nodes_right, nodes_fit}
+use Rattle.input.proofs.Clear.{clear}
 use Rattle.grid_vectors.proofs.jobs.open.Goals as goal
 
-pub node_total-requires : goal.node_total-requires
-node_total-requires c = nodes_fit _ _ (sym c.in-Ok.is ∙ c.open_refusal.ensures)
-
-pub active_children-requires : goal.active_children-requires
-active_children-requires c =
-    let none = sym c.in-Ok.is ∙ c.open_refusal.ensures in
-    (blocks_right _ _ none, nodes_right _ _ none)
+pub invariant_of-grid : goal.invariant_of-grid
+invariant_of-grid c =
+    let none = clear _ _ (sym c.open_refusal.ensures ∙ c.in-Ok.is) in
+    record { two = none.two; five = none.five }
