@@ -79,11 +79,11 @@ pub fn leaf_from(
 
 // Decides the child at a visit's place. An active child becomes a constant or a leaf, and the answer is
 // the box of a leaf.
-fn decide_at(task: Task, visit: Visit, slices: &mut Slices) -> Option<BoundingBox>
-    requires { Decidable task visit (held slices.old) }
+fn decide_at(task: &Task, visit: Visit, slices: &mut Slices) -> Option<BoundingBox>
+    requires { Decidable task.now visit (held slices.old) }
     ensures slices { SameSlices slices.old slices.new }
-    ensures answer { result ≡ leaf_box task visit (held slices.old) }
-    ensures memory { held slices.new ≡ decided task visit (held slices.old) }
+    ensures answer { result ≡ leaf_box task.now visit (held slices.old) }
+    ensures memory { held slices.new ≡ decided task.now visit (held slices.old) }
 {
     let n = task.grid.grid.inner;
     let c = visit.place;
@@ -112,17 +112,11 @@ fn decide_at(task: Task, visit: Visit, slices: &mut Slices) -> Option<BoundingBo
 
 // The child at a visit's place: it is decided, and the points of a leaf are evaluated while the budget
 // lasts.
-fn run_child(
-    task: Task,
-    visit: Visit,
-    model: &ImplicitModel,
-    scratch: &mut [f64; 4096],
-    slices: &mut Slices,
-) -> Progress
-    requires within { (visit.bounds ≡ node_box task.grid.grid visit.node) × (visit.place < cube task.grid.grid.inner) }
-    requires ready { Ready (plan task model.now) visit.node visit.place visit.leaves (held slices.old) }
+fn run_child(task: &Task, visit: Visit, scratch: &mut [f64; 4096], slices: &mut Slices) -> Progress
+    requires within { (visit.bounds ≡ node_box task.now.grid.grid visit.node) × (visit.place < cube task.now.grid.grid.inner) }
+    requires ready { Ready (plan task.now) visit.node visit.place visit.leaves (held slices.old) }
     ensures slices { SameSlices slices.old slices.new }
-    ensures advanced { ChildrenAdvanced (plan task model.now) visit.node visit.place (visit.place + 1) visit.left visit.leaves
+    ensures advanced { ChildrenAdvanced (plan task.now) visit.node visit.place (visit.place + 1) visit.left visit.leaves
         (held slices.old) (held slices.new) result }
     ensures corners { (held slices.new).corners ≡ (held slices.old).corners }
 {
@@ -141,7 +135,7 @@ fn run_child(
         left: visit.left,
     };
     leaf_from(
-        model,
+        task.model,
         child,
         task.grid.grid.leaf,
         leaf,
@@ -152,16 +146,15 @@ fn run_child(
 
 // The children of a node, from the one at a visit's place on.
 pub fn run_children(
-    task: Task,
+    task: &Task,
     visit: Visit,
-    model: &ImplicitModel,
     scratch: &mut [f64; 4096],
     slices: &mut Slices,
 ) -> Progress
-    requires within { (visit.bounds ≡ node_box task.grid.grid visit.node) × (visit.place ≤ cube task.grid.grid.inner) }
-    requires ready { Ready (plan task model.now) visit.node visit.place visit.leaves (held slices.old) }
+    requires within { (visit.bounds ≡ node_box task.now.grid.grid visit.node) × (visit.place ≤ cube task.now.grid.grid.inner) }
+    requires ready { Ready (plan task.now) visit.node visit.place visit.leaves (held slices.old) }
     ensures slices { SameSlices slices.old slices.new }
-    ensures advanced { ChildrenAdvanced (plan task model.now) visit.node visit.place (cube task.grid.grid.inner) visit.left visit.leaves
+    ensures advanced { ChildrenAdvanced (plan task.now) visit.node visit.place (cube task.now.grid.grid.inner) visit.left visit.leaves
         (held slices.old) (held slices.new) result }
     ensures corners { (held slices.new).corners ≡ (held slices.old).corners }
 {
@@ -177,7 +170,7 @@ pub fn run_children(
             left: done.left,
             ..visit
         };
-        done = run_child(task, child, model, scratch, slices);
+        done = run_child(task, child, scratch, slices);
         if done.stop.is_some() {
             return done;
         }

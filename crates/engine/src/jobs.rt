@@ -28,6 +28,7 @@ pub fn run_job(input: &Input, at: Standing, slices: &mut Slices) -> Progress
     let task = Task {
         grid: SizedGrid { grid: input.grid },
         band: input.band,
+        model: &input.model,
     };
-    nodes::run_from(task, at, &input.model, &mut scratch, slices)
+    nodes::run_from(&task, at, &mut scratch, slices)
 }

@@ -5,6 +5,7 @@
 use geometry::BoundingBox;
 use grid::SizedGrid;
 use input::Band;
+use model::ImplicitModel;
 use schedule::Cursor;
 
 mod children; // children.rt: a node's children, decided in order
@@ -13,11 +14,12 @@ mod nodes; // nodes.rt: node after node, from a cursor on
 
 pub use jobs::run_job;
 
-// What the work is about, beside its model: the grid, which causes 2 and 5 have let through, and the band.
-#[derive(Clone, Copy, Debug, PartialEq)]
-pub struct Task {
+// What the work is about: the grid, which causes 2 and 5 have let through, the band, and the model.
+#[derive(Clone, Copy)]
+pub struct Task<'a> {
     pub grid: SizedGrid,
     pub band: Band,
+    pub model: &'a ImplicitModel,
 }
 
 // Where a job goes on: its cursor, the leaves so far, and the budget that is left.

@@ -19,20 +19,19 @@ use schedule::{Cursor, Slices};
 
 // A node's corners, from one on.
 fn run_corners(
-    task: Task,
+    task: &Task,
     visit: CornerVisit,
-    model: &ImplicitModel,
     scratch: &mut [f64; 4096],
     slices: &mut Slices,
 ) -> Progress
-    requires within { (visit.corner ≤ cube (task.grid.grid.inner + 1)) }
-    requires ready { Ready (plan task model.now) visit.node 0 visit.leaves (held slices.old) }
+    requires within { (visit.corner ≤ cube (task.now.grid.grid.inner + 1)) }
+    requires ready { Ready (plan task.now) visit.node 0 visit.leaves (held slices.old) }
     ensures slices { SameSlices slices.old slices.new }
-    ensures advanced { Advanced (plan task model.now) visit.left visit.leaves (held slices.old) (held slices.new)
-        (events_from (plan task model.now) (Corner visit.node visit.corner) (reading_in (held slices.old)))
-        (children_left (plan task model.now) visit.node 0 (reading_in (held slices.new))) result
-        (active_before (plan task model.now) visit.node 0) }
-    ensures behind { SameBehind (cube (task.grid.grid.inner + 1)) (held slices.old).corners (held slices.new).corners }
+    ensures advanced { Advanced (plan task.now) visit.left visit.leaves (held slices.old) (held slices.new)
+        (events_from (plan task.now) (Corner visit.node visit.corner) (reading_in (held slices.old)))
+        (children_left (plan task.now) visit.node 0 (reading_in (held slices.new))) result
+        (active_before (plan task.now) visit.node 0) }
+    ensures behind { SameBehind (cube (task.now.grid.grid.inner + 1)) (held slices.old).corners (held slices.new).corners }
 {
     let bounds = grid::node_box(task.grid.grid, visit.node);
     let children = task.grid.node_children();
@@ -45,7 +44,7 @@ fn run_corners(
         kinds: &kinds[first..first + children],
     };
     let end = rows::run_corners(
-        model,
+        task.model,
         bounds,
         &node,
         visit.corner,
@@ -67,25 +66,24 @@ fn run_corners(
 
 // The points of a leaf, from one on.
 fn run_points(
-    task: Task,
+    task: &Task,
     leaf: LeafVisit,
-    model: &ImplicitModel,
     scratch: &mut [f64; 4096],
     slices: &mut Slices,
 ) -> Progress
-    requires within { (leaf.child < cube task.grid.grid.inner) × (leaf.point ≤ cube task.grid.grid.leaf) × (0 < leaf.leaves) }
-    requires ready { Ready (plan task model.now) leaf.node (leaf.child + 1) leaf.leaves (held slices.old) }
+    requires within { (leaf.child < cube task.now.grid.grid.inner) × (leaf.point ≤ cube task.now.grid.grid.leaf) × (0 < leaf.leaves) }
+    requires ready { Ready (plan task.now) leaf.node (leaf.child + 1) leaf.leaves (held slices.old) }
     ensures slices { SameSlices slices.old slices.new }
-    ensures advanced { Advanced (plan task model.now) leaf.left leaf.leaves (held slices.old) (held slices.new)
-        (events_from (plan task model.now) (Point leaf.node leaf.child leaf.point) (reading_in (held slices.old)))
-        (children_left (plan task model.now) leaf.node (leaf.child + 1) (reading_in (held slices.new))) result
-        (active_before (plan task model.now) leaf.node (leaf.child + 1)) }
+    ensures advanced { Advanced (plan task.now) leaf.left leaf.leaves (held slices.old) (held slices.new)
+        (events_from (plan task.now) (Point leaf.node leaf.child leaf.point) (reading_in (held slices.old)))
+        (children_left (plan task.now) leaf.node (leaf.child + 1) (reading_in (held slices.new))) result
+        (active_before (plan task.now) leaf.node (leaf.child + 1)) }
     ensures corners { (held slices.new).corners ≡ (held slices.old).corners }
 {
     let g = task.grid.grid;
     let bounds = grid::node_box(g, leaf.node);
     let child = grid::child_box(bounds, g.inner, leaf.child);
-    children::leaf_from(model, child, g.leaf, leaf, scratch, slices.store)
+    children::leaf_from(task.model, child, g.leaf, leaf, scratch, slices.store)
 }
 
 // Clears the corners up to `used`, where the others are +0 already: then all are.
@@ -99,21 +97,20 @@ fn clear_corners(used: usize, corners: &mut [f64])
 // A node's children from one on. Past the last the corners up to `used` are cleared; the others are +0
 // already.
 fn finish_node(
-    task: Task,
+    task: &Task,
     visit: Visit,
     used: usize,
-    model: &ImplicitModel,
     scratch: &mut [f64; 4096],
     slices: &mut Slices,
 ) -> Progress
-    requires within { (visit.bounds ≡ node_box task.grid.grid visit.node) × (visit.place ≤ cube task.grid.grid.inner) }
-    requires ready { Ready (plan task model.now) visit.node visit.place visit.leaves (held slices.old) }
+    requires within { (visit.bounds ≡ node_box task.now.grid.grid visit.node) × (visit.place ≤ cube task.now.grid.grid.inner) }
+    requires ready { Ready (plan task.now) visit.node visit.place visit.leaves (held slices.old) }
     requires clean { CleanBehind used (held slices.old).corners }
     ensures slices { SameSlices slices.old slices.new }
-    ensures node { NodeAdvanced (plan task model.now) visit.node visit.left visit.leaves (held slices.old) (held slices.new)
-        (children_left (plan task model.now) visit.node visit.place (reading_in (held slices.old))) result }
+    ensures node { NodeAdvanced (plan task.now) visit.node visit.left visit.leaves (held slices.old) (held slices.new)
+        (children_left (plan task.now) visit.node visit.place (reading_in (held slices.old))) result }
 {
-    let done = children::run_children(task, visit, model, scratch, slices);
+    let done = children::run_children(task, visit, scratch, slices);
     if done.stop.is_none() {
         clear_corners(used, slices.corners);
     }
@@ -122,21 +119,20 @@ fn finish_node(
 
 // A node from one of its corners on.
 fn run_from_corner(
-    task: Task,
+    task: &Task,
     visit: CornerVisit,
     used: usize,
-    model: &ImplicitModel,
     scratch: &mut [f64; 4096],
     slices: &mut Slices,
 ) -> Progress
-    requires within { (visit.corner ≤ cube (task.grid.grid.inner + 1)) }
-    requires ready { Ready (plan task model.now) visit.node 0 visit.leaves (held slices.old) }
-    requires clean { (cube (task.grid.grid.inner + 1) ≤ used) × CleanBehind used (held slices.old).corners }
+    requires within { (visit.corner ≤ cube (task.now.grid.grid.inner + 1)) }
+    requires ready { Ready (plan task.now) visit.node 0 visit.leaves (held slices.old) }
+    requires clean { (cube (task.now.grid.grid.inner + 1) ≤ used) × CleanBehind used (held slices.old).corners }
     ensures slices { SameSlices slices.old slices.new }
-    ensures node { NodeAdvanced (plan task model.now) visit.node visit.left visit.leaves (held slices.old) (held slices.new)
-        (events_from (plan task model.now) (Corner visit.node visit.corner) (reading_in (held slices.old))) result }
+    ensures node { NodeAdvanced (plan task.now) visit.node visit.left visit.leaves (held slices.old) (held slices.new)
+        (events_from (plan task.now) (Corner visit.node visit.corner) (reading_in (held slices.old))) result }
 {
-    let came = run_corners(task, visit, model, scratch, slices);
+    let came = run_corners(task, visit, scratch, slices);
     if came.stop.is_some() {
         return came;
     }
@@ -147,26 +143,25 @@ fn run_from_corner(
         leaves: came.leaves,
         left: came.left,
     };
-    finish_node(task, visit, used, model, scratch, slices)
+    finish_node(task, visit, used, scratch, slices)
 }
 
 // A node from a point of one of its leaves on.
 fn run_from_point(
-    task: Task,
+    task: &Task,
     leaf: LeafVisit,
     used: usize,
-    model: &ImplicitModel,
     scratch: &mut [f64; 4096],
     slices: &mut Slices,
 ) -> Progress
-    requires within { (leaf.child < cube task.grid.grid.inner) × (leaf.point ≤ cube task.grid.grid.leaf) × (0 < leaf.leaves) }
-    requires ready { Ready (plan task model.now) leaf.node (leaf.child + 1) leaf.leaves (held slices.old) }
+    requires within { (leaf.child < cube task.now.grid.grid.inner) × (leaf.point ≤ cube task.now.grid.grid.leaf) × (0 < leaf.leaves) }
+    requires ready { Ready (plan task.now) leaf.node (leaf.child + 1) leaf.leaves (held slices.old) }
     requires clean { CleanBehind used (held slices.old).corners }
     ensures slices { SameSlices slices.old slices.new }
-    ensures node { NodeAdvanced (plan task model.now) leaf.node leaf.left leaf.leaves (held slices.old) (held slices.new)
-        (events_from (plan task model.now) (Point leaf.node leaf.child leaf.point) (reading_in (held slices.old))) result }
+    ensures node { NodeAdvanced (plan task.now) leaf.node leaf.left leaf.leaves (held slices.old) (held slices.new)
+        (events_from (plan task.now) (Point leaf.node leaf.child leaf.point) (reading_in (held slices.old))) result }
 {
-    let came = run_points(task, leaf, model, scratch, slices);
+    let came = run_points(task, leaf, scratch, slices);
     if came.stop.is_some() {
         return came;
     }
@@ -177,24 +172,23 @@ fn run_from_point(
         leaves: came.leaves,
         left: came.left,
     };
-    finish_node(task, visit, used, model, scratch, slices)
+    finish_node(task, visit, used, scratch, slices)
 }
 
 // The nodes from one on, after work that has gone so far; if it has stopped already, none. Each clears
 // its own corners.
 fn run_nodes(
-    task: Task,
+    task: &Task,
     first: usize,
     so_far: Progress,
-    model: &ImplicitModel,
     scratch: &mut [f64; 4096],
     slices: &mut Slices,
 ) -> Progress
-    requires within { (first ≤ nodes_of task.grid.grid) }
-    requires ready { NodesReady (plan task model.now) first so_far (held slices.old) }
+    requires within { (first ≤ nodes_of task.now.grid.grid) }
+    requires ready { NodesReady (plan task.now) first so_far (held slices.old) }
     ensures slices { SameSlices slices.old slices.new }
-    ensures continued { Continued (plan task model.now) so_far (held slices.old) (held slices.new)
-        (nodes_left (plan task model.now) first) [] result (active_all (plan task model.now)) }
+    ensures continued { Continued (plan task.now) so_far (held slices.old) (held slices.new)
+        (nodes_left (plan task.now) first) [] result (active_all (plan task.now)) }
 {
     let own = task.grid.node_corners();
     let mut done = so_far;
@@ -208,7 +202,7 @@ fn run_nodes(
             leaves: done.leaves,
             left: done.left,
         };
-        done = run_from_corner(task, visit, own, model, scratch, slices);
+        done = run_from_corner(task, visit, own, scratch, slices);
     }
     done
 }
@@ -216,17 +210,16 @@ fn run_nodes(
 // What is left from where a job stands. Its first node clears all corners that are lent, which may hold
 // anything.
 pub fn run_from(
-    task: Task,
+    task: &Task,
     at: Standing,
-    model: &ImplicitModel,
     scratch: &mut [f64; 4096],
     slices: &mut Slices,
 ) -> Progress
-    requires standable { Standable (plan task model.now) at (held slices.old) }
+    requires standable { Standable (plan task.now) at (held slices.old) }
     ensures slices { SameSlices slices.old slices.new }
-    ensures advanced { Advanced (plan task model.now) at.left at.leaves (held slices.old) (held slices.new)
-        (events_from (plan task model.now) at.cursor (reading_in (held slices.old))) [] result
-        (active_all (plan task model.now)) }
+    ensures advanced { Advanced (plan task.now) at.left at.leaves (held slices.old) (held slices.new)
+        (events_from (plan task.now) at.cursor (reading_in (held slices.old))) [] result
+        (active_all (plan task.now)) }
 {
     let leaves = at.leaves;
     let left = at.left;
@@ -244,8 +237,8 @@ pub fn run_from(
                 leaves,
                 left,
             };
-            let done = run_from_corner(task, visit, all, model, scratch, slices);
-            run_nodes(task, node + 1, done, model, scratch, slices)
+            let done = run_from_corner(task, visit, all, scratch, slices);
+            run_nodes(task, node + 1, done, scratch, slices)
         }
         Cursor::Point(node, child, point) => {
             let leaf = LeafVisit {
@@ -255,8 +248,8 @@ pub fn run_from(
                 leaves,
                 left,
             };
-            let done = run_from_point(task, leaf, all, model, scratch, slices);
-            run_nodes(task, node + 1, done, model, scratch, slices)
+            let done = run_from_point(task, leaf, all, scratch, slices);
+            run_nodes(task, node + 1, done, scratch, slices)
         }
     }
 }

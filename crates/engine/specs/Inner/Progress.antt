@@ -12,7 +12,6 @@ use Rattle.engine.specs.declared.Task.{Task}
 use Rattle.schedule.specs.declared.Cursor.{Cursor}
 use Rattle.schedule.specs.declared.Cursor.TheVariants.{Point}
 use Rattle.plans.specs.Plan.{plan_with, decide_by}
-use Rattle.model.specs.declared.ImplicitModel.{ImplicitModel}
 use Rattle.rows.specs.Inner.ModelValue.{model_at}
 use Rattle.engine.specs.Inner.Runs.{Run, run_of}
 
@@ -20,8 +19,8 @@ use Rattle.engine.specs.Inner.Runs.{Run, run_of}
 abbrev pub plan_by : Task → (Float → Float → Float → Float) → Plan
 plan_by task value = plan_with task.grid.grid (decide_by task.band) value
 
-abbrev pub plan : Task → ImplicitModel → Plan
-plan task m = plan_by task (model_at m)
+abbrev pub plan : Task → Plan
+plan task = plan_by task (model_at task.model.now)
 
 -- slices that cause 6 does not refuse, with kinds as rule R8 wants them
 pub record Lent (P : Plan) (m : Memory) : Type 0 where

@@ -12,5 +12,5 @@ invariant-loop-place l =
     × (l.place ≤ cube l.fn.task.grid.grid.inner)
     × SameSlices l.fn.slices l.slices
     × ((held l.slices).corners ≡ (held l.fn.slices).corners)
-    × ChildrenAdvanced (plan l.fn.task l.fn.model) l.fn.visit.node l.fn.visit.place l.place l.fn.visit.left l.fn.visit.leaves
+    × ChildrenAdvanced (plan l.fn.task) l.fn.visit.node l.fn.visit.place l.place l.fn.visit.left l.fn.visit.leaves
     (held l.fn.slices) (held l.slices) l.done

@@ -14,6 +14,6 @@ pub returns-then-is_none-clause-node : goal.returns-then-is_none-clause-node
 unfolding plan_with
 returns-then-is_none-clause-node c =
     let a = c.args in
-    turn_clear (plan a.task a.model.now) a.visit.node a.visit.left a.visit.leaves a.visit.place (held a.slices.now)
+    turn_clear (plan a.task.now) a.visit.node a.visit.left a.visit.leaves a.visit.place (held a.slices.now)
     (held c.run_children-done.new.slices) c.run_children-done.result c.run_children-done.ensures.advanced
     (none_stop c.if-is_none.ensures) c.clear_corners.ensures

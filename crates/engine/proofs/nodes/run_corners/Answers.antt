@@ -10,25 +10,25 @@ use Rattle.engine.proofs.nodes.run_corners.Goals as goal
 
 pub overflow_mul-first : goal.overflow_mul-first
 unfolding plan_with
-overflow_mul-first c = omega (arith, part_few c.args.task.grid.grid c.args.visit.node (sized c.args.task.grid) c.requires.ready.node c.node_children-children.ensures.is)
+overflow_mul-first c = omega (arith, part_few c.args.task.now.grid.grid c.args.visit.node (sized c.args.task.now.grid) c.requires.ready.node c.node_children-children.ensures.is)
 
 pub overflow_add-node : goal.overflow_add-node
 unfolding plan_with
-overflow_add-node c = omega (arith, part_few c.args.task.grid.grid c.args.visit.node (sized c.args.task.grid) c.requires.ready.node c.node_children-children.ensures.is)
+overflow_add-node c = omega (arith, part_few c.args.task.now.grid.grid c.args.visit.node (sized c.args.task.now.grid) c.requires.ready.node c.node_children-children.ensures.is)
 
 pub slice_bounds-node-end : goal.slice_bounds-node-end
 unfolding plan_with
 slice_bounds-node-end c =
-    part_inside c.args.task.grid.grid c.args.visit.node (sized c.args.task.grid) c.requires.ready.node c.node_children-children.ensures.is _ c.requires.ready.lent.kinds
+    part_inside c.args.task.now.grid.grid c.args.visit.node (sized c.args.task.now.grid) c.requires.ready.node c.node_children-children.ensures.is _ c.requires.ready.lent.kinds
 
 pub invariant_of-node : goal.invariant_of-node
 unfolding plan_with
 invariant_of-node c =
     let n = c.node_children-children.result in
-    let inside = part_inside c.args.task.grid.grid c.args.visit.node (sized c.args.task.grid) c.requires.ready.node c.node_children-children.ensures.is _ c.requires.ready.lent.kinds in
+    let inside = part_inside c.args.task.now.grid.grid c.args.visit.node (sized c.args.task.now.grid) c.requires.ready.node c.node_children-children.ensures.is _ c.requires.ready.lent.kinds in
     record {
-      some = (sized c.args.task.grid).inner_least;
-      few = (sized c.args.task.grid).inner_most;
+      some = (sized c.args.task.now.grid).inner_least;
+      few = (sized c.args.task.now.grid).inner_most;
       whole = part_long (held c.args.slices.now).kinds (c.args.visit.node * n) n inside ∙ c.node_children-children.ensures.is;
     }
 
@@ -39,26 +39,26 @@ run_corners-end-requires c = (c.requires.ready.lent.corners, c.requires.within)
 pub returns-then-end-node_corners-clause-advanced : goal.returns-then-end-node_corners-clause-advanced
 returns-then-end-node_corners-clause-advanced c =
     let a = c.args in
-    node_at_corner a.task.grid.grid (decide_by a.task.band) (model_at a.model.now) a.visit.node a.visit.corner a.visit.left a.visit.leaves
+    node_at_corner a.task.now.grid.grid (decide_by a.task.now.band) (model_at a.task.now.model.now) a.visit.node a.visit.corner a.visit.left a.visit.leaves
     (held a.slices.now) c.requires.ready c.node_children-children.result c.node_children-children.ensures.is c.node_box-bounds.ensures c.run_corners-end.ensures
     (omega (arith, c.node_corners.ensures.is, c.if-end-node_corners.true))
 
 pub returns-then-end-node_corners-clause-behind : goal.returns-then-end-node_corners-clause-behind
 returns-then-end-node_corners-clause-behind c =
     let a = c.args in
-    node_past a.task.grid.grid (decide_by a.task.band) (model_at a.model.now) a.visit.node a.visit.corner a.visit.left a.visit.leaves
+    node_past a.task.now.grid.grid (decide_by a.task.now.band) (model_at a.task.now.model.now) a.visit.node a.visit.corner a.visit.left a.visit.leaves
     (held a.slices.now) c.requires.ready c.node_children-children.result c.node_children-children.ensures.is c.node_box-bounds.ensures c.run_corners-end.ensures
 
 pub returns-else-end-node_corners-clause-advanced : goal.returns-else-end-node_corners-clause-advanced
 returns-else-end-node_corners-clause-advanced c =
     let a = c.args in
-    node_past_corners a.task.grid.grid (decide_by a.task.band) (model_at a.model.now) a.visit.node a.visit.corner a.visit.left a.visit.leaves
+    node_past_corners a.task.now.grid.grid (decide_by a.task.now.band) (model_at a.task.now.model.now) a.visit.node a.visit.corner a.visit.left a.visit.leaves
     (held a.slices.now) c.requires.ready c.node_children-children.result c.node_children-children.ensures.is c.node_box-bounds.ensures c.run_corners-end.ensures
-    (plan_laws_lem a.task.grid.grid a.task.band (model_at a.model.now) (sized c.args.task.grid).inner_least)
+    (plan_laws_lem a.task.now.grid.grid a.task.now.band (model_at a.task.now.model.now) (sized c.args.task.now.grid).inner_least)
     (omega (arith, c.node_corners.ensures.is, c.if-end-node_corners.false))
 
 pub returns-else-end-node_corners-clause-behind : goal.returns-else-end-node_corners-clause-behind
 returns-else-end-node_corners-clause-behind c =
     let a = c.args in
-    node_past a.task.grid.grid (decide_by a.task.band) (model_at a.model.now) a.visit.node a.visit.corner a.visit.left a.visit.leaves
+    node_past a.task.now.grid.grid (decide_by a.task.now.band) (model_at a.task.now.model.now) a.visit.node a.visit.corner a.visit.left a.visit.leaves
     (held a.slices.now) c.requires.ready c.node_children-children.result c.node_children-children.ensures.is c.node_box-bounds.ensures c.run_corners-end.ensures

@@ -14,7 +14,7 @@ use Rattle.engine.proofs.nodes.run_from.Goals as goal
 pub run_from_corner-done-requires-clause-within : goal.run_from_corner-done-requires-clause-within
 unfolding plan_with
 run_from_corner-done-requires-clause-within c =
-    let here = known_start (plan c.args.task c.args.model.now) c.args.at c.in-Corner.is c.requires.standable in
+    let here = known_start (plan c.args.task.now) c.args.at c.in-Corner.is c.requires.standable in
     here.1
 
 pub run_from_corner-done-requires-clause-clean : goal.run_from_corner-done-requires-clause-clean
@@ -30,31 +30,31 @@ run_from_corner-done-requires-clause-clean c = (
 pub overflow_add-node : goal.overflow_add-node
 unfolding plan_with
 overflow_add-node c =
-    let here = known_start (plan c.args.task c.args.model.now) c.args.at c.in-Corner.is c.requires.standable in
-    omega (arith, here.0, nodes_few c.args.task.grid.grid (sized c.args.task.grid))
+    let here = known_start (plan c.args.task.now) c.args.at c.in-Corner.is c.requires.standable in
+    omega (arith, here.0, nodes_few c.args.task.now.grid.grid (sized c.args.task.now.grid))
 
 pub run_nodes-requires-clause-within : goal.run_nodes-requires-clause-within
 unfolding plan_with
 run_nodes-requires-clause-within c =
-    let here = known_start (plan c.args.task c.args.model.now) c.args.at c.in-Corner.is c.requires.standable in
+    let here = known_start (plan c.args.task.now) c.args.at c.in-Corner.is c.requires.standable in
     omega (arith, here.0)
 
 pub run_from_point-done-requires-clause-within : goal.run_from_point-done-requires-clause-within
 unfolding plan_with
 run_from_point-done-requires-clause-within c =
-    let here = known_start (plan c.args.task c.args.model.now) c.args.at c.in-Point.is c.requires.standable in
+    let here = known_start (plan c.args.task.now) c.args.at c.in-Point.is c.requires.standable in
     (here.1, here.2, here.3)
 
 pub run_nodes-requires-in-Point-clause-within : goal.run_nodes-requires-in-Point-clause-within
 unfolding plan_with
 run_nodes-requires-in-Point-clause-within c =
-    let here = known_start (plan c.args.task c.args.model.now) c.args.at c.in-Point.is c.requires.standable in
+    let here = known_start (plan c.args.task.now) c.args.at c.in-Point.is c.requires.standable in
     omega (arith, here.0)
 
 pub returns-in-End-clause-advanced : goal.returns-in-End-clause-advanced
 returns-in-End-clause-advanced c =
     let a = c.args in
     let m = held a.slices.now in
-    let P = plan a.task a.model.now in
+    let P = plan a.task.now in
     subst (λ x. Advanced P a.at.left a.at.leaves m m (events_from P x (reading_in m)) _ (progress a.at.leaves a.at.left _) (active_all P)) (sym c.in-End.is)
     (at_end_lem P a.at.left a.at.leaves m c.requires.standable.lent c.requires.standable.few)

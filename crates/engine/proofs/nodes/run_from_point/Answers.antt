@@ -5,4 +5,4 @@ use Rattle.engine.proofs.Sizes.{sized}
 use Rattle.engine.proofs.nodes.run_from_point.Goals as goal
 
 pub overflow_add-visit : goal.overflow_add-visit
-overflow_add-visit c = omega (arith, c.requires.within.0, cube_le 64 c.args.task.grid.grid.inner (sized c.args.task.grid).inner_most)
+overflow_add-visit c = omega (arith, c.requires.within.0, cube_le 64 c.args.task.now.grid.grid.inner (sized c.args.task.now.grid).inner_most)

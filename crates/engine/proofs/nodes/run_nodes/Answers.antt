@@ -39,7 +39,7 @@ pub loop-node-preserved : goal.loop-node-preserved
 unfolding plan_with
 loop-node-preserved c =
     let l = c.loop-node in
-    let P = plan c.args.task c.args.model.now in
+    let P = plan c.args.task.now in
     let now = held c.run_from_corner-done.new.slices in
     let done = c.run_from_corner-done in
     let through = none_stop (sym c.if-is_some.ensures) in
@@ -55,5 +55,5 @@ pub returns-clause-continued : goal.returns-clause-continued
 unfolding plan_with
 returns-clause-continued c =
     let l = c.loop-node in
-    let all : l.node ≡ (plan c.args.task c.args.model.now).nodes = omega (arith, c.loop-node-test.false, c.nodes-node-end.ensures.is, l.invariant.0) in
-    continued_end (plan c.args.task c.args.model.now) l.node all l.invariant.3
+    let all : l.node ≡ (plan c.args.task.now).nodes = omega (arith, c.loop-node-test.false, c.nodes-node-end.ensures.is, l.invariant.0) in
+    continued_end (plan c.args.task.now) l.node all l.invariant.3

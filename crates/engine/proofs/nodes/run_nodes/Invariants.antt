@@ -10,7 +10,7 @@ use Rattle.engine.proofs.nodes.run_nodes.Given as goal
 
 abbrev pub invariant-loop-node : goal.invariant-loop-node
 invariant-loop-node l =
-    let P = plan l.fn.task l.fn.model in
+    let P = plan l.fn.task in
     (l.node ≤ nodes_of l.fn.task.grid.grid)
     × SameSlices l.fn.slices l.slices
     × NodesReady P l.node l.done (held l.slices)
