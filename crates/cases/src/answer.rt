@@ -19,6 +19,7 @@ pub struct Written<const N: usize> {
 // An answer has as many numbers as a line has room for.
 pub type Answer = Written<MOST_NUMBERS>;
 
+// Kept: each asks for the room that it takes, which the written numbers leave or not.
 impl<const N: usize> Written<N> {
     pub fn new() -> Self
         ensures { result.numbers.items ≡ [] }

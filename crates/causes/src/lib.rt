@@ -37,6 +37,7 @@ pub enum Cause {
 
 impl Cause {
     // The number by which callers know the cause.
+    // Kept: `u32::from(cause)` says less at the calls.
     pub fn number(self) -> u32
         ensures { result ≡ number_of self }
     {

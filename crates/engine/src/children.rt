@@ -1,5 +1,7 @@
 // A node's children, in order: each active one is decided, and a leaf's points are evaluated into
 // the stretch of the store that is its own (rule S8).
+// Kept: contracts ask the same of memory and visit, at the moment of the call. A type that held it would
+// hold the lent slices, and be made anew after each child.
 ghost use Rattle.std.specs.Prelude.{◌≡◌, ◌+◌, ◌-◌, ◌*◌, ◌≤◌, ◌<◌, min, length};
 ghost use Rattle.lists.specs.Filled.{filled};
 ghost use Rattle.grid.specs.Blocks.{cube};

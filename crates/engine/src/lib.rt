@@ -15,7 +15,8 @@ mod nodes; // nodes.rt: node after node, from a cursor on
 pub use jobs::run_job;
 
 // What the work is about: the grid, which causes 2 and 5 have let through, the band, and the model.
-#[derive(Clone, Copy)]
+// Kept: no derived equality, as a model has none.
+#[derive(Clone, Copy, Debug)]
 pub struct Task<'a> {
     pub grid: SizedGrid,
     pub band: Band,

@@ -1,5 +1,6 @@
 // A job's work from a cursor on, while the budget lasts: the corners or points at the cursor, then the
 // node's children, then the next node.
+// Kept: contracts ask the same of memory and visit, as in children.rt.
 ghost use Rattle.std.specs.Prelude.{◌≡◌, [], ◌+◌, ◌≤◌, ◌<◌, length, replicate};
 ghost use Rattle.float.specs.Zero.{plus_zero};
 ghost use Rattle.grid.specs.Blocks.{cube};

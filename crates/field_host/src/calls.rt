@@ -1,6 +1,7 @@
 // Open, step and drop of a sparse field's job, on a record in four arrays and five lent slices. Each
 // answers 0 where it was accepted, and the number of the cause that refused it. A refused call changes
 // no array and no slice.
+// Kept: the parameters, arrays with a count beside them too, are what C lends.
 ghost use Rattle.std.specs.Prelude.{◌≡◌};
 ghost use Rattle.schedule.specs.Calls.{opens, steps, drops};
 ghost use Rattle.schedule.specs.Lent.{memory_of};

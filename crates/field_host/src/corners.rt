@@ -1,4 +1,5 @@
 // The corners that a node's active children need.
+// Kept: the parameters, arrays with a count beside them too, are what C lends.
 ghost use Rattle.std.specs.Prelude.{◌≡◌, length};
 ghost use Rattle.grid.specs.CornerList.{corner_list_of, HoldsCorners};
 ghost use Rattle.field_host.specs.Answers.{outcome_number, corners_count};

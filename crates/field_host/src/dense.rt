@@ -1,4 +1,5 @@
 // The dense field's calls. Each answers the number of the cause that refused it, and 0 for none.
+// Kept: the parameters, arrays with a count beside them too, are what C lends.
 ghost use Rattle.std.specs.Prelude.{◌≡◌, cond, map, is_ok, length, replicate};
 ghost use Rattle.float.specs.Zero.{plus_zero};
 ghost use Rattle.geometry.specs.Values.{vec3, vec3i};

@@ -1,4 +1,5 @@
 // A box, a model and a job's input, from numbers.
+// Kept: arrays of fixed size with a count beside them, as C lends them.
 ghost use Rattle.std.specs.Prelude.{◌≡◌, ◌<◌};
 ghost use Rattle.model.specs.Flat.{flat_in, part_from};
 ghost use Rattle.field_host.specs.Given.{input_lent, box_given, box_in, part_coded, component_given, model_given};

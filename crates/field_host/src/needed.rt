@@ -1,4 +1,5 @@
 // How long the slices of a job have to be.
+// Kept: the parameters, arrays with a count beside them too, are what C lends.
 ghost use Rattle.std.specs.Prelude.{◌≡◌};
 ghost use Rattle.field_host.specs.Given.{input_lent};
 ghost use Rattle.field_host.specs.Needed.{any_refusal, lengths_left};

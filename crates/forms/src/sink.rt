@@ -52,6 +52,7 @@ impl Sink for Count {
 }
 
 // A lent slice, and the place of the next byte.
+// Kept: Drop alone, since no two can hold the same `&mut`.
 #[derive(Drop)]
 pub struct Cursor<'a> {
     pub out: &'a mut [u8],

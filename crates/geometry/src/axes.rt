@@ -1,4 +1,5 @@
 // An axis that is cut into steps.
+// Kept: two ends and a count, and no struct of them, which each caller would make for one call.
 ghost use Rattle.std.specs.Prelude.{◌≡◌};
 ghost use Rattle.geometry.specs.Axis.{step_along, along, along_end};
 

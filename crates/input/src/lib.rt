@@ -12,8 +12,8 @@ pub use needed::needed_lengths;
 pub use refusals::open_refusal;
 
 // What a job is made from.
-// Kept: a model has neither Debug nor PartialEq, so that this has none.
-#[derive(Clone, Copy)]
+// Kept: no derived equality, as a model has none.
+#[derive(Clone, Copy, Debug)]
 pub struct Input {
     pub grid: Grid,
     pub band: Band,

@@ -16,8 +16,8 @@ pub use reader::read_job;
 pub const LIMIT: u64 = 4294967295;
 
 // The input that a text spells, and the bits of each constant as they are written.
-// Kept: Clone and Copy alone, as what it holds has no equality (model::ImplicitModel).
-#[derive(Clone, Copy)]
+// Kept: no derived equality, as a model has none.
+#[derive(Clone, Copy, Debug)]
 pub struct Job {
     pub input: Input,
     pub patterns: [u64; 64],

@@ -19,7 +19,7 @@ pub trait Text {
 }
 
 // A line by its form.
-#[derive(Clone, Copy)]
+#[derive(Clone, Copy, Debug, PartialEq, Eq)]
 pub struct Line<'a> {
     pub form: &'a [u8],
     pub numbers: &'a [u64],

@@ -103,6 +103,7 @@ pub fn write_refusal(number: u32, out: &mut [u8]) -> Result<usize, Unlisted>
 }
 
 // Writes the line of a text that is off its form at a line.
+// Kept: beside `write_refusal`, another form; one function of the form would be `text::write` again.
 pub fn write_off(line: u32, out: &mut [u8]) -> Result<usize, Unlisted>
     ensures answer { result ≡ put_answer (spell off_form (line ∷ [])) out.old }
     ensures out { out.new ≡ put_bytes (spell off_form (line ∷ [])) out.old }

@@ -40,7 +40,7 @@ pub struct ModelComponent {
 // A model is its first `count` parts.
 // Kept: an array with its count, since an engine has no heap and the parts past the count go along in a record.
 // Kept: no derived equality, which would compare the parts past the count too.
-#[derive(Clone, Copy)]
+#[derive(Clone, Copy, Debug)]
 pub struct ImplicitModel {
     pub parts: [ModelComponent; 64],
     pub count: u32,

@@ -5,8 +5,8 @@ ghost use Rattle.model_vectors.specs.Case.{longer, started, with_part};
 use geometry::Vec3;
 use model::{ImplicitModel, ModelComponent, Part};
 
-// Kept: without Debug and PartialEq, which a model does not have.
-#[derive(Clone, Copy)]
+// Kept: no derived equality, as a model has none.
+#[derive(Clone, Copy, Debug)]
 pub struct Case {
     pub point: Vec3,
     pub model: ImplicitModel,

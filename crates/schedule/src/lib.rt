@@ -30,7 +30,8 @@ pub enum Cursor {
 
 // A job: its input, the lengths of the slices that it was opened with, its counts and its cursor
 // (rule R1).
-#[derive(Clone, Copy)]
+// Kept: no derived equality, as a model has none.
+#[derive(Clone, Copy, Debug)]
 pub struct Job {
     pub input: Input,
     pub lengths: Lengths,

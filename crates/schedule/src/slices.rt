@@ -7,6 +7,7 @@ use input::Lengths;
 
 // Five slices, to be written (rule S1). They are the lender's: a call that takes them leaves the same
 // five.
+// Kept: Drop alone, since no two can hold the same `&mut`.
 #[derive(Drop)]
 pub struct Slices<'a> {
     pub kinds: &'a mut [u8],
