@@ -47,32 +47,18 @@ use Rattle.field_host.specs.Hosted.{left_by, carried_after, hosted}
 use Rattle.field_host.specs.Demand as demand
 use Rattle.field_host.specs.Demand.{HostDemandThree, HostDropLeavesZeros, HostEqualBudgets, HostFinishedField, HostLeavesNumbered}
 use Rattle.field_host.specs.HostLists.{HostCall, opens_with, steps_by, drops_all, call_of, Station, answer_of, on_station, engine_at}
-use Rattle.field_host.proofs.RecordBack.{job_back, none_back}
+use Rattle.field_host.proofs.RecordBack.{Codable, record_back}
 use Rattle.field_host.proofs.Unread.{no_flag}
 
 -- ---- inputs that arrays carry
 
--- an input of 64 parts whose block sizes and part count have 32 bits
-record Codable (i : Input) : Type 0 where
-  inner : i.grid.inner < 4294967296
-  leaf : i.grid.leaf < 4294967296
-  count : i.model.count < 4294967296
-  long : length i.model.parts ≡ 64
-
-back : (j : Job) → Codable j.input → decoded (encoded (Some j)) ≡ Some j
-back j c = job_back j c.inner c.leaf c.count c.long
-
 -- an input without a cause
-no_cause_codable : (i : Input) (l : Lengths) → sparse.answer l i ≡ Ok tt → length i.model.parts ≡ 64 → Codable i
+no_cause_codable : (i : Input) (l : Lengths) → sparse.answer l i ≡ Ok tt → length i.model.parts ≡ 64
+    → (i.grid.inner < 4294967296) × (i.grid.leaf < 4294967296) × (i.model.count < 4294967296) × (length i.model.parts ≡ 64)
 no_cause_codable i l none long =
     let free = nothing i l none in
     let size = sized i free in
-    record {
-      inner = omega (arith, size.inner_most);
-      leaf = omega (arith, size.leaf_most);
-      count = omega (arith, count_le i.model free.four);
-      long = long;
-    }
+    (omega (arith, size.inner_most), omega (arith, size.leaf_most), omega (arith, count_le i.model free.four), long)
 
 given_long : (s : List Float) (inner leaf : ℕ) (l : Flat) (count : ℕ) → length (input_given s inner leaf l count).model.parts ≡ 64
 unfolding input_given
@@ -125,13 +111,13 @@ module _ (s : Station) where
   unfolding left_by
   refused_on cause = record { answer = cause_back cause; next = refl }
 
-  accepted_on : (j : Job) (x : Memory) → Codable j.input → HandedOn (accepted_with (record { job = Some j; memory = x }))
+  accepted_on : (j : Job) (x : Memory) → Codable (Some j) → HandedOn (accepted_with (record { job = Some j; memory = x }))
   unfolding left_by
-  accepted_on j x c = record { answer = refl; next = back j c }
+  accepted_on j x c = record { answer = refl; next = record_back (Some j) c }
 
   dropped_on : (x : Memory) → HandedOn (accepted_with (record { job = None; memory = x }))
   unfolding left_by
-  dropped_on x = record { answer = refl; next = none_back }
+  dropped_on x = record { answer = refl; next = record_back None tt }
 
   open_on : (i : Input) → length i.model.parts ≡ 64 → HandedOn (called (opens i) found m)
   unfolding engine_call engine_open advanced

@@ -21,7 +21,7 @@ use Rattle.model.specs.Flat.{code_of, first_input, second_input, vector_of, numb
 use Rattle.model.proofs.EntryRows.{first_row, row_entry}
 use Rattle.schedule.specs.declared.Cursor.{Cursor}
 use Rattle.schedule.specs.declared.Cursor.TheVariants.{End, Corner, Point}
-use Rattle.std.specs.Prelude.{Some, None}
+use Rattle.std.specs.Prelude.{Option, Some, None}
 use Rattle.schedule.specs.declared.Job.{Job}
 use Rattle.field_host.specs.Given.{part_coded, part_given, component_given, input_given}
 use Rattle.field_host.specs.Carried.{cursor_tag, cursor_node, cursor_place, cursor_point, cursor_of, words_of, fits, decoded, encoded}
@@ -95,28 +95,28 @@ tag_below (Point v c p) = omega arith
 
 -- ---- the record
 
-module _ (j : Job) (inner : j.input.grid.inner < 4294967296) (leaf : j.input.grid.leaf < 4294967296)
-    (count : j.input.model.count < 4294967296) (long : length j.input.model.parts ≡ 64) where
-  pub fits_encoded : fits (words_of j) ≡ true
-  unfolding fits
-  fits_encoded = simp (lt-ltb _ _ inner, lt-ltb _ _ leaf, lt-ltb _ _ count, lt-ltb _ _ (tag_below j.cursor))
+-- a record of 64 parts whose block sizes and part count have 32 bits
+abbrev pub Codable : Option Job → Type 0
+Codable None = Unit {0}
+Codable (Some j) =
+    (j.input.grid.inner < 4294967296) × (j.input.grid.leaf < 4294967296) × (j.input.model.count < 4294967296) × (length j.input.model.parts ≡ 64)
 
-  pub job_back : decoded (encoded (Some j)) ≡ Some j
-  unfolding encoded decoded input_given
-  job_back =
-      rw fits_encoded
-      (λ i. Some (record {
-        input = record {
-          grid = j.input.grid;
-          band = j.input.band;
-          model = record { parts = parts_back j.input.model.parts long i; count = j.input.model.count };
-        };
-        lengths = j.lengths;
-        counts = j.counts;
-        cursor = cursor_back j.cursor i;
-      }))
+fits_encoded : (j : Job) → Codable (Some j) → fits (words_of j) ≡ true
+unfolding fits
+fits_encoded j c = simp (lt-ltb _ _ c.0, lt-ltb _ _ c.1, lt-ltb _ _ c.2, lt-ltb _ _ (tag_below j.cursor))
 
--- without a job
-pub none_back : decoded (encoded None) ≡ None
-unfolding encoded decoded
-none_back = refl
+pub record_back : (r : Option Job) → Codable r → decoded (encoded r) ≡ r
+unfolding encoded decoded input_given
+record_back None c = refl
+record_back (Some j) c =
+    rw (fits_encoded j c)
+    (λ i. Some (record {
+      input = record {
+        grid = j.input.grid;
+        band = j.input.band;
+        model = record { parts = parts_back j.input.model.parts c.3 i; count = j.input.model.count };
+      };
+      lengths = j.lengths;
+      counts = j.counts;
+      cursor = cursor_back j.cursor i;
+    }))

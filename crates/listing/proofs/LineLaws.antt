@@ -92,6 +92,14 @@ module _ (points v c kind : ℕ) where
       by false true = omega (arith, leaf_front_most v c)
       by false false = omega (arith, constant_most v c)
 
+  pub leaf_length_lem : (kind ≡ 0 → ⊥) → kind ≡ 2 → kind_length points v c kind ≡ leaf_length points v c
+  unfolding kind_length
+  leaf_length_lem some is = rw (ne_eqb kind 0 some, eq-eqb kind 2 is)
+
+  pub constant_length_lem : (kind ≡ 0 → ⊥) → (kind ≡ 2 → ⊥) → kind_length points v c kind ≡ constant_length v c
+  unfolding kind_length
+  constant_length_lem some other = rw (ne_eqb kind 0 some, ne_eqb kind 2 other)
+
   module _ (nan : ℕ) (x : Float) (place : ℕ) (store : List Float) where
     pub no_line : kind ≡ 0 → kind_line points nan v c kind x place store ≡ []
     unfolding kind_line

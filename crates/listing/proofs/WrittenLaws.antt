@@ -17,11 +17,11 @@ use Rattle.schedule.proofs.Possible.{possible}
 use Rattle.schedule.specs.declared.Cursor.{Cursor}
 use Rattle.schedule.specs.declared.Cursor.TheVariants.{End, Corner, Point}
 use Rattle.schedule.specs.declared.Job.{Job}
-use Rattle.std.specs.Prelude.{Some}
+use Rattle.std.specs.Prelude.{Some, None}
 use Rattle.plans.specs.Plan.{plan_with}
 use Rattle.plans.specs.Sparse.{sparse}
 use Rattle.input.proofs.Clear.{clear}
-use Rattle.causes.specs.declared.Cause.TheVariants.{ImpossibleRecord}
+use Rattle.causes.specs.declared.Cause.TheVariants.{NoJob, ImpossibleRecord}
 use Rattle.listing.specs.declared.unlisted.Unlisted.TheVariants.{Refused, NotPrintable}
 use Rattle.listing.specs.Inner.Lengths.{Sizes}
 use Rattle.listing.specs.Listing.{line_at, listing_to, listing}
@@ -111,7 +111,11 @@ module _ (j : Job) (nan : ℕ) (m : Memory) (out : List ℕ) where
         let holds = sym placed_as ∙ is in
         listed_whole (rw (end, holds)) ∙ ap (λ bs. put_listing bs out) (sym listing_as)
 
--- ---- a record with a job
+-- ---- a record without a job, and one with a job
+
+pub no_job_lem : (nan : ℕ) (m : Memory) (out : List ℕ) → written None nan m out ≡ refused_put (Refused NoJob) out
+unfolding written
+no_job_lem nan m out = refl
 
 module _ (j : Job) (nan : ℕ) (m : Memory) (out : List ℕ) where
   pub judged_impossible : impossible sparse j m ≡ true → written (Some j) nan m out ≡ refused_put (Refused ImpossibleRecord) out
