@@ -1,5 +1,7 @@
 // A part's values at a row of points, one loop for each kind of part, each loop over lanes that do not depend on each
-// other. Each fills one row, and an operation reads the rows of earlier parts.
+// other. Each fills the row that it is lent, and an operation reads the rows of earlier parts.
+// Kept: what reads points asks for a row of 64 lanes at most, as `PointRow` has no more. A type that says so would be a
+// struct of one slice with a ghost field, made anew for each part, and every loop and root would reach through it.
 ghost use Rattle.std.specs.Prelude.{◌≡◌, ◌≤◌, length, get_or};
 ghost use Rattle.std.specs.Float.{binary64};
 ghost use Rattle.std.specs.Float.Ieee.{sub, neg};

@@ -1,4 +1,7 @@
-// The values of parts at a row of points, part by part: part p's value at lane i stands at p * 64 + i.
+// The values of parts at a row of points, part by part: part p's value at lane i stands at p * 64 + i. A part's row
+// is lent behind the rows of the parts before it.
+// Kept: a row of points goes with the number of them that is used, here and in the public calls. `PointRow` is public
+// and says no number: with one in it, whoever makes a row would owe that it is 64 at most, which no call asks.
 ghost use Rattle.std.specs.Prelude.{◌≡◌, ◌*◌, ◌≤◌, ◌<◌, length, map, get_or};
 ghost use Rattle.lists.specs.Tabulate.{tabulate};
 ghost use Rattle.geometry.specs.PointRow.{point_in};
@@ -6,9 +9,9 @@ ghost use Rattle.model.specs.Part.{past, part_in, part_value, placed};
 ghost use Rattle.model.specs.Row.{evaluated_rows};
 ghost use Rattle.model.specs.Inner.Lanes.{lane_at, lane};
 
-use super::lanes::row_of;
+use super::lanes::{fill_neg, fill_plane, fill_sphere, fill_two, row_of};
 use super::refusals::inputs_below;
-use super::{ModelComponent, Part, lanes};
+use super::{ModelComponent, Part};
 use float::{Add, Max, Min, Sub};
 use geometry::PointRow;
 
@@ -37,29 +40,13 @@ fn fill_part(part: Part, p: usize, points: &PointRow, earlier: &[f64], row: &mut
     let n = row.len();
     match part {
         Part::Constant(value) => row.fill(value),
-        Part::Sphere(centre, radius) => lanes::fill_sphere(row, points, centre, radius),
-        Part::Plane(normal, offset) => lanes::fill_plane(row, points, normal, offset),
-        Part::Min(a, b) => lanes::fill_two::<Min>(
-            row,
-            input(earlier, p, a, n),
-            input(earlier, p, b, n),
-        ),
-        Part::Max(a, b) => lanes::fill_two::<Max>(
-            row,
-            input(earlier, p, a, n),
-            input(earlier, p, b, n),
-        ),
-        Part::Add(a, b) => lanes::fill_two::<Add>(
-            row,
-            input(earlier, p, a, n),
-            input(earlier, p, b, n),
-        ),
-        Part::Sub(a, b) => lanes::fill_two::<Sub>(
-            row,
-            input(earlier, p, a, n),
-            input(earlier, p, b, n),
-        ),
-        Part::Neg(a) => lanes::fill_neg(row, input(earlier, p, a, n)),
+        Part::Sphere(centre, radius) => fill_sphere(row, points, centre, radius),
+        Part::Plane(normal, offset) => fill_plane(row, points, normal, offset),
+        Part::Min(a, b) => fill_two::<Min>(row, input(earlier, p, a, n), input(earlier, p, b, n)),
+        Part::Max(a, b) => fill_two::<Max>(row, input(earlier, p, a, n), input(earlier, p, b, n)),
+        Part::Add(a, b) => fill_two::<Add>(row, input(earlier, p, a, n), input(earlier, p, b, n)),
+        Part::Sub(a, b) => fill_two::<Sub>(row, input(earlier, p, a, n), input(earlier, p, b, n)),
+        Part::Neg(a) => fill_neg(row, input(earlier, p, a, n)),
     }
 }
 
