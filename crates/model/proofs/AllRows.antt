@@ -7,17 +7,18 @@ use native.Mathlib.Nat.{not-suc-le-zero, mul-le-mul_right}
 use native.Mathlib.Numerals.{add-one}
 use native.Mathlib.Omega.{arith}
 use lib.Dec.{ltb}
-use lib.ListN.{length, get_or}
-use lib.Seq.{ext_get_or}
+use lib.ListN.{length, get_or, take, drop}
+use lib.Seq.{ext_get_or, get_or-take}
 use lib.Ieee.{Float}
 use borrow.Author.Tests.{ltb-true, ltb-false}
 use Rattle.lists.specs.Filled.{filled}
+use Rattle.lists.specs.Tabulate.{tabulate}
 use Rattle.lists.proofs.Lists.{get_d_any}
-use Rattle.lists.proofs.Tables.{length_tabulate, get_d_tabulate, get_or_before, get_or_last}
+use Rattle.lists.proofs.Tables.{length_tabulate, get_d_tabulate, tabulate_cong, get_or_before, get_or_last}
 use Rattle.lists.proofs.Filling.{filled_same}
 use Rattle.float.specs.Zero.{plus_zero}
-use Rattle.model.specs.Part.{past, part_value}
-use Rattle.model.specs.Model.{values_to, model_value, part_at, parts_of}
+use Rattle.model.specs.Part.{past, part_value, placed}
+use Rattle.model.specs.Model.{values_to, model_value, part_of, part_at, parts_of}
 use Rattle.geometry.specs.declared.PointRow.{PointRow}
 use Rattle.geometry.specs.PointRow.{point_in}
 use Rattle.model.specs.declared.Part.{Part}
@@ -26,7 +27,7 @@ use Rattle.model.specs.Inner.Lanes.{lane_at, filled_row, lane}
 use Rattle.model.proofs.Values.{length_values_to, reads_below}
 use Rattle.model.proofs.Placed.{part_at_below}
 use Rattle.model.proofs.PartValues.{value_more, none_value}
-use Rattle.model.proofs.Rows.{length_filled, filled_below, filled_past, filled_at}
+use Rattle.model.proofs.Rows.{length_filled, filled_below, filled_past, filled_at, row_back}
 
 module _ (l : List Part) (n : ℕ) (points : PointRow) (values : List Float) where
   abbrev x : ℕ → Float
@@ -38,18 +39,39 @@ module _ (l : List Part) (n : ℕ) (points : PointRow) (values : List Float) whe
   abbrev z : ℕ → Float
   z k = (point_in points k).z
 
-  -- part p's value at lane k, from the rows before it
-  abbrev pub lane_value : List Float → (p k : ℕ) → Float
-  lane_value now p k = part_value (part_at l p) (x k) (y k) (z k) (lane now k p)
+  -- a part's value at lane k, from the rows before row p
+  abbrev value_from : Part → List Float → (p k : ℕ) → Float
+  value_from part now p k = part_value part (x k) (y k) (z k) (lane now k p)
+
+  -- that of part p itself
+  abbrev lane_value : List Float → (p k : ℕ) → Float
+  lane_value now p k = value_from (part_at l p) now p k
 
   -- the first p rows filled
   unfoldable pub rows_to : ℕ → List Float
   rows_to zero = values
   rows_to (suc p) = filled_row (rows_to p) p n (lane_value (rows_to p) p)
 
-  pub rows_more : (p : ℕ) {now last : List Float} → now ≡ rows_to p → last ≡ filled_row now p n (lane_value now p) → last ≡ rows_to (p + 1)
+  rows_more : (p : ℕ) {now last : List Float} → now ≡ rows_to p → last ≡ filled_row now p n (lane_value now p) → last ≡ rows_to (p + 1)
   unfolding rows_to
   rows_more p e row = rw (add-one p) (row ∙ ap (λ (t : List Float). filled_row t p n (lane_value t p)) e)
+
+  -- one row more, which was lent behind the rows before it: its lanes hold the part's values from those rows
+  pub rows_turn : (p : ℕ) (part : Part) (now : List Float) {earlier rest row : List Float} {count : ℕ} → n ≤ 64 → lane_at p n ≤ length now → now ≡ rows_to p
+      → part ≡ part_of l p → earlier ≡ take (p * 64) now → rest ≡ drop (p * 64) now
+      → row ≡ tabulate count (value_from (placed p part) earlier p) → count ≡ n
+      → earlier ++ (row ++ drop n rest) ≡ rows_to (p + 1)
+  unfolding part_at
+  rows_turn p part now {earlier} lanes long e is first second row many =
+      let before : (k : ℕ) → k < n → lane earlier k p ≡ lane now k p =
+      λ k h. tabulate_cong p _ _
+      (λ q below.
+      ap (λ (t : List Float). get_or t (lane_at q k) past) first
+      ∙ get_or-take (p * 64) now (lane_at q k) past (omega (arith, mul-le-mul_right 64 below))) in
+      rows_more p e
+      (row_back now p n long (lane_value now p) first second
+      (row ∙ ap (λ (m : ℕ). tabulate m (value_from (placed p part) earlier p)) many
+      ∙ tabulate_cong n _ _ (λ k h i. part_value (placed p (is i)) (x k) (y k) (z k) (before k h i))))
 
   length_rows : (p : ℕ) → length (rows_to p) ≡ length values
   unfolding rows_to
@@ -148,17 +170,19 @@ module _ (l : List Part) (count n : ℕ) (points : PointRow) (values results : L
   unfolding evaluated_rows
   length_evaluated = length_tabulate (length values) _
 
-  pub row_of_last : {now last : List Float} → n ≤ 64 → 0 < count → now ≡ evaluated_rows l count n points values
-      → lane_at (count - 1) n ≤ length now
-      → last ≡ filled 0 n (λ k. get_or now (lane_at (count - 1) k) past) results → last ≡ model_row l count n points results
+  pub row_of_last : {now last row : List Float} → n ≤ 64 → 0 < count → now ≡ evaluated_rows l count n points values
+      → lane_at (count - 1) n ≤ length now → row ≡ tabulate n (λ k. get_or now (lane_at (count - 1) k) past)
+      → last ≡ filled 0 n (λ k. get_or row k past) results → last ≡ model_row l count n points results
   unfolding model_row
-  row_of_last {now} {last} lanes some e long row =
+  row_of_last {now} {last} lanes some e long read row =
       let same : length now ≡ length values = ap length e ∙ length_evaluated in
       row
       ∙ filled_same 0 n _ _ results
       (λ k from below.
       let h : k < n = omega arith in
-      ap (λ (t : List Float). get_or t (lane_at (count - 1) k) past) e
+      ap (λ (t : List Float). get_or t k past) read
+      ∙ get_d_tabulate n _ k past h
+      ∙ ap (λ (t : List Float). get_or t (lane_at (count - 1) k) past) e
       ∙ last_row l n points values lanes count k some h (omega arith))
 
   pub row_of_none : {last : List Float} → count ≡ 0 → last ≡ filled 0 n (λ k. plus_zero) results → last ≡ model_row l count n points results

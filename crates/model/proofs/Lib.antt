@@ -8,3 +8,4 @@ pub mod Rows
 pub mod PartRow
 pub mod AllRows
 pub mod SameParts
+pub mod Front

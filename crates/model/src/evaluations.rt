@@ -1,18 +1,19 @@
 // The calls that evaluate: a model at a point, and models of any contents at a point and at a row of points.
-ghost use Rattle.std.specs.Prelude.{◌≡◌, ◌++◌, min, drop};
+ghost use Rattle.std.specs.Prelude.{◌≡◌, ◌++◌, min, take, drop};
 ghost use Rattle.model.specs.Row.{evaluated_rows, model_row};
 ghost use Rattle.model.specs.Model.{values_to, parts_in, parts_of, parts_value, evaluation_of};
 
+use super::lanes::row_of;
 use super::refusals::cause_four;
-use super::{ImplicitModel, point, row};
+use super::{ImplicitModel, ModelComponent, point, row};
 use causes::Cause;
 use geometry::{PointRow, Vec3};
 
-// The parts of a model that count: 64 at most.
-fn part_count(model: &ImplicitModel) -> usize
-    ensures { result ≡ min model.now.count 64 }
+// The parts of a model that count: its first 64 at most.
+fn counted(model: &ImplicitModel) -> &[ModelComponent]
+    ensures { result.now ≡ take (min model.now.count 64) model.now.parts }
 {
-    (model.count as usize).min(64)
+    &model.parts[..(model.count as usize).min(64)]
 }
 
 // The value at a point of a model of any contents, of which 64 parts count at most. The parts' values are left in
@@ -23,8 +24,9 @@ pub fn evaluate_parts(model: &ImplicitModel, at: Vec3, values: &mut [f64; 64]) -
         ≡ values_to (parts_of (parts_in model.now) (min model.now.count 64)) at.x at.y at.z (min model.now.count 64)
         ++ drop (min model.now.count 64) values.old }
 {
-    let count = part_count(model);
-    point::fill_values(model, count, at, values);
+    let parts = counted(model);
+    point::fill_values(parts, at, values);
+    let count = parts.len();
     if count == 0 {
         return 0.0;
     }
@@ -48,7 +50,7 @@ pub fn evaluate_row(model: &ImplicitModel, points: &PointRow, n: usize, values: 
     ensures { values.new
         ≡ evaluated_rows (parts_in model.now) (min model.now.count 64) (min n 64) points.now values.old }
 {
-    row::fill_parts(model, part_count(model), points, n.min(64), values);
+    row::fill_parts(counted(model), points, n.min(64), values);
 }
 
 // The same, with the model's value at each point left at the front of `results`.
@@ -64,12 +66,13 @@ pub fn evaluate_row_into(
     ensures results { results.new
         ≡ model_row (parts_in model.now) (min model.now.count 64) (min n 64) points.now results.old }
 {
-    let count = part_count(model);
+    let parts = counted(model);
     let lanes = n.min(64);
-    row::fill_parts(model, count, points, lanes, values);
+    row::fill_parts(parts, points, lanes, values);
+    let count = parts.len();
     if count == 0 {
         results[..lanes].fill(0.0);
         return;
     }
-    row::copy_row(values, count - 1, lanes, results);
+    results[..lanes].copy_from_slice(row_of(values, count - 1, lanes));
 }

@@ -1,10 +1,10 @@
 // The values of parts at a point.
-ghost use Rattle.std.specs.Prelude.{◌≡◌, ◌++◌, ◌≤◌, ◌<◌, length, drop};
-ghost use Rattle.model.specs.Part.{sphere_value, plane_value, part_value, placed};
-ghost use Rattle.model.specs.Model.{values_to, parts_in, parts_of};
+ghost use Rattle.std.specs.Prelude.{◌≡◌, ◌++◌, ◌≤◌, length, map, drop};
+ghost use Rattle.model.specs.Part.{part_in, sphere_value, plane_value, part_value, placed};
+ghost use Rattle.model.specs.Model.{values_to, parts_of};
 
 use super::refusals::inputs_below;
-use super::{ImplicitModel, Part};
+use super::{ModelComponent, Part};
 use float::{Add, Max, Min, Operation, Sub};
 use geometry::Vec3;
 
@@ -46,14 +46,15 @@ pub fn part_value(part: Part, p: usize, at: Vec3, values: &[f64]) -> f64
     }
 }
 
-// The values of a model's first `count` parts, in order.
-pub fn fill_values(model: &ImplicitModel, count: usize, at: Vec3, values: &mut [f64])
-    requires { (count ≤ 64) × (count ≤ length values.old) }
+// The values of some parts, in order.
+pub fn fill_values(parts: &[ModelComponent], at: Vec3, values: &mut [f64])
+    requires { length parts.now ≤ length values.old }
     ensures values { values.new
-        ≡ values_to (parts_of (parts_in model.now) count) at.x at.y at.z count ++ drop count values.old }
-    ensures fits { count ≤ length values.old }
+        ≡ values_to (parts_of (map part_in parts.now) (length parts.now)) at.x at.y at.z (length parts.now)
+        ++ drop (length parts.now) values.old }
+    ensures fits { length parts.now ≤ length values.old }
 {
-    for p in 0..count {
-        values[p] = part_value(model.parts[p].part, p, at, values);
+    for (p, component) in parts.iter().enumerate() {
+        values[p] = part_value(component.part, p, at, values);
     }
 }

@@ -1,9 +1,9 @@
 // The test of cause 4, and what it asks of each part.
-ghost use Rattle.std.specs.Prelude.{◌≡◌, ◌≤◌};
-ghost use Rattle.model.specs.Part.{inputs_below};
-ghost use Rattle.model.specs.Model.{ordered_to, parts_in, refused_by_four};
+ghost use Rattle.std.specs.Prelude.{◌≡◌, length, map};
+ghost use Rattle.model.specs.Part.{part_in, inputs_below};
+ghost use Rattle.model.specs.Model.{ordered_to, refused_by_four};
 
-use super::{ImplicitModel, MOST_PARTS, Part};
+use super::{ImplicitModel, MOST_PARTS, ModelComponent, Part};
 
 // Whether each input of a part stands below the place p.
 #[tactic(auto, unfolding(crate::specs::Part::inputs_below))]
@@ -19,13 +19,12 @@ pub fn inputs_below(part: Part, p: usize) -> bool
     }
 }
 
-// Whether each of the first `count` parts has its inputs before it.
-fn ordered(model: &ImplicitModel, count: usize) -> bool
-    requires { count ≤ 64 }
-    ensures { result ≡ ordered_to (parts_in model.now) count }
+// Whether each of some parts has its inputs before it.
+fn ordered(parts: &[ModelComponent]) -> bool
+    ensures { result ≡ ordered_to (map part_in parts.now) (length parts.now) }
 {
-    for p in 0..count {
-        if !inputs_below(model.parts[p].part, p) {
+    for (p, component) in parts.iter().enumerate() {
+        if !inputs_below(component.part, p) {
             return false;
         }
     }
@@ -38,5 +37,5 @@ pub fn cause_four(model: &ImplicitModel) -> bool
     ensures { result ≡ refused_by_four model.now }
 {
     let count = model.count as usize;
-    count == 0 || count > MOST_PARTS || !ordered(model, count)
+    count == 0 || count > MOST_PARTS || !ordered(&model.parts[..count])
 }

@@ -1,22 +1,39 @@
--- The last row is the model's, and without parts the value is +0.
-use Rattle.std.proofs.Common.{rules, ◌∙◌, arith}
-use Rattle.lists.proofs.LentPart.{front_set}
-use Rattle.model.specs.Part.{past}
-use Rattle.model.specs.Model.{parts_in}
-use Rattle.model.specs.Row.{model_row}
+-- The parts that count are the model's first. The last row is the model's, and without parts the value is +0.
+use Rattle.std.proofs.Common.{rules, refl, ◌∙◌, min, map, length, arith}
+use Rattle.lists.proofs.LentPart.{front_set, front_copy}
+use Rattle.model.specs.Part.{past, part_in}
+use Rattle.model.proofs.Front.{front_rows, front_row}
 use Rattle.model.proofs.AllRows.{row_of_last, row_of_none}
 use Rattle.model.proofs.evaluations.evaluate_row_into.Goals as goal
+
+pub returns-then-count-eq0-clause-values : goal.returns-then-count-eq0-clause-values
+returns-then-count-eq0-clause-values c =
+    let a = c.args in
+    let m = a.model.now in
+    c.fill_parts.ensures
+    ∙ front_rows m.parts _ (min m.count 64) (omega arith) c.counted-parts.ensures (min a.n 64) a.points.now a.values.now c.min-lanes.ensures
 
 pub returns-then-count-eq0-clause-results : goal.returns-then-count-eq0-clause-results
 returns-then-count-eq0-clause-results c =
     let a = c.args in
-    row_of_none (parts_in a.model.now) c.part_count-count.result c.min-lanes.result a.points.now a.values.now a.results.now
+    let m = a.model.now in
+    row_of_none _ _ _ a.points.now a.values.now a.results.now
     c.if-count-eq0.true (front_set _ a.results.now past (search rules) _ (search rules))
-    ∙ (λ i. model_row (parts_in a.model.now) (c.part_count-count.ensures i) (c.min-lanes.ensures i) a.points.now a.results.now)
+    ∙ front_row m.parts _ (min m.count 64) (omega arith) c.counted-parts.ensures (min a.n 64) a.points.now a.results.now c.min-lanes.ensures
+
+pub returns-clause-values : goal.returns-clause-values
+returns-clause-values c =
+    let a = c.args in
+    let m = a.model.now in
+    c.fill_parts.ensures
+    ∙ front_rows m.parts _ (min m.count 64) (omega arith) c.counted-parts.ensures (min a.n 64) a.points.now a.values.now c.min-lanes.ensures
 
 pub returns-clause-results : goal.returns-clause-results
 returns-clause-results c =
     let a = c.args in
-    row_of_last (parts_in a.model.now) c.part_count-count.result c.min-lanes.result a.points.now a.values.now a.results.now
-    (omega arith) (omega arith) c.fill_parts.ensures (search rules) c.copy_row.ensures
-    ∙ (λ i. model_row (parts_in a.model.now) (c.part_count-count.ensures i) (c.min-lanes.ensures i) a.points.now a.results.now)
+    let m = a.model.now in
+    let parts = c.counted-parts.result.now in
+    row_of_last (map part_in parts) (length parts) c.min-lanes.result a.points.now a.values.now a.results.now
+    (omega arith) (omega arith) c.fill_parts.ensures (search rules) c.row_of.ensures.lanes
+    (front_copy _ a.results.now past (omega arith) _ _ c.copy_from_slice.ensures.after c.row_of.ensures.long (λ k h. refl))
+    ∙ front_row m.parts _ (min m.count 64) (omega arith) c.counted-parts.ensures (min a.n 64) a.points.now a.results.now c.min-lanes.ensures

@@ -1,14 +1,18 @@
--- One lane more.
-use Rattle.std.proofs.Common.{ap, ◌∙◌, arith}
-use lib.Ieee.{neg}
-use Rattle.model.proofs.Rows.{no_lanes, lane_more, read_row}
+-- One lane more, and at the end the whole row.
+use Rattle.std.proofs.Common.{◌≡◌, refl, length, arith}
+use Rattle.lists.specs.Filled.{filled}
+use Rattle.lists.proofs.Filling.{front_store}
+use Rattle.model.proofs.Rows.{row_done}
 use Rattle.model.proofs.lanes.fill_neg.Goals as goal
 
 pub loop-i-init : goal.loop-i-init
-loop-i-init c = no_lanes _ _ _
+unfolding filled
+loop-i-init c = refl
 
 pub loop-i-preserved : goal.loop-i-preserved
-loop-i-preserved c =
-    let a = c.args in
-    lane_more _ _ _ _ c.loop-i.invariant
-    (c.computed.ensures ∙ ap neg (read_row a.values.now a.p a.a c.loop-i.i _ c.loop-i.invariant (omega arith) (omega arith)))
+loop-i-preserved c = front_store _ _ _ c.loop-i.invariant c.computed.ensures
+
+pub returns : goal.returns
+returns c =
+    let all : c.loop-i.i ≡ length c.args.row.now = omega arith in
+    row_done _ _ c.loop-i.invariant all

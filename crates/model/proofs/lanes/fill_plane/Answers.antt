@@ -1,15 +1,20 @@
--- One lane more.
-use Rattle.std.proofs.Common.{ap, ◌∙◌}
+-- One lane more, and at the end the whole row.
+use Rattle.std.proofs.Common.{◌≡◌, refl, length, arith, ap, ◌∙◌}
+use Rattle.lists.specs.Filled.{filled}
+use Rattle.lists.proofs.Filling.{front_store}
 use Rattle.geometry.specs.declared.Vec3.{Vec3}
 use Rattle.model.specs.Part.{plane_value}
-use Rattle.model.proofs.Rows.{no_lanes, lane_more}
+use Rattle.model.proofs.Rows.{row_done}
 use Rattle.model.proofs.lanes.fill_plane.Goals as goal
 
 pub loop-i-init : goal.loop-i-init
-loop-i-init c = no_lanes _ _ _
+unfolding filled
+loop-i-init c = refl
 
 pub loop-i-preserved : goal.loop-i-preserved
-loop-i-preserved c =
-    let a = c.args in
-    lane_more _ _ _ _ c.loop-i.invariant
-    (c.plane_value.ensures ∙ ap (λ (v : Vec3). plane_value a.normal a.offset v.x v.y v.z) c.get.ensures)
+loop-i-preserved c = front_store _ _ _ c.loop-i.invariant (c.plane_value.ensures ∙ ap (λ (v : Vec3). plane_value c.args.normal c.args.offset v.x v.y v.z) c.get.ensures)
+
+pub returns : goal.returns
+returns c =
+    let all : c.loop-i.i ≡ length c.args.row.now = omega arith in
+    row_done _ _ c.loop-i.invariant all

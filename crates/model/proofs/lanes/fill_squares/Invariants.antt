@@ -1,10 +1,9 @@
 -- The lanes passed so far hold the squares of the distances.
 use Rattle.std.proofs.Common.{◌≡◌}
-use Rattle.geometry.specs.Distance.{distance_squared_of}
+use Rattle.lists.specs.Filled.{filled}
 use Rattle.geometry.specs.PointRow.{point_in}
-use Rattle.model.specs.Inner.Lanes.{filled_row}
+use Rattle.geometry.specs.Distance.{distance_squared_of}
 use Rattle.model.proofs.lanes.fill_squares.Given as goal
 
 abbrev pub invariant-loop-i : goal.invariant-loop-i
-invariant-loop-i l =
-    l.values ≡ filled_row l.initial.values l.p l.i (λ k. let at = point_in l.points k in distance_squared_of l.c at.x at.y at.z)
+invariant-loop-i l = l.row ≡ filled 0 l.i (λ k. let at = point_in l.points k in distance_squared_of l.c at.x at.y at.z) l.initial.row

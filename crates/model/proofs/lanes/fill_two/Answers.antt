@@ -1,13 +1,18 @@
--- One lane more.
-use Rattle.std.proofs.Common.{arith}
-use Rattle.model.proofs.Rows.{no_lanes, pair_more}
+-- One lane more, and at the end the whole row.
+use Rattle.std.proofs.Common.{◌≡◌, refl, length, arith}
+use Rattle.lists.specs.Filled.{filled}
+use Rattle.lists.proofs.Filling.{front_store}
+use Rattle.model.proofs.Rows.{row_done}
 use Rattle.model.proofs.lanes.fill_two.Goals as goal
 
 pub loop-i-init : goal.loop-i-init
-loop-i-init g c = no_lanes _ _ _
+unfolding filled
+loop-i-init g c = refl
 
 pub loop-i-preserved : goal.loop-i-preserved
-loop-i-preserved g c =
-    let a = c.args in
-    pair_more g.O.Operation.of a.values.now a.p a.a a.b c.loop-i.i (omega arith) (omega arith) (omega arith) c.loop-i.invariant
-    c.apply.ensures
+loop-i-preserved g c = front_store _ _ _ c.loop-i.invariant c.apply.ensures
+
+pub returns : goal.returns
+returns g c =
+    let all : c.loop-i.i ≡ length c.args.row.now = omega arith in
+    row_done _ _ c.loop-i.invariant all

@@ -1,14 +1,19 @@
--- One lane more.
-use Rattle.std.proofs.Common.{ap, ◌∙◌}
+-- One lane more, and at the end the whole row.
+use Rattle.std.proofs.Common.{◌≡◌, refl, length, arith, ap, ◌∙◌}
+use Rattle.lists.specs.Filled.{filled}
+use Rattle.lists.proofs.Filling.{front_store}
 use lib.Ieee.{Float, binary64, sub}
-use Rattle.model.proofs.Rows.{no_lanes, lane_more, read_own}
+use Rattle.model.proofs.Rows.{row_done, own_lane}
 use Rattle.model.proofs.lanes.take_radius.Goals as goal
 
 pub loop-i-init : goal.loop-i-init
-loop-i-init c = no_lanes _ _ _
+unfolding filled
+loop-i-init c = refl
 
 pub loop-i-preserved : goal.loop-i-preserved
-loop-i-preserved c =
-    let a = c.args in
-    lane_more _ _ _ _ c.loop-i.invariant
-    (c.computed.ensures ∙ ap (λ (v : Float). sub binary64 v a.r) (read_own a.values.now a.p c.loop-i.i _ c.loop-i.invariant))
+loop-i-preserved c = front_store _ _ _ c.loop-i.invariant (c.computed.ensures ∙ ap (λ (v : Float). sub binary64 v c.args.r) (own_lane c.loop-i.i _ _ c.loop-i.invariant))
+
+pub returns : goal.returns
+returns c =
+    let all : c.loop-i.i ≡ length c.args.row.now = omega arith in
+    row_done _ _ c.loop-i.invariant all

@@ -13,11 +13,11 @@ loop-p-init c = refl
 pub returns-then-not-inputs_below : goal.returns-then-not-inputs_below
 returns-then-not-inputs_below c =
     let p = c.loop-p.p in
-    sym (unordered _ p _ (omega arith) (ap (inputs_below p) (get_or-map part_in c.args.model.now.parts p _ _ (omega arith)) ∙ sym c.inputs_below.ensures ∙ search rules))
+    sym (unordered _ p _ (omega arith) (ap (inputs_below p) (get_or-map part_in c.args.parts.now p _ _ (omega arith)) ∙ sym c.inputs_below.ensures ∙ search rules))
 
 pub loop-p-preserved : goal.loop-p-preserved
 unfolding ordered_to
 loop-p-preserved c =
     let p = c.loop-p.p in
     rw (add-one p)
-    (rw c.loop-p.invariant (ap (inputs_below p) (get_or-map part_in c.args.model.now.parts p _ _ (omega arith)) ∙ sym c.inputs_below.ensures ∙ search rules))
+    (rw c.loop-p.invariant (ap (inputs_below p) (get_or-map part_in c.args.parts.now p _ _ (omega arith)) ∙ sym c.inputs_below.ensures ∙ search rules))
