@@ -1,7 +1,7 @@
 -- A cell's corners in a field: the places of its octet, and what the walk's step tells of its cursor.
 use Rattle.std.proofs.Common.{◌≡◌, ℕ, ◌+◌, ◌*◌, ◌<◌, ◌≤◌, List, [], ◌∷◌, length, get_or, ap, ◌∙◌, mul-le-mul_right, mul_assoc, arith}
 use lib.Ieee.{Float, nan}
-use Rattle.lists.proofs.Lists.{get_d_any}
+use Rattle.std.proofs.lemmas.List.{get_or_default}
 use Rattle.float.specs.Zero.{plus_zero}
 use Rattle.geometry.specs.declared.Vec3i.{Vec3i}
 use Rattle.geometry.specs.Index.{place_of}
@@ -31,7 +31,7 @@ module _ (n c : Vec3i) (vs : List Float) (h : Found n (length vs) c) where
   unfolding place_of
   read p i j k e below =
       let same : p ≡ k * n.i * n.j + j * n.i + i = omega (arith, mul_assoc k n.i n.j) in
-      get_d_any vs p nan plus_zero below ∙ ap (λ (q : ℕ). get_or vs q plus_zero) same
+      get_or_default vs p nan plus_zero below ∙ ap (λ (q : ℕ). get_or vs q plus_zero) same
 
   pub octet_read : (let row = n.i in
       let slab = n.i * n.j in

@@ -4,7 +4,7 @@ use mathlib.Core.Bool.{or-true}
 use lib.Ieee.{Float, nan, binary64, add, sub, mul, div, of_bits, of_int}
 use Rattle.lists.specs.Filled.{filled}
 use Rattle.lists.proofs.Tests.{or_left, or_right}
-use Rattle.lists.proofs.Lists.{get_d_any}
+use Rattle.std.proofs.lemmas.List.{get_or_default}
 use Rattle.lists.proofs.Tables.{length_tabulate}
 use Rattle.lists.proofs.Filling.{filled_same, filled_more, filled_all}
 use Rattle.float.specs.Zero.{plus_zero}
@@ -28,12 +28,12 @@ pub neighbours_read : (n : Vec3i) (vs : List Float) (p : ℕ) → Between n p 1 
     ≡ offset_sum n vs p
 unfolding offset_sum
 neighbours_read n vs p w =
-    let e1 = get_d_any vs (p + 1) nan plus_zero (omega arith) in
-    let e2 = get_d_any vs (p - 1) nan plus_zero (omega arith) in
-    let e3 = get_d_any vs (p + n.i) nan plus_zero (omega arith) in
-    let e4 = get_d_any vs (p - n.i) nan plus_zero (omega arith) in
-    let e5 = get_d_any vs (p + n.i * n.j) nan plus_zero (omega arith) in
-    let e6 = get_d_any vs (p - n.i * n.j) nan plus_zero (omega arith) in
+    let e1 = get_or_default vs (p + 1) nan plus_zero (omega arith) in
+    let e2 = get_or_default vs (p - 1) nan plus_zero (omega arith) in
+    let e3 = get_or_default vs (p + n.i) nan plus_zero (omega arith) in
+    let e4 = get_or_default vs (p - n.i) nan plus_zero (omega arith) in
+    let e5 = get_or_default vs (p + n.i * n.j) nan plus_zero (omega arith) in
+    let e6 = get_or_default vs (p - n.i * n.j) nan plus_zero (omega arith) in
     λ i. add binary64 (add binary64 (add binary64 (add binary64 (add binary64 (e1 i) (e2 i)) (e3 i)) (e4 i)) (e5 i)) (e6 i)
 
 -- the code's constants
@@ -51,7 +51,7 @@ pub blended_read : (n : Vec3i) (f : Float) (vs : List Float) (p : ℕ) {keep sum
     → add binary64 (mul binary64 keep (get_or vs p nan)) (mul binary64 f (div binary64 sum (of_bits binary64 4618441417868443648))) ≡ offset_blend n f vs p
 unfolding offset_blend blended
 blended_read n f vs p below kept summed =
-    let read = get_d_any vs p nan plus_zero below in
+    let read = get_or_default vs p nan plus_zero below in
     λ i. add binary64 (mul binary64 (kept i) (read i)) (mul binary64 f (div binary64 (summed i) (six_as_float i)))
 
 -- the index 0, and every index of an axis of one or two points, is on an edge

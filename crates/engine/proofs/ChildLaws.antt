@@ -35,7 +35,7 @@ use Rattle.std.specs.Prelude.{Some, None}
 use Rattle.schedule.specs.Lent.{memory_of}
 use Rattle.plans.specs.Plan.{box_of, plan_with}
 use Rattle.geometry.specs.Values.{at}
-use Rattle.engine.proofs.Sizes.{Sized}
+use Rattle.engine.specs.Inner.Sizes.{Sized}
 use Rattle.engine.specs.Inner.Progress.{Ready, progress, reading_in, ChildrenAdvanced, leaf_progress}
 use Rattle.engine.proofs.Turns.{turn_active, turn_skip, turn_constant, turn_leaf, filled_store}
 

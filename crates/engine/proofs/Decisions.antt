@@ -26,16 +26,15 @@ use Rattle.plans.specs.Plan.{plan_with, decide_by}
 use Rattle.engine.specs.declared.Progress.{Progress}
 use Rattle.engine.specs.declared.Task.{Task}
 use Rattle.engine.specs.declared.Visit.{Visit}
-use Rattle.engine.proofs.Sizes.{sized}
 use Rattle.engine.specs.Inner.Progress.{Ready, plan_by, progress, leaf_progress, ChildrenAdvanced}
 use Rattle.engine.specs.Inner.Children.{place_of, box_at, verdict_at, judged, if_leaf, decided, leaf_box, Decidable}
 use Rattle.engine.proofs.ChildLaws.{place_few, leaves_few, skipped, constant_turn, leaf_inside, leaf_turn}
 
 -- ---- what the code leaves is what is decided
 
-module _ (task : Task) (w : Visit) (m : Memory) {r : ℕ} (cubed : r ≡ cube task.grid.grid.inner)
+module _ (task : Task) (w : Visit) (m : Memory) {r : ℕ} (cubed : r ≡ cube task.grid.inner)
     (active : get_or m.kinds (w.node * r + w.place) 0 ≡ 0 → ⊥) {child : BoundingBox} {octet : List Float} {verdict : Verdict}
-    (lies : child ≡ box_at task w) (read : octet ≡ octet_values m.corners task.grid.grid.inner w.place)
+    (lies : child ≡ box_at task w) (read : octet ≡ octet_values m.corners task.grid.inner w.place)
     (known : verdict ≡ verdict_of task.band.min task.band.max child octet) where
   -- the place is that of an active child
   is_active : eqb (get_or m.kinds (place_of task w) 0) 0 ≡ false
@@ -69,21 +68,21 @@ module _ (task : Task) (w : Visit) (m : Memory) {r : ℕ} (cubed : r ≡ cube ta
 -- ---- what is decided is a turn of the plan's
 
 module _ (task : Task) (value : Float → Float → Float → Float) (w : Visit) (m : Memory)
-    (boxed : w.bounds ≡ node_box task.grid.grid w.node) (below : w.place < cube task.grid.grid.inner)
+    (boxed : w.bounds ≡ node_box task.grid w.node) (below : w.place < cube task.grid.inner)
     (ready : Ready (plan_by task value) w.node w.place w.leaves m) where
   -- a child that may be decided
   pub decidable : Decidable task w m
   unfolding plan_with
   decidable =
-      let one = mul-le-mul_right (cube task.grid.grid.inner) ready.node in
-      let few = place_few task.grid.grid w.node w.place (sized task.grid) ready.node below in
+      let one = mul-le-mul_right (cube task.grid.inner) ready.node in
+      let few = place_few task.grid w.node w.place task.sized ready.node below in
       record {
         below = below;
         few = few;
         kinds = omega (arith, one, below, ready.lent.kinds);
         numbers = omega (arith, one, below, ready.lent.numbers);
         places = omega (arith, one, below, ready.lent.places);
-        leaves = leaves_few task.grid.grid (decide_by task.band) value w.node w.place w.leaves m (sized task.grid) below ready;
+        leaves = leaves_few task.grid (decide_by task.band) value w.node w.place w.leaves m task.sized below ready;
         corners = ready.lent.corners;
       }
 
@@ -99,7 +98,7 @@ module _ (task : Task) (value : Float → Float → Float → Float) (w : Visit)
       on : (x : Verdict) → eqb (get_or m.kinds (place_of task w) 0) 0 ≡ false → verdict_at task w m ≡ x → if_leaf (box_at task w) x ≡ None
           → ChildrenAdvanced (plan_by task value) w.node w.place (suc w.place) w.left w.leaves m (judged task w m x) (progress w.leaves w.left None)
       on (Constant k x) e is none =
-          constant_turn task.grid.grid (decide_by task.band) value w.node w.place w.left w.leaves m w.bounds boxed below ready (cube task.grid.grid.inner) refl
+          constant_turn task.grid (decide_by task.band) value w.node w.place w.left w.leaves m w.bounds boxed below ready (cube task.grid.inner) refl
           refl refl refl (active e) is (rw (verdict_kind task.band.min task.band.max _ _ is) (omega arith))
       on Leaf e is none = cc
 
@@ -107,32 +106,32 @@ module _ (task : Task) (value : Float → Float → Float → Float) (w : Visit)
           → ChildrenAdvanced (plan_by task value) w.node w.place (suc w.place) w.left w.leaves m
           (cond b m (judged task w m (verdict_at task w m))) (progress w.leaves w.left None)
       by true e none =
-          skipped task.grid.grid (decide_by task.band) value w.node w.place w.left w.leaves m w.bounds boxed below ready (cube task.grid.grid.inner) refl
+          skipped task.grid (decide_by task.band) value w.node w.place w.left w.leaves m w.bounds boxed below ready (cube task.grid.inner) refl
           (eqb-true (get_or m.kinds (place_of task w) 0) 0 e)
       by false e none =
           on (verdict_at task w m) e refl none
 
   -- a leaf: its stretch is inside the store, and the turn is its points
-  pub some_inside : {box : BoundingBox} → leaf_box task w m ≡ Some box → (w.leaves + 1) * cube task.grid.grid.leaf ≤ length (decided task w m).store
+  pub some_inside : {box : BoundingBox} → leaf_box task w m ≡ Some box → (w.leaves + 1) * cube task.grid.leaf ≤ length (decided task w m).store
   some_inside {box} some = by (eqb (get_or m.kinds (place_of task w) 0) 0) refl some
     where
       on : (x : Verdict) → eqb (get_or m.kinds (place_of task w) 0) 0 ≡ false → verdict_at task w m ≡ x → if_leaf (box_at task w) x ≡ Some box
-          → (w.leaves + 1) * cube task.grid.grid.leaf ≤ length (judged task w m x).store
+          → (w.leaves + 1) * cube task.grid.leaf ≤ length (judged task w m x).store
       on (Constant k x) e is some = cc
       on Leaf e is some =
-          leaf_inside task.grid.grid (decide_by task.band) value w.node w.place w.left w.leaves m w.bounds boxed below ready (cube task.grid.grid.inner) refl
+          leaf_inside task.grid (decide_by task.band) value w.node w.place w.left w.leaves m w.bounds boxed below ready (cube task.grid.inner) refl
           refl refl refl (active e)
 
       by : (b : Bool) → eqb (get_or m.kinds (place_of task w) 0) 0 ≡ b → cond b None (if_leaf (box_at task w) (verdict_at task w m)) ≡ Some box
-          → (w.leaves + 1) * cube task.grid.grid.leaf ≤ length (cond b m (judged task w m (verdict_at task w m))).store
+          → (w.leaves + 1) * cube task.grid.leaf ≤ length (cond b m (judged task w m (verdict_at task w m))).store
       by true e some = cc
       by false e some = on (verdict_at task w m) e refl some
 
   module _ {box : BoundingBox} (store : List Float) {turn : Progress} (some : leaf_box task w m ≡ Some box)
-      (goes : turn ≡ leaf_progress (w.leaves + 1) w.left w.node w.place 0 (cube task.grid.grid.leaf)) where
+      (goes : turn ≡ leaf_progress (w.leaves + 1) w.left w.node w.place 0 (cube task.grid.leaf)) where
     abbrev pub Stored : Memory → Type 0
-    Stored d = store ≡ filled ((w.leaves + 1 - 1) * cube task.grid.grid.leaf + 0) (min w.left (cube task.grid.grid.leaf - 0))
-        (λ q. at value (leaf_point box task.grid.grid.leaf (q - (w.leaves + 1 - 1) * cube task.grid.grid.leaf))) d.store
+    Stored d = store ≡ filled ((w.leaves + 1 - 1) * cube task.grid.leaf + 0) (min w.left (cube task.grid.leaf - 0))
+        (λ q. at value (leaf_point box task.grid.leaf (q - (w.leaves + 1 - 1) * cube task.grid.leaf))) d.store
 
     abbrev pub Turned : ℕ → Memory → Type 0
     Turned next d = ChildrenAdvanced (plan_by task value) w.node w.place next w.left w.leaves m (memory_of d.kinds d.numbers d.places store d.corners) turn
@@ -146,8 +145,8 @@ module _ (task : Task) (value : Float → Float → Float → Float) (w : Visit)
         on Leaf e is some kept =
             let same : box_at task w ≡ box = same_Some (box_at task w) box some in
             children_upto (plan_by task value) w.node w.place _ _ w.left w.leaves (sym (add-one w.place))
-            (leaf_turn task.grid.grid (decide_by task.band) value w.node w.place w.left w.leaves m w.bounds boxed below ready (cube task.grid.grid.inner) refl
-            refl (sym same) (sym is ∙ ap (λ b. verdict_of task.band.min task.band.max b (octet_values m.corners task.grid.grid.inner w.place)) same)
+            (leaf_turn task.grid (decide_by task.band) value w.node w.place w.left w.leaves m w.bounds boxed below ready (cube task.grid.inner) refl
+            refl (sym same) (sym is ∙ ap (λ b. verdict_of task.band.min task.band.max b (octet_values m.corners task.grid.inner w.place)) same)
             (active e) refl goes kept)
 
         by : (b : Bool) → eqb (get_or m.kinds (place_of task w) 0) 0 ≡ b → cond b None (if_leaf (box_at task w) (verdict_at task w m)) ≡ Some box

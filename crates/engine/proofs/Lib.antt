@@ -1,4 +1,3 @@
-pub mod Sizes
 pub mod RunLaws
 pub mod Turns
 pub mod Stretch

@@ -40,7 +40,7 @@ use Rattle.rows.specs.Inner.CornerRun.{CornerRun, needed_from, evaluated_from}
 use Rattle.geometry.specs.Values as values
 use Rattle.plans.specs.Plan.{plan_with, box_of}
 use Rattle.engine.specs.Inner.Runs.{run_of}
-use Rattle.engine.proofs.Sizes.{Sized}
+use Rattle.engine.specs.Inner.Sizes.{Sized}
 use Rattle.engine.specs.Inner.Progress.{Lent, progress, state_in, after_stop, IfThrough, Advanced, Ready, reading_in, ZeroCorners, NodeAdvanced, leaf_progress}
 use Rattle.engine.specs.declared.Standing.{Standing}
 use Rattle.engine.specs.Inner.Startable.{Startable}

@@ -1,4 +1,5 @@
 -- What the functions and the laws of this crate state. No promise of a public call names these.
+pub mod Sizes
 pub mod Runs
 pub mod Progress
 pub mod Startable

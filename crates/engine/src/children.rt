@@ -87,9 +87,9 @@ fn decide_at(task: &Task, visit: Visit, slices: &mut Slices) -> Option<BoundingB
     ensures answer { result ≡ leaf_box task.now visit (held slices.old) }
     ensures memory { held slices.new ≡ decided task.now visit (held slices.old) }
 {
-    let n = task.grid.grid.inner;
+    let n = task.grid.inner;
     let c = visit.place;
-    let j = visit.node * task.grid.node_children() + c;
+    let j = visit.node * grid::cube_of(task.grid.inner as usize) + c;
     let empty = slices.kinds[j] == 0;
     if empty {
         return None;
@@ -115,7 +115,7 @@ fn decide_at(task: &Task, visit: Visit, slices: &mut Slices) -> Option<BoundingB
 // The child at a visit's place: it is decided, and the points of a leaf are evaluated while the budget
 // lasts.
 fn run_child(task: &Task, visit: Visit, scratch: &mut [f64; 4096], slices: &mut Slices) -> Progress
-    requires within { (visit.bounds ≡ node_box task.now.grid.grid visit.node) × (visit.place < cube task.now.grid.grid.inner) }
+    requires within { (visit.bounds ≡ node_box task.now.grid visit.node) × (visit.place < cube task.now.grid.inner) }
     requires ready { Ready (plan task.now) visit.node visit.place visit.leaves (held slices.old) }
     ensures slices { SameSlices slices.old slices.new }
     ensures advanced { ChildrenAdvanced (plan task.now) visit.node visit.place (visit.place + 1) visit.left visit.leaves
@@ -139,7 +139,7 @@ fn run_child(task: &Task, visit: Visit, scratch: &mut [f64; 4096], slices: &mut 
     leaf_from(
         task.model,
         child,
-        task.grid.grid.leaf,
+        task.grid.leaf,
         leaf,
         scratch,
         slices.store,
@@ -153,10 +153,10 @@ pub fn run_children(
     scratch: &mut [f64; 4096],
     slices: &mut Slices,
 ) -> Progress
-    requires within { (visit.bounds ≡ node_box task.now.grid.grid visit.node) × (visit.place ≤ cube task.now.grid.grid.inner) }
+    requires within { (visit.bounds ≡ node_box task.now.grid visit.node) × (visit.place ≤ cube task.now.grid.inner) }
     requires ready { Ready (plan task.now) visit.node visit.place visit.leaves (held slices.old) }
     ensures slices { SameSlices slices.old slices.new }
-    ensures advanced { ChildrenAdvanced (plan task.now) visit.node visit.place (cube task.now.grid.grid.inner) visit.left visit.leaves
+    ensures advanced { ChildrenAdvanced (plan task.now) visit.node visit.place (cube task.now.grid.inner) visit.left visit.leaves
         (held slices.old) (held slices.new) result }
     ensures corners { (held slices.new).corners ≡ (held slices.old).corners }
 {
@@ -165,7 +165,7 @@ pub fn run_children(
         left: visit.left,
         stop: None,
     };
-    for place in visit.place..task.grid.node_children() {
+    for place in visit.place..grid::cube_of(task.grid.inner as usize) {
         let child = Visit {
             place,
             leaves: done.leaves,

@@ -1,22 +1,21 @@
 // A job's work on its own model.
 ghost use Rattle.std.specs.Prelude.{◌≡◌, false, [], ◌≤◌};
-ghost use Rattle.grid.specs.Limits.{refused_by_two, refused_by_five};
 ghost use Rattle.model.specs.Model.{refused_by_four};
 ghost use Rattle.schedule.specs.Resume.{events_from};
 ghost use Rattle.schedule.specs.Totals.{active_all};
 ghost use Rattle.schedule.specs.Lent.{held, SameSlices};
 ghost use Rattle.plans.specs.Plan.{plan_of};
+ghost use Rattle.engine.specs.Inner.Sizes.{Sized};
 ghost use Rattle.engine.specs.Inner.Progress.{Lent, Advanced, reading_in};
 ghost use Rattle.engine.specs.Inner.Startable.{Startable};
 
 use crate::{Progress, Standing, Task, nodes};
-use grid::SizedGrid;
 use input::Input;
 use schedule::Slices;
 
 // What is left of an input's job from where it stands, while the budget lasts.
 pub fn run_job(input: &Input, at: Standing, slices: &mut Slices) -> Progress
-    requires sized { (refused_by_two input.now.grid ≡ false) × (refused_by_five input.now.grid ≡ false) × (refused_by_four input.now.model ≡ false) }
+    requires sized { Sized input.now.grid × (refused_by_four input.now.model ≡ false) }
     requires lent { Lent (plan_of input.now) (held slices.old)
         × Startable (plan_of input.now) at.cursor at.leaves × (at.leaves ≤ active_all (plan_of input.now)) }
     ensures slices { SameSlices slices.old slices.new }
@@ -26,7 +25,7 @@ pub fn run_job(input: &Input, at: Standing, slices: &mut Slices) -> Progress
 {
     let mut scratch = [0.0; 4096];
     let task = Task {
-        grid: SizedGrid { grid: input.grid },
+        grid: input.grid,
         band: input.band,
         model: &input.model,
     };

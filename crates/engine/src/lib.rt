@@ -2,8 +2,10 @@
 // and a leaf's points; then the next node. The memory is the five slices that the job is lent.
 #![tactic(auto)]
 
+ghost use Rattle.engine.specs.Inner.Sizes.{Sized};
+
 use geometry::BoundingBox;
-use grid::SizedGrid;
+use grid::Grid;
 use input::Band;
 use model::ImplicitModel;
 use schedule::Cursor;
@@ -14,13 +16,14 @@ mod nodes; // nodes.rt: node after node, from a cursor on
 
 pub use jobs::run_job;
 
-// What the work is about: the grid, which causes 2 and 5 have let through, the band, and the model.
+// What the work is about: a grid of sizes that no engine's work goes beyond, the band, and the model.
 // Kept: no derived equality, as a model has none.
 #[derive(Clone, Copy, Debug)]
 pub struct Task<'a> {
-    pub grid: SizedGrid,
+    pub grid: Grid,
     pub band: Band,
     pub model: &'a ImplicitModel,
+    ghost sized: { Sized grid },
 }
 
 // Where a job goes on: its cursor, the leaves so far, and the budget that is left.

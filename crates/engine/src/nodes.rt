@@ -25,23 +25,23 @@ fn run_corners(
     scratch: &mut [f64; 4096],
     slices: &mut Slices,
 ) -> Progress
-    requires within { (visit.corner ≤ cube (task.now.grid.grid.inner + 1)) }
+    requires within { (visit.corner ≤ cube (task.now.grid.inner + 1)) }
     requires ready { Ready (plan task.now) visit.node 0 visit.leaves (held slices.old) }
     ensures slices { SameSlices slices.old slices.new }
     ensures advanced { Advanced (plan task.now) visit.left visit.leaves (held slices.old) (held slices.new)
         (events_from (plan task.now) (Corner visit.node visit.corner) (reading_in (held slices.old)))
         (children_left (plan task.now) visit.node 0 (reading_in (held slices.new))) result
         (active_before (plan task.now) visit.node 0) }
-    ensures behind { SameBehind (cube (task.now.grid.grid.inner + 1)) (held slices.old).corners (held slices.new).corners }
+    ensures behind { SameBehind (cube (task.now.grid.inner + 1)) (held slices.old).corners (held slices.new).corners }
 {
-    let bounds = grid::node_box(task.grid.grid, visit.node);
-    let children = task.grid.node_children();
+    let bounds = grid::node_box(task.grid, visit.node);
+    let children = grid::cube_of(task.grid.inner as usize);
     let first = visit.node * children;
     let all_kinds = &mut *slices.kinds;
     let corners = &mut *slices.corners;
     let kinds = &*all_kinds;
     let node = NodeKinds {
-        n: task.grid.grid.inner,
+        n: task.grid.inner,
         kinds: &kinds[first..first + children],
     };
     let end = rows::run_corners(
@@ -53,7 +53,7 @@ fn run_corners(
         scratch,
         corners,
     );
-    let stop = if end.next < task.grid.node_corners() {
+    let stop = if end.next < grid::cube_of(task.grid.inner as usize + 1) {
         Some(Cursor::Corner(visit.node, end.next))
     } else {
         None
@@ -72,7 +72,7 @@ fn run_points(
     scratch: &mut [f64; 4096],
     slices: &mut Slices,
 ) -> Progress
-    requires within { (leaf.child < cube task.now.grid.grid.inner) × (leaf.point ≤ cube task.now.grid.grid.leaf) × (0 < leaf.leaves) }
+    requires within { (leaf.child < cube task.now.grid.inner) × (leaf.point ≤ cube task.now.grid.leaf) × (0 < leaf.leaves) }
     requires ready { Ready (plan task.now) leaf.node (leaf.child + 1) leaf.leaves (held slices.old) }
     ensures slices { SameSlices slices.old slices.new }
     ensures advanced { Advanced (plan task.now) leaf.left leaf.leaves (held slices.old) (held slices.new)
@@ -81,7 +81,7 @@ fn run_points(
         (active_before (plan task.now) leaf.node (leaf.child + 1)) }
     ensures corners { (held slices.new).corners ≡ (held slices.old).corners }
 {
-    let g = task.grid.grid;
+    let g = task.grid;
     let bounds = grid::node_box(g, leaf.node);
     let child = grid::child_box(bounds, g.inner, leaf.child);
     children::leaf_from(task.model, child, g.leaf, leaf, scratch, slices.store)
@@ -104,7 +104,7 @@ fn finish_node(
     scratch: &mut [f64; 4096],
     slices: &mut Slices,
 ) -> Progress
-    requires within { (visit.bounds ≡ node_box task.now.grid.grid visit.node) × (visit.place ≤ cube task.now.grid.grid.inner) }
+    requires within { (visit.bounds ≡ node_box task.now.grid visit.node) × (visit.place ≤ cube task.now.grid.inner) }
     requires ready { Ready (plan task.now) visit.node visit.place visit.leaves (held slices.old) }
     requires clean { CleanBehind used (held slices.old).corners }
     ensures slices { SameSlices slices.old slices.new }
@@ -126,9 +126,9 @@ fn run_from_corner(
     scratch: &mut [f64; 4096],
     slices: &mut Slices,
 ) -> Progress
-    requires within { (visit.corner ≤ cube (task.now.grid.grid.inner + 1)) }
+    requires within { (visit.corner ≤ cube (task.now.grid.inner + 1)) }
     requires ready { Ready (plan task.now) visit.node 0 visit.leaves (held slices.old) }
-    requires clean { (cube (task.now.grid.grid.inner + 1) ≤ used) × CleanBehind used (held slices.old).corners }
+    requires clean { (cube (task.now.grid.inner + 1) ≤ used) × CleanBehind used (held slices.old).corners }
     ensures slices { SameSlices slices.old slices.new }
     ensures node { NodeAdvanced (plan task.now) visit.node visit.left visit.leaves (held slices.old) (held slices.new)
         (events_from (plan task.now) (Corner visit.node visit.corner) (reading_in (held slices.old))) result }
@@ -139,7 +139,7 @@ fn run_from_corner(
     }
     let visit = Visit {
         node: visit.node,
-        bounds: grid::node_box(task.grid.grid, visit.node),
+        bounds: grid::node_box(task.grid, visit.node),
         place: 0,
         leaves: came.leaves,
         left: came.left,
@@ -155,7 +155,7 @@ fn run_from_point(
     scratch: &mut [f64; 4096],
     slices: &mut Slices,
 ) -> Progress
-    requires within { (leaf.child < cube task.now.grid.grid.inner) × (leaf.point ≤ cube task.now.grid.grid.leaf) × (0 < leaf.leaves) }
+    requires within { (leaf.child < cube task.now.grid.inner) × (leaf.point ≤ cube task.now.grid.leaf) × (0 < leaf.leaves) }
     requires ready { Ready (plan task.now) leaf.node (leaf.child + 1) leaf.leaves (held slices.old) }
     requires clean { CleanBehind used (held slices.old).corners }
     ensures slices { SameSlices slices.old slices.new }
@@ -168,7 +168,7 @@ fn run_from_point(
     }
     let visit = Visit {
         node: leaf.node,
-        bounds: grid::node_box(task.grid.grid, leaf.node),
+        bounds: grid::node_box(task.grid, leaf.node),
         place: leaf.child + 1,
         leaves: came.leaves,
         left: came.left,
@@ -185,15 +185,15 @@ fn run_nodes(
     scratch: &mut [f64; 4096],
     slices: &mut Slices,
 ) -> Progress
-    requires within { (first ≤ nodes_of task.now.grid.grid) }
+    requires within { (first ≤ nodes_of task.now.grid) }
     requires ready { NodesReady (plan task.now) first so_far (held slices.old) }
     ensures slices { SameSlices slices.old slices.new }
     ensures continued { Continued (plan task.now) so_far (held slices.old) (held slices.new)
         (nodes_left (plan task.now) first) [] result (active_all (plan task.now)) }
 {
-    let own = task.grid.node_corners();
+    let own = grid::cube_of(task.grid.inner as usize + 1);
     let mut done = so_far;
-    for node in first..task.grid.nodes() {
+    for node in first..grid::node_total(task.grid) {
         if done.stop.is_some() {
             return done;
         }

@@ -1,5 +1,5 @@
 // A record in four arrays: 18 words, the model's codes and inputs, nine settings, the model's numbers.
-// Reading takes any arrays. Those that no record has read as a record that step refuses by 8.
+// Reading takes any arrays. Those with a flag that no record has read as a job that step refuses by 8.
 // Kept: the parameters, arrays with a count beside them too, are what C lends.
 ghost use Rattle.std.specs.Prelude.{◌≡◌, Some};
 ghost use Rattle.field_host.specs.NoJob.{no_job};

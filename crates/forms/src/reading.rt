@@ -96,8 +96,8 @@ fn read_piece(text: &[u8], piece: Piece, limit: u64) -> Option<Front<'_>>
     }
 }
 
-// A line of a form with at most N numbers, none of its decimal ones above a limit. Kept: the place
-// of the next number is counted, as in fixed memory there is no list to push it to.
+// A line of a form with at most N numbers, none of its decimal ones above a limit.
+// Kept: the place of the next number is counted, since `Line` has an array of just the form's numbers.
 pub fn read_form<'a, const N: usize>(text: &'a [u8], form: &[u8], limit: u64) -> Option<Line<'a, N>>
     requires { fields (map piece_of form.now) ≤ N }
     ensures line { let count = fields (map piece_of form.now) in

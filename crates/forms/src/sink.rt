@@ -52,8 +52,8 @@ impl Sink for Count {
 }
 
 // A lent slice, and the place of the next byte.
-// Kept: Drop alone, since no two can hold the same `&mut`.
-#[derive(Drop)]
+// Kept: no equality, since a `&mut` slice has none, and no copy.
+#[derive(Debug, Drop)]
 pub struct Cursor<'a> {
     pub out: &'a mut [u8],
     pub at: usize,

@@ -3,7 +3,7 @@ use Rattle.std.proofs.Common.{◌≡◌, ℕ, zero, suc, ◌<◌, List, [], ◌�
 use lib.ListN.{length-map}
 use lib.Seq.{ext_get_or}
 use Rattle.lists.specs.Filled.{filled}
-use Rattle.lists.proofs.Lists.{get_or_map_in}
+use Rattle.std.proofs.lemmas.List.{get_or-map}
 use Rattle.lists.proofs.Filling.{filled_length, get_or_filled}
 
 pub eight : {A : Type 0} (d : A) (l : List A) → length l ≡ 8
@@ -41,4 +41,4 @@ eight_set d g f l p long eight_places same =
     let below : q < 8 = omega (arith, filled_length 0 8 g l) in
     get_or_filled 0 8 g l q d (omega arith) (omega arith) (omega arith)
     ∙ same q below
-    ∙ sym (get_or_map_in f p q 0 d (omega arith)))
+    ∙ sym (get_or-map f p q 0 d (omega arith)))

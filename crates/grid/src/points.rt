@@ -83,8 +83,8 @@ fn stepped_point(min: Vec3, steps: Vec3, at: Vec3i) -> Vec3
 }
 
 // Point p of a leaf.
-// Kept: a leaf's box and its points along an axis are two parameters. A caller has them apart, the box from
-// a child and l from the grid, and would make a struct of them for one call.
+// Kept: a leaf's box and its points along an axis are two parameters. Callers have them apart, the box from
+// a child and l from the grid.
 pub fn leaf_point(b: BoundingBox, l: u32, p: usize) -> Vec3
     requires { 0 < l }
     ensures { result ≡ leaf_point b l p }

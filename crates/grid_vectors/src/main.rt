@@ -36,7 +36,7 @@ fn answer_to(text: &[u8]) -> Option<Answer>
     answer(word, Numbers::new(&line.numbers))
 }
 
-// Kept: a main of its own, since the two calls are all that it is.
+// Kept: a main of its own. What two programs share of it is a loop of three calls, each program's own.
 fn main(rt: HostRuntime) -> io::Result<()> {
     let mut text = Vec::new(rt.alloc());
     rt.stdin().read_to_end(&mut text)?;

@@ -1,11 +1,12 @@
 -- What an input gives that no cause of open meets: `Clear`, and the law both ways.
-use mathlib.Core.Path.{◌≡◌}
-use mathlib.Core.Bool.{false, ◌||◌}
+use mathlib.Core.Path.{◌≡◌, refl}
+use mathlib.Core.Bool.{true, false, ◌||◌}
 use Prim.Native.Nat.{◌+◌, ◌*◌, ◌≤◌}
 use lib.Dec.{ltb}
 use borrow.Author.Tests.{ltb-false, le-ltb}
 use Rattle.lists.proofs.Tests.{or_left, or_right}
-use Rattle.std.specs.Prelude.{Ok}
+use Rattle.std.specs.Prelude.{Result, Ok, Err, is_ok}
+use Rattle.causes.specs.declared.Cause.{Cause}
 use Rattle.causes.proofs.Lists.{none_applies, answered}
 use Rattle.model.specs.Model.{refused_by_four}
 use Rattle.grid.specs.declared.Grid.{Grid}
@@ -69,6 +70,14 @@ module _ (i : Input) (l : Lengths) where
       let fourth = third.1 in
       let fifth = fourth.1 in
       record { one = first.0; two = second.0; three = third.0; four = fourth.0; five = fifth.0; lent = long i.grid l fifth.1.0 }
+
+  -- an input whose refusal is none
+  pub no_cause_lem : is_ok (refusal_of i l) ≡ true → Clear i l
+  no_cause_lem e = by (refusal_of i l) refl e
+    where
+      by : (r : Result Unit Cause) → refusal_of i l ≡ r → is_ok r ≡ true → Clear i l
+      by (Ok u) same ok = clear same
+      by (Err cause) same ok = cc
 
   pub accepted : Clear i l → refusal_of i l ≡ Ok tt
   unfolding refusal_of open_causes

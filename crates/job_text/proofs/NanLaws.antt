@@ -8,7 +8,7 @@ use lib.ListN.{length, get_or, take, set, get_or-eq_default}
 use lib.Seq.{get_or-take, length-take-le, take-suc-set}
 use Rattle.std.proofs.lemmas.List.{take-map}
 use Rattle.float.specs.Zero.{plus_zero}
-use Rattle.lists.proofs.Lists.{get_d_any}
+use Rattle.std.proofs.lemmas.List.{get_or_default}
 use Rattle.lists.proofs.Tables.{length_more, get_or_last}
 use Rattle.model.specs.declared.ModelComponent.{ModelComponent}
 use Rattle.model.specs.declared.Part.{Part}
@@ -54,7 +54,7 @@ module _ (parts : List Part) (patterns : List ℕ) where
       → get_or nans (count - 1) 0 ≡ nan_pattern parts patterns count
   unfolding nan_pattern
   nans_done nans count some room so =
-      get_d_any nans (count - 1) 0 computed_nan (omega arith)
+      get_or_default nans (count - 1) 0 computed_nan (omega arith)
       ∙ sym (get_or-take count nans (count - 1) computed_nan (omega arith))
       ∙ ap (λ (l : List ℕ). get_or l (count - 1) computed_nan) so
 

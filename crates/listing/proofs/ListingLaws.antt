@@ -10,7 +10,7 @@ use borrow.Author.Tests.{le-leb, lt-leb}
 use lib.Ieee.{Float}
 use lib.ListN.{length, get_or, take, drop, replicate, length-append}
 use lib.Seq.{sets, sets-eq, take_at, length-sets}
-use Rattle.lists.proofs.Lists.{get_d_any}
+use Rattle.std.proofs.lemmas.List.{get_or_default}
 use Rattle.lists.proofs.Tests.{and_left, and_right}
 use Rattle.float.specs.Zero.{plus_zero}
 use Rattle.schedule.specs.Memory.{Memory}
@@ -104,7 +104,7 @@ unfolding line_at
 line_read children points nan m j d below =
     ap
     (λ x. kind_line points nan (j / children) (j % children) (get_or m.kinds j 0) x (get_or m.places j 0) m.store)
-    (get_d_any m.numbers j d plus_zero below)
+    (get_or_default m.numbers j d plus_zero below)
 
 -- ---- how many bytes
 

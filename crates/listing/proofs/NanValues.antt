@@ -12,7 +12,7 @@ use lib.Ieee.Fits.{neg-fits, add-fits, sub-fits}
 use Rattle.float.specs.Zero.{plus_zero}
 use Rattle.float.specs.Select.{min_of, max_of}
 use Rattle.geometry.specs.Distance.{distance_of}
-use Rattle.lists.proofs.Lists.{get_d_any}
+use Rattle.std.proofs.lemmas.List.{get_or_default}
 use Rattle.lists.proofs.Tables.{length_more}
 use Rattle.model.specs.declared.Part.{Part}
 use Rattle.model.specs.declared.Part.TheVariants.{Constant, Sphere, Plane, Min, Max, Add, Sub, Neg}
@@ -177,7 +177,7 @@ module _ (parts : List Part) (patterns : List ℕ) (x y z : Float) where
   last_bits count own some =
       let bits = bits_to parts patterns x y z count in
       let is : model_bits parts patterns count x y z ≡ get_or bits (count - 1) computed_nan =
-      get_d_any bits (count - 1) 0 computed_nan (omega (arith, bits_length parts patterns x y z count)) in
+      get_or_default bits (count - 1) 0 computed_nan (omega (arith, bits_length parts patterns x y z count)) in
       ap (bits_in (nan_pattern parts patterns count)) (sym (model_bits_value parts patterns x y z count own) ∙ ap float_of is)
       ∙ all_same count own (count - 1)
       ∙ sym is

@@ -37,7 +37,7 @@ fn list_read(job: Job, out: &mut [u8]) -> Result<usize, Unlisted>
 }
 
 // Puts what `fieldlist` prints for a text at the front of the lent bytes, and 0 after it. The answer is
-// how many bytes that is, or 6 where they do not fit.
+// how many bytes that is; where they do not fit it is refused by cause 6.
 pub fn list_job(text: &[u8], out: &mut [u8]) -> Result<usize, Unlisted>
     ensures answer { result ≡ put_answer (listed text.now) out.old }
     ensures out { out.new ≡ put_bytes (listed text.now) out.old }

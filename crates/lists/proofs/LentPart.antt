@@ -83,17 +83,6 @@ module _ {A : Type 0} (at count : ℕ) (l : List A) (d : A) (within : at + count
       ap (λ (n : ℕ). put_mid at n l part) cut
       ∙ lent_part at count g l part d within (ap length is ∙ size) (λ k h. ap (λ (t : List A). get_or t k d) is ∙ same k h)
 
-  -- each element changed by a function
-  pub lent_map : (f : A → A) (end : ℕ) {part : List A} → end ≡ at + count → part ≡ map f (take (end - at) (drop at l))
-      → put_mid at (end - at) l part ≡ filled at count (λ q. f (get_or l q d)) l
-  lent_map f end e is =
-      let row : List A = take (end - at) (drop at l) in
-      let long : length row ≡ count = length-take-le (end - at) (drop at l) (omega (arith, length-drop at l)) ∙ omega arith in
-      lent_copy (λ q. f (get_or l q d)) end (map f row) e is (length-map row f ∙ long)
-      (λ k h.
-      get_or-map f row k d d (omega arith)
-      ∙ ap f (get_or-take (end - at) (drop at l) k d (omega arith) ∙ get_or-drop at l k d))
-
 -- The same at a list's front, as a range without a start lends it.
 module _ {A : Type 0} (count : ℕ) (l : List A) (d : A) (within : count ≤ length l) where
   pub front_set : (v : A) {part : List A} → part ≡ replicate (length (take count l)) v → part ++ drop count l ≡ filled 0 count (λ q. v) l

@@ -13,7 +13,7 @@ use lib.Ieee.{Float}
 use borrow.Author.Tests.{ltb-true, ltb-false}
 use Rattle.lists.specs.Filled.{filled}
 use Rattle.lists.specs.Tabulate.{tabulate}
-use Rattle.lists.proofs.Lists.{get_d_any}
+use Rattle.std.proofs.lemmas.List.{get_or_default}
 use Rattle.lists.proofs.Tables.{length_tabulate, get_d_tabulate, tabulate_cong, get_or_before, get_or_last}
 use Rattle.lists.proofs.Filling.{filled_same}
 use Rattle.float.specs.Zero.{plus_zero}
@@ -162,7 +162,7 @@ module _ (l : List Part) (n : ℕ) (points : PointRow) (values : List Float) whe
       last_row k some hk long =
           ap (λ (t : List Float). get_or t (lane_at (count - 1) k) past) (sym all_rows)
           ∙ rows_at count (omega arith) (count - 1) k (omega arith) hk long
-          ∙ get_d_any (below k count) (count - 1) past plus_zero (omega (arith, below_long k count))
+          ∙ get_or_default (below k count) (count - 1) past plus_zero (omega (arith, below_long k count))
 
 -- the row of the model's values, from the last of the rows, or from +0 where there is no part
 module _ (l : List Part) (count n : ℕ) (points : PointRow) (values results : List Float) where

@@ -6,7 +6,8 @@ use native.Mathlib.Numerals.{add-one}
 use native.Mathlib.Omega.{arith}
 use lib.ListN.{length, get_or, set, drop, length-append, length-drop, get_or-append}
 use lib.Ieee.{Float}
-use Rattle.lists.proofs.Lists.{front_set, get_d_any}
+use Rattle.std.proofs.lemmas.List.{get_or_default}
+use Rattle.lists.proofs.Lists.{front_set}
 use Rattle.lists.proofs.Tables.{get_d_tabulate}
 use Rattle.float.specs.Zero.{plus_zero}
 use Rattle.model.specs.Part.{past, part_value}
@@ -69,4 +70,4 @@ module _ (l : List Part) (count : ℕ) (x y z : Float) where
     last_written some =
         let within : count - 1 < length (values_below count) = omega (arith, length_values_to (parts_of l count) x y z count) in
         get_or-append (values_below count) (drop count entry) past (count - 1) within
-        ∙ get_d_any (values_below count) (count - 1) past plus_zero within
+        ∙ get_or_default (values_below count) (count - 1) past plus_zero within

@@ -61,12 +61,15 @@ module _ (values : List Float) (p : ℕ) where
   pub filled_past : (n : ℕ) (f : ℕ → Float) (j : ℕ) → lane_at p n ≤ j → get_or (filled_row values p n f) j past ≡ get_or values j past
   filled_past n f j h = unfilled n f j (λ from. h)
 
+  -- a lane's own value
+  at_lane : (f : ℕ → Float) (k : ℕ) → placed f (lane_at p k) ≡ f k
+  at_lane f k = let lane : lane_at p k - p * 64 ≡ k = omega arith in ap f lane
+
   -- a filled lane
   pub filled_at : (n : ℕ) (f : ℕ → Float) (k : ℕ) → k < n → lane_at p k < length values → get_or (filled_row values p n f) (lane_at p k) past ≡ f k
   unfolding filled_row
   filled_at n f k h long =
-      let lane : lane_at p k - p * 64 ≡ k = omega arith in
-      lists.get_or_filled (p * 64) n (placed f) values (lane_at p k) past (omega arith) (omega arith) long ∙ ap f lane
+      lists.get_or_filled (p * 64) n (placed f) values (lane_at p k) past (omega arith) (omega arith) long ∙ at_lane f k
 
 -- ---- a row that is lent behind the rows before it, and comes back filled
 

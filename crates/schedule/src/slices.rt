@@ -7,7 +7,7 @@ use input::Lengths;
 
 // Five slices, to be written (rule S1). They are the lender's: a call that takes them leaves the same
 // five.
-// Kept: Drop alone, since no two can hold the same `&mut`.
+// Kept: no equality, since `&mut` slices have none, and no copy.
 #[derive(Drop)]
 pub struct Slices<'a> {
     pub kinds: &'a mut [u8],
@@ -18,7 +18,7 @@ pub struct Slices<'a> {
 }
 
 // The same five, to be read.
-#[derive(Clone, Copy, Debug)]
+#[derive(Clone, Copy, Debug, PartialEq)]
 pub struct View<'a> {
     pub kinds: &'a [u8],
     pub numbers: &'a [f64],

@@ -9,6 +9,8 @@ use Rattle.float.specs.Zero.{plus_zero}
 use Rattle.input.specs.declared.Lengths.{Lengths}
 use Rattle.grid.specs.Blocks.{cube}
 use Rattle.grid.specs.Nodes.{nodes_of}
+use Rattle.grid.specs.Limits.{children_of}
+use Rattle.grid.proofs.LimitLaws.{inner_block, leaf_block, few_children}
 use Rattle.grid.proofs.Counts.{i_above, j_above, k_above}
 use Rattle.input.proofs.Clear.{Clear, clear}
 use Rattle.schedule.specs.Schedule.{schedule, nodes_from}
@@ -32,8 +34,7 @@ use Rattle.engine.specs.declared.Progress.{Progress}
 use Rattle.schedule.specs.declared.Cursor.TheVariants.{End, Corner, Point}
 use Rattle.plans.specs.Plan.{plan_with, plan_of, value_of, decide_by}
 use Rattle.sparse_field.specs.Inner.Parts.{start_memory, cursor_at}
-use Rattle.engine.proofs.Sizes as sizes
-use Rattle.engine.proofs.Sizes.{Sized}
+use Rattle.engine.specs.Inner.Sizes.{Sized}
 use Rattle.engine.specs.Inner.Progress.{Lent, Advanced, reading_in, ZeroCorners}
 use Rattle.plans.specs.Sparse.{sparse}
 use Rattle.engine.specs.Inner.Startable.{Startable}
@@ -46,7 +47,16 @@ use Rattle.sparse_field.proofs.Results.{reached, final, engine_after}
 
 -- sizes that no cause refuses
 pub sized : (i : Input) {l : Lengths} → Clear i l → Sized i.grid
-sized i none = sizes.sized (record { grid = i.grid; two = none.two; five = none.five })
+unfolding children_of
+sized i none =
+    let g = i.grid in
+    record {
+      inner_least = omega (arith, (inner_block g none.two).least);
+      inner_most = (inner_block g none.two).most;
+      leaf_least = omega (arith, (leaf_block g none.two).least);
+      leaf_most = (leaf_block g none.two).most;
+      children = few_children g none.five;
+    }
 
 -- memory whose lengths no cause refuses
 pub lent_memory : (i : Input) (m : Memory) → Clear i (lengths_of m) → ActiveKinds (plan_of i) m.kinds → Lent (plan_of i) m

@@ -13,7 +13,7 @@ use Rattle.schedule.proofs.Sums.{up_to_most}
 use Rattle.plans.specs.Plan.{plan_of, plan_with}
 use Rattle.plans.specs.Sparse.{sparse}
 use Rattle.plans.proofs.Lawful.{sparse_laws}
-use Rattle.engine.proofs.Sizes.{Sized}
+use Rattle.engine.specs.Inner.Sizes.{Sized}
 use Rattle.engine.specs.Inner.Progress.{Lent}
 use Rattle.engine.specs.Inner.Startable.{Startable}
 use Rattle.sparse_field.proofs.Opening.{sized, lent_memory, valid_startable}

@@ -15,15 +15,15 @@ use Rattle.engine.specs.declared.Visit.{Visit}
 
 -- a child's place among all children
 abbrev pub place_of : Task → Visit → ℕ
-place_of task w = w.node * cube task.grid.grid.inner + w.place
+place_of task w = w.node * cube task.grid.inner + w.place
 
 -- its box
 abbrev pub box_at : Task → Visit → BoundingBox
-box_at task w = child_box w.bounds task.grid.grid.inner w.place
+box_at task w = child_box w.bounds task.grid.inner w.place
 
 -- the verdict on it, by the corners
 abbrev pub verdict_at : Task → Visit → Memory → Verdict
-verdict_at task w m = verdict_of task.band.min task.band.max (box_at task w) (octet_values m.corners task.grid.grid.inner w.place)
+verdict_at task w m = verdict_of task.band.min task.band.max (box_at task w) (octet_values m.corners task.grid.inner w.place)
 
 -- the memory after a verdict (rules S7 and S8)
 abbrev pub judged : Task → Visit → Memory → Verdict → Memory
@@ -49,10 +49,10 @@ leaf_box task w m = cond (eqb (get_or m.kinds (place_of task w) 0) 0) None (if_l
 
 -- a child's places are inside the slices
 pub record Decidable (task : Task) (w : Visit) (m : Memory) : Type 0 where
-  pub below : w.place < cube task.grid.grid.inner
+  pub below : w.place < cube task.grid.inner
   pub few : place_of task w < 16777216
   pub kinds : place_of task w < length m.kinds
   pub numbers : place_of task w < length m.numbers
   pub places : place_of task w < length m.places
   pub leaves : w.leaves ≤ 16777216
-  pub corners : cube (task.grid.grid.inner + 1) ≤ length m.corners
+  pub corners : cube (task.grid.inner + 1) ≤ length m.corners

@@ -17,7 +17,7 @@ use Rattle.engine.specs.Inner.Runs.{Run, run_of}
 
 -- the plan that the engine's functions work on: a task, with some value at a point, or with that of a model
 abbrev pub plan_by : Task → (Float → Float → Float → Float) → Plan
-plan_by task value = plan_with task.grid.grid (decide_by task.band) value
+plan_by task value = plan_with task.grid (decide_by task.band) value
 
 abbrev pub plan : Task → Plan
 plan task = plan_by task (model_at task.model.now)

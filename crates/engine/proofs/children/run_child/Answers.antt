@@ -5,7 +5,6 @@ use Rattle.schedule.specs.Lent.{held}
 use Rattle.rows.specs.Inner.ModelValue.{model_at}
 use Rattle.plans.specs.Plan.{decide_by}
 use Rattle.engine.specs.Inner.Progress.{ChildrenAdvanced, plan, progress}
-use Rattle.engine.proofs.Sizes.{sized}
 use Rattle.engine.proofs.ChildLaws.{leaves_few}
 use Rattle.engine.proofs.Decisions.{decidable, none_turn, some_inside, some_turn}
 use Rattle.engine.proofs.children.run_child.Goals as goal
@@ -28,8 +27,8 @@ overflow_add-leaf c =
     let a = c.args in
     omega (
       arith,
-      leaves_few a.task.now.grid.grid (decide_by a.task.now.band) (model_at a.task.now.model.now) a.visit.node a.visit.place a.visit.leaves _
-          (sized a.task.now.grid) c.requires.within.1 c.requires.ready,
+      leaves_few a.task.now.grid (decide_by a.task.now.band) (model_at a.task.now.model.now) a.visit.node a.visit.place a.visit.leaves _
+          a.task.now.sized c.requires.within.1 c.requires.ready,
     )
 
 pub leaf_from-requires : goal.leaf_from-requires
@@ -37,8 +36,8 @@ leaf_from-requires c =
     let a = c.args in
     let inside = some_inside a.task.now (model_at a.task.now.model.now) a.visit (held a.slices.now) c.requires.within.0 c.requires.within.1 c.requires.ready
     (sym c.decide_at.ensures.answer ∙ c.in-Some.is) in (
-      (sized a.task.now.grid).leaf_least,
-      (sized a.task.now.grid).leaf_most,
+      a.task.now.sized.leaf_least,
+      a.task.now.sized.leaf_most,
       omega arith,
       omega arith,
       omega (arith, inside, ap (λ m. length m.store) c.decide_at.ensures.memory),

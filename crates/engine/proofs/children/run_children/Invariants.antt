@@ -9,7 +9,7 @@ use Rattle.engine.proofs.children.run_children.Given as goal
 abbrev pub invariant-loop-place : goal.invariant-loop-place
 invariant-loop-place l =
     (l.done.stop ≡ None)
-    × (l.place ≤ cube l.fn.task.grid.grid.inner)
+    × (l.place ≤ cube l.fn.task.grid.inner)
     × SameSlices l.fn.slices l.slices
     × ((held l.slices).corners ≡ (held l.fn.slices).corners)
     × ChildrenAdvanced (plan l.fn.task) l.fn.visit.node l.fn.visit.place l.place l.fn.visit.left l.fn.visit.leaves

@@ -7,7 +7,6 @@ use Rattle.schedule.specs.Totals.{active_all}
 use Rattle.plans.specs.Plan.{plan_with}
 use Rattle.float.specs.Zero.{plus_zero}
 use Rattle.engine.specs.Inner.Progress.{plan, Advanced, reading_in, progress}
-use Rattle.engine.proofs.Sizes.{sized}
 use Rattle.engine.proofs.NodeLaws.{nodes_few, known_start, at_end_lem}
 use Rattle.engine.proofs.nodes.run_from.Goals as goal
 
@@ -31,7 +30,7 @@ pub overflow_add-node : goal.overflow_add-node
 unfolding plan_with
 overflow_add-node c =
     let here = known_start (plan c.args.task.now) c.args.at c.in-Corner.is c.requires.standable in
-    omega (arith, here.0, nodes_few c.args.task.now.grid.grid (sized c.args.task.now.grid))
+    omega (arith, here.0, nodes_few c.args.task.now.grid c.args.task.now.sized)
 
 pub run_nodes-requires-clause-within : goal.run_nodes-requires-clause-within
 unfolding plan_with

@@ -8,8 +8,11 @@ use Rattle.plans.specs.Plan.{plan_with}
 use Rattle.engine.specs.Inner.Progress.{plan, ZeroCorners}
 use Rattle.engine.specs.Inner.Turns.{NodesReady, Continued}
 use Rattle.engine.proofs.Turns.{same_then, none_stop, came_through}
-use Rattle.engine.proofs.NodeLaws.{node_ready, continued_node, continued_end}
+use Rattle.engine.proofs.NodeLaws.{nodes_few, node_ready, continued_node, continued_end}
 use Rattle.engine.proofs.nodes.run_nodes.Goals as goal
+
+pub node_total-node-end-requires : goal.node_total-node-end-requires
+node_total-node-end-requires c = omega (arith, nodes_few c.args.task.now.grid c.args.task.now.sized)
 
 pub run_from_corner-done-requires-clause-ready : goal.run_from_corner-done-requires-clause-ready
 unfolding plan_with
@@ -18,7 +21,7 @@ run_from_corner-done-requires-clause-ready c =
     let ready = l.invariant.2 in
     record {
       lent = ready.lent;
-      node = omega (arith, c.loop-node-test.true, c.nodes-node-end.ensures.is);
+      node = omega (arith, c.loop-node-test.true, c.node_total-node-end.ensures);
       at_most = came_through _ ready.at_most (none_stop (sym c.if-is_some.ensures));
     }
 
@@ -27,7 +30,7 @@ unfolding plan_with
 run_from_corner-done-requires-clause-clean c =
     let l = c.loop-node in
     let ready = l.invariant.2 in
-    let own = c.node_corners-own.ensures.is in (
+    let own = c.cube_of-own.ensures in (
       omega (arith, own),
       record {
         within = omega (arith, own, ready.lent.corners);
@@ -43,7 +46,7 @@ loop-node-preserved c =
     let now = held c.run_from_corner-done.new.slices in
     let done = c.run_from_corner-done in
     let through = none_stop (sym c.if-is_some.ensures) in
-    let below : l.node < P.nodes = omega (arith, c.loop-node-test.true, c.nodes-node-end.ensures.is) in
+    let below : l.node < P.nodes = omega (arith, c.loop-node-test.true, c.node_total-node-end.ensures) in
     let cleared = came_through (ZeroCorners (held l.slices)) l.invariant.2.cleared through in
     let next : suc l.node ≡ l.node + 1 = sym (add-one l.node) in
     let ready = subst (λ n. NodesReady P n done.result now) next (node_ready P l.node _ _ done.ensures.node) in
@@ -55,5 +58,5 @@ pub returns-clause-continued : goal.returns-clause-continued
 unfolding plan_with
 returns-clause-continued c =
     let l = c.loop-node in
-    let all : l.node ≡ (plan c.args.task.now).nodes = omega (arith, c.loop-node-test.false, c.nodes-node-end.ensures.is, l.invariant.0) in
+    let all : l.node ≡ (plan c.args.task.now).nodes = omega (arith, c.loop-node-test.false, c.node_total-node-end.ensures, l.invariant.0) in
     continued_end (plan c.args.task.now) l.node all l.invariant.3

@@ -11,7 +11,7 @@ use Rattle.engine.proofs.nodes.run_nodes.Given as goal
 abbrev pub invariant-loop-node : goal.invariant-loop-node
 invariant-loop-node l =
     let P = plan l.fn.task in
-    (l.node ≤ nodes_of l.fn.task.grid.grid)
+    (l.node ≤ nodes_of l.fn.task.grid)
     × SameSlices l.fn.slices l.slices
     × NodesReady P l.node l.done (held l.slices)
     × Continued P l.fn.so_far (held l.fn.slices) (held l.slices) (nodes_left P l.fn.first) (nodes_left P l.node) l.done (active_before P l.node 0)

@@ -2,7 +2,7 @@
 use Rattle.std.proofs.Common.{◌≡◌, ℕ, ◌∙◌, map, length, replicate, get_or, refl, sym, ap, arith}
 use lib.Ieee.{nan}
 use Rattle.lists.specs.Filled.{filled}
-use Rattle.lists.proofs.Lists.{get_d_any}
+use Rattle.std.proofs.lemmas.List.{get_or_default}
 use Rattle.lists.proofs.Filling.{filled_none, front_store}
 use Rattle.float.specs.Zero.{plus_zero}
 use Rattle.grid.specs.Inner.Octets.{octet_values}
@@ -35,5 +35,5 @@ returns c =
     c.loop-q.invariant
     ∙ ap (λ (n : ℕ). filled 0 n (λ q. get_or values (get_or places q 0) nan) (replicate 8 plus_zero)) last
     ∙ eight_set nan _ (λ q. get_or values q plus_zero) (replicate 8 plus_zero) places refl long
-    (λ q h. get_d_any values (get_or places q 0) nan plus_zero (octet_inside _ q _ _ _ c.octet-places.ensures p.0 p.2 p.3 h))
+    (λ q h. get_or_default values (get_or places q 0) nan plus_zero (octet_inside _ q _ _ _ c.octet-places.ensures p.0 p.2 p.3 h))
     ∙ ap (map (λ q. get_or values q plus_zero)) c.octet-places.ensures

@@ -13,7 +13,7 @@ use Rattle.sparse_field.proofs.calls.opened.Goals as goal
 pub run_job-turn-requires-clause-sized : goal.run_job-turn-requires-clause-sized
 run_job-turn-requires-clause-sized c =
     let none = nothing c.args.input (lengths_of (held c.args.slices.now)) c.requires.1 in
-    (none.two, none.five, none.four)
+    (sized c.args.input none, none.four)
 
 pub run_job-turn-requires-clause-lent : goal.run_job-turn-requires-clause-lent
 run_job-turn-requires-clause-lent c =

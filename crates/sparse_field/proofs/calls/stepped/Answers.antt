@@ -11,8 +11,7 @@ use Rattle.sparse_field.proofs.calls.stepped.Goals as goal
 pub run_job-turn-requires-clause-sized : goal.run_job-turn-requires-clause-sized
 run_job-turn-requires-clause-sized c =
     let m = held c.args.slices.now in
-    let none = unrefused c.args.job m c.requires in
-    (none.two, none.five, none.four)
+    (size c.args.job m c.requires, (unrefused c.args.job m c.requires).four)
 
 pub run_job-turn-requires-clause-lent : goal.run_job-turn-requires-clause-lent
 run_job-turn-requires-clause-lent c =
