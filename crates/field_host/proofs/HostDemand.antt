@@ -41,7 +41,7 @@ use Rattle.plans.proofs.Lawful.{sparse_laws, long_enough}
 use Rattle.plans.proofs.OwnCorners.{own_corners, constant_not_leaf}
 use Rattle.sparse_field.proofs.CallLaws.{refused_by, accepted_with, step_none, step_impossible, step_accepted, drop_accepted}
 use Rattle.field_host.specs.Given.{input_given}
-use Rattle.field_host.specs.Carried.{Carried, input_in, fits, flagged, job_given, decoded, encoded}
+use Rattle.field_host.specs.Carried.{Carried, input_in, fits, flagged, job_given, decoded}
 use Rattle.field_host.specs.Answers.{outcome_number}
 use Rattle.field_host.specs.Hosted.{left_by, carried_after, hosted}
 use Rattle.field_host.specs.Demand as demand

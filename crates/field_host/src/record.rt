@@ -157,7 +157,6 @@ pub fn decode(
 }
 
 // A cursor's tag and its three places, 0 where it has none.
-#[tactic(auto, unfolding(crate::specs::Carried::cursor_tag, crate::specs::Carried::cursor_node, crate::specs::Carried::cursor_place, crate::specs::Carried::cursor_point))]
 pub fn cursor_words(cursor: Cursor) -> [u64; 4]
     ensures { result ≡ cursor_words cursor }
 {
