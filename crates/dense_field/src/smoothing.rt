@@ -17,7 +17,7 @@ fn copy_values(old: &[f64], new: &mut [f64], at: usize, count: usize)
     requires { (at + count ≤ length old.now) × (length new.old ≡ length old.now) }
     ensures { new.new ≡ filled at count (value_of old.now) new.old }
 {
-    new[at..at + count].copy_from_slice(&old[at..at + count]);
+    model::copy_values(&old[at..at + count], &mut new[at..at + count]);
 }
 
 // The sum of a point's six neighbours.

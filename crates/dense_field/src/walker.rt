@@ -1,5 +1,5 @@
 // The octet walker: a field's values, its numbers of points and the cell that the walk stands at,
-// after `DenseCellValueIterator`. It leaves the work to `octet_step`.
+// after `DenseCellValueIterator`. It leaves the work to `octet_step` and `after_walk`.
 ghost use Rattle.std.specs.Prelude.{◌≡◌};
 ghost use Rattle.geometry.specs.Values.{vec3i};
 ghost use Rattle.dense_field.specs.Walks.{octet_step};
@@ -17,6 +17,18 @@ pub struct DenseCellValueIterator<'a> {
     pub data: &'a [f64],
     pub current: Vec3i,
     pub point_count: Vec3i,
+}
+
+// The cell that a walk stands at after a step: the next one, or the same where it is done or refused.
+#[tactic(auto, unfolding(crate::specs::Traces::after_step))]
+fn after_walk(found: Result<Option<Step<[f64; 8]>>, Cause>, current: Vec3i) -> Vec3i
+    ensures { result ≡ after_step found current }
+{
+    match found {
+        Ok(Some(step)) => step.next,
+        Ok(None) => current,
+        Err(_) => current,
+    }
 }
 
 impl<'a> DenseCellValueIterator<'a> {
@@ -51,18 +63,16 @@ impl<'a> DenseCellValueIterator<'a> {
     }
 
     // A step that moves the walker's own cell on. Where it finds none the cell stays.
-    #[tactic(auto, unfolding(crate::specs::Traces::after_step))]
     pub fn next<'s>(&'s mut self) -> Result<Option<Step<[f64; 8]>>, Cause>
         ensures { (result ≡ octet_step self.old.point_count self.old.«data».now self.old.current)
             ×
             (self.new ≡ walker_at self.old.«data» self.old.point_count
             (after_step result self.old.current)) }
     {
-        let step = octets::octet_step(self.point_count, self.data, self.current);
-        if let Ok(Some(at)) = step {
-            self.current = at.next;
-        }
-        step
+        let current = self.current;
+        let found = octets::octet_step(self.point_count, self.data, current);
+        self.current = after_walk(found, current);
+        found
     }
 }
 

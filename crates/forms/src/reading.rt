@@ -47,7 +47,8 @@ fn digits_after(text: &[u8], first: u64, limit: u64) -> Option<Front<'_>>
             break;
         };
         let more = value.checked_mul(10)?.checked_add(u64::from(d))?;
-        if more > limit {
+        let above = more > limit;
+        if above {
             return None;
         }
         value = more;

@@ -10,7 +10,6 @@ mod jobs; // jobs.rt: the causes of open
 use cases::{Answer, Numbers};
 use grid_cases::Word;
 use std::io;
-use std::io::Read;
 use vectors::Lines;
 
 // The answer to a case with this word, where its numbers are one.
@@ -36,11 +35,17 @@ fn answer_to(text: &[u8]) -> Option<Answer>
     answer(word, Numbers::new(&line.numbers))
 }
 
+// Room for the whole of standard input. Kept: the program's memory is fixed, and what goes past the room
+// is not read.
+fn room() -> [u8; 655360] {
+    [0; 655360]
+}
+
 // Kept: a main of its own. What two programs share of it is a loop of three calls, each program's own.
 fn main(rt: HostRuntime) -> io::Result<()> {
-    let mut text = Vec::new(rt.alloc());
-    rt.stdin().read_to_end(&mut text)?;
-    for line in Lines::new(&text) {
+    let mut text = room();
+    let n = streams::read_text(&mut rt.stdin(), &mut text)?;
+    for line in Lines::new(&text[..n]) {
         cases::write_answer(&rt, answer_to(line))?;
     }
     Ok(())

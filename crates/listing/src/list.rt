@@ -38,6 +38,7 @@ fn list_read(job: Job, out: &mut [u8]) -> Result<usize, Unlisted>
 
 // Puts what `fieldlist` prints for a text at the front of the lent bytes, and 0 after it. The answer is
 // how many bytes that is; where they do not fit it is refused by cause 6.
+#[tactic(auto, using(crate::proofs::ListedLaws::off_here, crate::proofs::ListedLaws::on_here))]
 pub fn list_job(text: &[u8], out: &mut [u8]) -> Result<usize, Unlisted>
     ensures answer { result ≡ put_answer (listed text.now) out.old }
     ensures out { out.new ≡ put_bytes (listed text.now) out.old }

@@ -3,6 +3,7 @@ ghost use Rattle.std.specs.Prelude.{◌≡◌, ◌++◌, min, take, drop};
 ghost use Rattle.model.specs.Row.{evaluated_rows, model_row};
 ghost use Rattle.model.specs.Model.{values_to, parts_in, parts_of, parts_value, evaluation_of};
 
+use super::copies::copy_values;
 use super::lanes::row_of;
 use super::refusals::cause_four;
 use super::{ImplicitModel, ModelComponent, point, row};
@@ -74,5 +75,5 @@ pub fn evaluate_row_into(
         results[..lanes].fill(0.0);
         return;
     }
-    results[..lanes].copy_from_slice(row_of(values, count - 1, lanes));
+    copy_values(row_of(values, count - 1, lanes), &mut results[..lanes]);
 }

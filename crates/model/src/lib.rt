@@ -4,6 +4,7 @@
 
 use geometry::Vec3;
 
+mod copies; // copies.rt: floats, copied
 mod evaluations; // evaluations.rt: the calls that evaluate, at a point and at a row of points
 mod layout; // layout.rt: a model's parts in two flat arrays, as hosts carry them
 mod lanes; // lanes.rt: a part's values at a row of points
@@ -11,6 +12,7 @@ mod point; // point.rt: the parts' values at a point
 mod refusals; // refusals.rt: the test of cause 4
 mod row; // row.rt: all parts' values at a row of points
 
+pub use copies::copy_values;
 pub use evaluations::{evaluate_at_coord, evaluate_parts, evaluate_row, evaluate_row_into};
 pub use layout::lay_out;
 pub use refusals::{cause_four, inputs_below};

@@ -9,7 +9,6 @@ use cases::{Line, Numbers};
 use list::List;
 use sparse_cases::{Output, Word};
 use std::io;
-use std::io::Read;
 use vectors::{Lines, OFF};
 
 // A line's word and its numbers, where so many may follow the word.
@@ -45,9 +44,15 @@ fn take_lines(rt: &impl Print, text: &[u8]) -> io::Result<()> {
     output.close(rt)
 }
 
+// Room for the whole of standard input. Kept: the program's memory is fixed, and what goes past the room
+// is not read.
+fn room() -> [u8; 1048576] {
+    [0; 1048576]
+}
+
 // Kept: a main of its own, since the two calls are all that it is.
 fn main(rt: HostRuntime) -> io::Result<()> {
-    let mut text = Vec::new(rt.alloc());
-    rt.stdin().read_to_end(&mut text)?;
-    take_lines(&rt, &text)
+    let mut text = room();
+    let n = streams::read_text(&mut rt.stdin(), &mut text)?;
+    take_lines(&rt, &text[..n])
 }

@@ -11,6 +11,6 @@ returns c =
     let a = c.args in
     let m = a.at + a.count - a.at in
     lent_copy a.at a.count a.new.now plus_zero (omega arith) (value_of a.old.now) (a.at + a.count) (take m (drop a.at a.old.now)) (omega arith)
-    c.copy_from_slice.ensures.after
+    c.copy_values.ensures
     (length-take-le m (drop a.at a.old.now) (omega (arith, length-drop a.at a.old.now)) ∙ omega arith)
     (λ k h. get_or-take m (drop a.at a.old.now) k plus_zero (omega arith) ∙ get_or-drop a.at a.old.now k plus_zero)

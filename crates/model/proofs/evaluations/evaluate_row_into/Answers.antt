@@ -35,5 +35,5 @@ returns-clause-results c =
     let parts = c.counted-parts.result.now in
     row_of_last (map part_in parts) (length parts) c.min-lanes.result a.points.now a.values.now a.results.now
     (omega arith) (omega arith) c.fill_parts.ensures (search rules) c.row_of.ensures.lanes
-    (front_copy _ a.results.now past (omega arith) _ _ c.copy_from_slice.ensures.after c.row_of.ensures.long (λ k h. refl))
+    (front_copy _ a.results.now past (omega arith) _ _ c.copy_values.ensures c.row_of.ensures.long (λ k h. refl))
     ∙ front_row m.parts _ (min m.count 64) (omega arith) c.counted-parts.ensures (min a.n 64) a.points.now a.results.now c.min-lanes.ensures
