@@ -34,7 +34,8 @@ impl NodeTables {
     ghost use Rattle.grid.specs.Boxes.{active};
     ghost use Rattle.kinds.specs.Inner.Tables.{node_test};
 
-    // Those of node v.
+    // Those of node v. Inlined, so that a loop over the nodes works out once what is the same for all.
+    #[inline(always)]
     pub fn of(g: SizedGrid, v: usize) -> NodeTables
         ensures size { result.n ≡ g.grid.inner }
         ensures tests { (c : ℕ) → c < cube g.grid.inner

@@ -20,7 +20,7 @@ pub fn hex16(s: &[u8], at: usize) -> Option<u64>
     let digits = part_at(s, at, 16)?;
     let mut n: u64 = 0;
     for b in digits {
-        n = n * 16 + u64::from(hex_digit(*b)?);
+        n = n * 16 + u64::from(hex_digit(*b as u64)?);
     }
     Some(n)
 }
