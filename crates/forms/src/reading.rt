@@ -47,8 +47,7 @@ fn digits_after(text: &[u8], first: u64, limit: u64) -> Option<Front<'_>>
             break;
         };
         let more = value.checked_mul(10)?.checked_add(u64::from(d))?;
-        let above = more > limit;
-        if above {
+        if more > limit {
             return None;
         }
         value = more;

@@ -20,10 +20,10 @@ returns-in_err-more c =
     (omega (arith, c.ranges.limit, c.from.ensures, c.in_ok-checked_mul.ensures, c.in_err-more.ensures))
     ∙ c.loop-b.invariant.whole
 
-pub returns-then-above : goal.returns-then-above
-returns-then-above c =
+pub returns-then-more-limit : goal.returns-then-more-limit
+returns-then-more-limit c =
     after_past c.in-Some.ensures.cases.0 (sym c.decimal_digit.ensures ∙ c.in-Some-decimal_digit.is) _ c.loop-b.value
-    (omega (arith, c.from.ensures, c.in_ok-checked_mul.ensures, c.in_ok-more.ensures, c.if-above.true))
+    (omega (arith, c.from.ensures, c.in_ok-checked_mul.ensures, c.in_ok-more.ensures, c.if-more-limit.true))
     ∙ c.loop-b.invariant.whole
 
 pub loop-b-preserved : goal.loop-b-preserved
