@@ -9,3 +9,4 @@ pub mod PartRow
 pub mod AllRows
 pub mod SameParts
 pub mod Front
+pub mod FlatParts
