@@ -1,25 +1,9 @@
 -- `flat::part_from` meets its contract: each code gives the part at its place of the list.
 use native.Mathlib.Omega.{arith}
-use mathlib.Core.Path.{◌≡◌, refl, sym}
-use mathlib.Core.List.{[], ◌∷◌}
-use Prim.Native.Nat.{ℕ, ◌<◌}
-use lib.ListN.{get_or-eq_default}
-use lib.Ieee.{Float}
-use Rattle.float.specs.Zero.{plus_zero}
-use Rattle.geometry.specs.declared.Vec3.{Vec3}
-use Rattle.model.specs.declared.Part.TheVariants.{Constant, Sphere, Plane, Min, Max, Add, Sub, Neg}
+use mathlib.Core.Path.{refl, sym}
 use Rattle.model.specs.Flat.{part_from}
+use Rattle.model.proofs.FlatParts.{unknown_code}
 use Rattle.model.proofs.flat.part_from.Goals as goal
-
--- a code that no part has
-unknown : (code : ℕ) (v : Vec3) (w : Float) (a b : ℕ) → 7 < code → part_from code v w a b ≡ Constant plus_zero
-unfolding part_from
-unknown code v w a b h =
-    get_or-eq_default
-    (Constant w ∷ Sphere v w ∷ Plane v w ∷ Min a b ∷ Max a b ∷ Add a b ∷ Sub a b ∷ Neg a ∷ [])
-    (Constant plus_zero)
-    {n = code}
-    h
 
 pub returns-in-0 : goal.returns-in-0
 unfolding part_from
@@ -55,4 +39,4 @@ returns-in-7 c = rw c.in-7.is refl
 
 pub returns-in_default : goal.returns-in_default
 returns-in_default c =
-    sym (unknown _ _ _ _ _ (omega arith))
+    sym (unknown_code _ _ _ _ _ (omega arith))
