@@ -2,6 +2,8 @@
 //! benchmark calls beyond it (`bench_host`).
 
 pub mod fields;
+#[cfg(feature = "original")]
+pub mod many;
 mod model;
 pub mod points;
 pub mod sparse;

@@ -71,21 +71,22 @@ fn chain() -> Vec<Part> {
     parts
 }
 
-/// How many points are measured: so many that making the model, once, is little beside them.
-const POINTS: usize = 64 * ROW;
-
-/// Points of which one coordinate goes on and two stay.
+/// The points of a row: one coordinate goes on, two stay.
 struct Points {
-    x: Vec<f64>,
-    y: Vec<f64>,
-    z: Vec<f64>,
+    x: [f64; ROW],
+    y: [f64; ROW],
+    z: [f64; ROW],
 }
 
 fn points() -> Points {
+    let mut x = [0.0; ROW];
+    for (i, place) in x.iter_mut().enumerate() {
+        *place = 0.05 + 0.1 * i as f64;
+    }
     Points {
-        x: (0..POINTS).map(|i| 0.05 + 0.1 * (i % ROW) as f64).collect(),
-        y: vec![1.3; POINTS],
-        z: vec![0.7; POINTS],
+        x,
+        y: [1.3; ROW],
+        z: [0.7; ROW],
     }
 }
 
@@ -93,8 +94,24 @@ fn points() -> Points {
 fn model(name: &str, parts: &[Part]) {
     let at = points();
     let layout = Layout::new(parts);
-    let mut at_points = |out: &mut [f64]| host::evaluate(&layout, [&at.x, &at.y, &at.z], out);
+    let mut parts_values = [0.0; ROW];
+    let mut at_points = |out: &mut [f64]| {
+        for (i, result) in out.iter_mut().enumerate() {
+            *result = host::evaluate(&layout, at.x[i], at.y[i], at.z[i], &mut parts_values);
+        }
+    };
     compare(&format!("{name}, at points"), parts, &at, &mut at_points);
+    in_rows(name, parts, &at, &layout);
+}
+
+fn in_rows(name: &str, parts: &[Part], at: &Points, layout: &Layout) {
+    let mut values = [0.0; ROW * ROW];
+    let mut ours = |out: &mut [f64]| {
+        host::evaluate_row(layout, [&at.x, &at.y, &at.z], &mut values);
+        let last = (parts.len() - 1) * ROW;
+        out.copy_from_slice(&values[last..last + ROW]);
+    };
+    compare(&format!("{name}, in rows of 64"), parts, at, &mut ours);
 }
 
 type Ours<'a> = &'a mut dyn FnMut(&mut [f64]);
@@ -109,7 +126,7 @@ fn compare(name: &str, parts: &[Part], at: &Points, ours: Ours) {
             *result = graph.evaluate_at_coord(at.x[i], at.y[i], at.z[i]);
         }
     };
-    row(name, POINTS, ours, Some(&mut original));
+    row(name, ROW, ours, Some(&mut original));
 }
 
 #[cfg(feature = "original")]
@@ -129,5 +146,5 @@ pub fn theirs(part: &Part) -> original::parts::Part {
 
 #[cfg(not(feature = "original"))]
 fn compare(name: &str, _: &[Part], _: &Points, ours: Ours) {
-    row(name, POINTS, ours, None);
+    row(name, ROW, ours, None);
 }

@@ -65,7 +65,7 @@ fn in_a_row(layout: &Layout, parts: &[Part], points: [&[f64; ROW]; 3]) -> [f64; 
     values[last..last + ROW].try_into().expect("a row")
 }
 
-/// Compares values at points, alone and in rows. Answers how many differ.
+/// Compares values at points, alone, many in one call, and in rows. Answers how many differ.
 pub fn values() -> usize {
     let mut random = Random(11);
     let mut tally = Tally::default();
@@ -74,14 +74,16 @@ pub fn values() -> usize {
         let [x, y, z] = [(); 3].map(|_| [(); ROW].map(|_| number(&mut random)));
         let layout = Layout::new(&parts);
         let row = in_a_row(&layout, &parts, [&x, &y, &z]);
-        let mut alone = [0.0; ROW];
-        host::evaluate(&layout, [&x, &y, &z], &mut alone);
+        let mut many = [0.0; ROW];
+        host::many::values(&layout, [&x, &y, &z], &mut many);
         let original: Vec<_> = parts.iter().map(theirs).collect();
         let model = Model::new(&original).expect("a model that is not refused");
         let graph = model.graph();
         for i in 0..ROW {
             let expected = expected(&parts, graph.evaluate_at_coord(x[i], y[i], z[i]));
-            tally.compare("model, at points", alone[i], expected);
+            let alone = host::evaluate(&layout, x[i], y[i], z[i], &mut [0.0; ROW]);
+            tally.compare("model, at points", alone, expected);
+            tally.compare("model, at many points", many[i], expected);
             tally.compare("model, in rows", row[i], expected);
         }
     }

@@ -4,6 +4,15 @@ use super::ROW;
 use crate::models::Part;
 
 extern "C" {
+    fn bench_evaluate(
+        words: &[u32; 3 * ROW],
+        numbers: &[f64; 4 * ROW],
+        count: usize,
+        x: f64,
+        y: f64,
+        z: f64,
+        values: &mut [f64; ROW],
+    ) -> f64;
     fn bench_evaluate_row(
         words: &[u32; 3 * ROW],
         numbers: &[f64; 4 * ROW],
@@ -13,19 +22,6 @@ extern "C" {
         pz: &[f64; ROW],
         n: usize,
         values: &mut [f64; ROW * ROW],
-    );
-    fn bench_values(
-        words: &[u32; 3 * ROW],
-        numbers: &[f64; 4 * ROW],
-        count: u32,
-        px: *const f64,
-        px_length: usize,
-        py: *const f64,
-        py_length: usize,
-        pz: *const f64,
-        pz_length: usize,
-        results: *mut f64,
-        results_length: usize,
     );
 }
 
@@ -72,23 +68,9 @@ impl Layout {
     }
 }
 
-/// The model's values at points, one after the other. The model is made of its arrays once.
-pub fn evaluate(l: &Layout, [px, py, pz]: [&[f64]; 3], results: &mut [f64]) {
-    unsafe {
-        bench_values(
-            &l.words,
-            &l.numbers,
-            l.count as u32,
-            px.as_ptr(),
-            px.len(),
-            py.as_ptr(),
-            py.len(),
-            pz.as_ptr(),
-            pz.len(),
-            results.as_mut_ptr(),
-            results.len(),
-        )
-    }
+/// The model's value at a point. The values of the parts are written too.
+pub fn evaluate(l: &Layout, x: f64, y: f64, z: f64, values: &mut [f64; ROW]) -> f64 {
+    unsafe { bench_evaluate(&l.words, &l.numbers, l.count, x, y, z, values) }
 }
 
 /// The values of the parts at a row of points, part by part.

@@ -5,7 +5,8 @@ ghost use Rattle.std.specs.Prelude.{◌≡◌, map, ◌++◌, min, drop, length}
 ghost use Rattle.lists.specs.Filled.{filled};
 ghost use Rattle.root.specs.Root.{square_root};
 ghost use Rattle.model.specs.Flat.{flat_in};
-ghost use Rattle.model.specs.Model.{values_to, parts_in, parts_of, parts_value};
+ghost use Rattle.model.specs.Flat as flat;
+ghost use Rattle.model.specs.Model.{values_to, model_value, parts_in, parts_of, parts_value};
 ghost use Rattle.model.specs.Row.{evaluated_rows};
 ghost use Rattle.field_host.specs.Given.{model_given};
 ghost use Rattle.bench_host.specs.Points.{value_at};
@@ -14,7 +15,7 @@ mod cells; // cells.rt: the cells of a dense field
 mod floats; // floats.rt: floats, points and boxes
 mod nodes; // nodes.rt: the grid of a sparse field
 
-use geometry::{PointRow, Vec3};
+use geometry::Vec3;
 
 // The correctly rounded square root.
 #[unsafe(no_mangle)]
@@ -32,7 +33,8 @@ pub extern "C" fn bench_sqrt_row(xs: &mut [f64])
     root::sqrt_row(xs);
 }
 
-// The value at a point of the first `count` parts of flat arrays, 64 at most, with the parts' values left in `values`.
+// The value at a point of the first `count` parts of flat arrays, 64 at most, with the parts' values left in `values`. It
+// is that of the model that the arrays make.
 #[unsafe(no_mangle)]
 pub extern "C" fn bench_evaluate(
     words: &[u32; 192],
@@ -43,16 +45,19 @@ pub extern "C" fn bench_evaluate(
     z: f64,
     values: &mut [f64; 64],
 ) -> f64
+    ensures flat_answer { result ≡ model_value (flat.parts_of (flat_in words numbers) (min count 64)) (min count 64) x y z }
+    ensures flat_values { values.new
+        ≡ values_to (flat.parts_of (flat_in words numbers) (min count 64)) x y z (min count 64) ++ drop (min count 64) values.old }
     ensures answer { let m = model_given (flat_in words numbers) (min count 64) in
         result ≡ parts_value (parts_in m) (min m.count 64) x y z }
     ensures values { let m = model_given (flat_in words numbers) (min count 64) in
         values.new ≡ values_to (parts_of (parts_in m) (min m.count 64)) x y z (min m.count 64) ++ drop (min m.count 64) values.old }
 {
-    let model = field_host::model_given(words, numbers, count.min(64) as u32);
-    model::evaluate_parts(&model, Vec3::new(x, y, z), values)
+    model::evaluate_flat(words, numbers, count, x, y, z, values)
 }
 
 // The values of the first `count` parts at n points, 64 at most of each: part p's value at point i is left at p * 64 + i.
+// They are those of the model that the arrays make.
 #[unsafe(no_mangle)]
 pub extern "C" fn bench_evaluate_row(
     words: &[u32; 192],
@@ -64,17 +69,14 @@ pub extern "C" fn bench_evaluate_row(
     n: usize,
     values: &mut [f64; 4096],
 )
-    ensures { let m = model_given (flat_in words numbers) (min count 64) in
+    ensures flat { values.new
+        ≡ evaluated_rows (flat.parts_of (flat_in words numbers) (min count 64)) (min count 64) (min n 64)
+        (record { xs = px.now; ys = py.now; zs = pz.now }) values.old }
+    ensures values { let m = model_given (flat_in words numbers) (min count 64) in
         values.new ≡ evaluated_rows (parts_in m) (min m.count 64) (min n 64)
         (record { xs = px.now; ys = py.now; zs = pz.now }) values.old }
 {
-    let model = field_host::model_given(words, numbers, count.min(64) as u32);
-    let points = PointRow {
-        xs: *px,
-        ys: *py,
-        zs: *pz,
-    };
-    model::evaluate_row(&model, &points, n, values);
+    model::evaluate_flat_row(words, numbers, count, px, py, pz, n, values);
 }
 
 // The values of a model at points, one after the other, as many as the shortest list has. The model is

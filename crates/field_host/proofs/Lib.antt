@@ -4,3 +4,4 @@ pub mod RecordBack
 pub mod Unread
 pub mod Enough
 pub mod HostDemand
+pub mod GivenParts

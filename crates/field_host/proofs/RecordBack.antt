@@ -2,7 +2,7 @@
 -- 32 bits, as the code's have by their types.
 use mathlib.Core.Path.{◌≡◌, refl, sym, ◌∙◌}
 use mathlib.Core.Bool.{true}
-use mathlib.Core.List.{List, [], ◌∷◌, map}
+use mathlib.Core.List.{List, map}
 use Prim.Native.Nat.{ℕ, ◌<◌, ◌≤◌}
 use native.Mathlib.Omega.{arith}
 use lib.ListN.{length, take, get_or-map}
@@ -11,14 +11,13 @@ use borrow.Author.Tests.{lt-ltb}
 use Rattle.lists.specs.Tabulate.{tabulate}
 use Rattle.lists.proofs.Tables.{length_tabulate, get_d_tabulate}
 use Rattle.float.specs.Zero.{plus_zero}
-use Rattle.geometry.specs.Values.{vec3}
 use Rattle.model.specs.declared.Part.{Part}
 use Rattle.model.specs.declared.Part.TheVariants.{Constant, Sphere, Plane, Min, Max, Add, Sub, Neg}
 use Rattle.model.specs.declared.ModelComponent.{ModelComponent}
-use Rattle.model.specs.Part.{past, part_in}
+use Rattle.model.specs.Part.{part_in}
 use Rattle.model.specs.Model.{part_of}
-use Rattle.model.specs.Flat.{code_of, first_input, second_input, vector_of, number_of, word_entries, number_entries, layout_of, part_from}
-use Rattle.model.proofs.EntryRows.{first_row, row_entry}
+use Rattle.model.specs.Flat.{code_of, first_input, second_input, vector_of, number_of, layout_of, part_from}
+use Rattle.model.proofs.FlatParts.{entries_back}
 use Rattle.schedule.specs.declared.Cursor.{Cursor}
 use Rattle.schedule.specs.declared.Cursor.TheVariants.{End, Corner, Point}
 use Rattle.std.specs.Prelude.{Option, Some, None}
@@ -43,15 +42,7 @@ coded_entries (Neg a) = refl
 -- the part that a layout has at a place
 part_back : (parts : List Part) (p : ℕ) → p < 64 → part_given (layout_of parts) p ≡ part_of parts p
 unfolding part_given
-part_back parts p h =
-    let code = first_row parts code_of (first_input ∷ second_input ∷ []) p 0 h in
-    let first = row_entry parts word_entries 1 p code_of 0 (omega arith) h in
-    let second = row_entry parts word_entries 2 p code_of 0 (omega arith) h in
-    let x = first_row parts (λ q. (vector_of q).x) ((λ q. (vector_of q).y) ∷ (λ q. (vector_of q).z) ∷ number_of ∷ []) p past h in
-    let y = row_entry parts number_entries 1 p number_of past (omega arith) h in
-    let z = row_entry parts number_entries 2 p number_of past (omega arith) h in
-    let w = row_entry parts number_entries 3 p number_of past (omega arith) h in
-    (λ i. part_coded (code i) (vec3 (x i) (y i) (z i)) (w i) (first i) (second i)) ∙ coded_entries (part_of parts p)
+part_back parts p h = entries_back part_coded parts p h ∙ coded_entries (part_of parts p)
 
 -- laying parts out and reading them back gives them, whether or not cause 4 refuses their model
 pub read_back : (parts : List Part) (count : ℕ) → count ≤ 64 → count ≤ length parts → tabulate count (part_given (layout_of parts)) ≡ take count parts

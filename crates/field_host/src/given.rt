@@ -1,7 +1,7 @@
 // A box, a model and a job's input, from numbers.
 // Kept: arrays of fixed size with a count beside them, as C lends them.
 ghost use Rattle.std.specs.Prelude.{◌≡◌, ◌<◌};
-ghost use Rattle.model.specs.Flat.{flat_in, part_from};
+ghost use Rattle.model.specs.Flat.{flat_in};
 ghost use Rattle.field_host.specs.Given.{input_lent, box_given, box_in, part_coded, component_given, model_given};
 
 use geometry::{BoundingBox, Vec3};
@@ -35,23 +35,6 @@ pub fn box_in(bounds: &[f64; 6]) -> BoundingBox
     )
 }
 
-// The part of a code below 8, with its vector, number and inputs.
-fn part_from(code: u32, v: Vec3, w: f64, a: u32, b: u32) -> Part
-    ensures { result ≡ part_from code v w a b }
-{
-    match code {
-        0 => Part::Constant(w),
-        1 => Part::Sphere(v, w),
-        2 => Part::Plane(v, w),
-        3 => Part::Min(a, b),
-        4 => Part::Max(a, b),
-        5 => Part::Add(a, b),
-        6 => Part::Sub(a, b),
-        7 => Part::Neg(a),
-        _ => Part::Constant(0.0),
-    }
-}
-
 // The part of any code. One that no part has reads as an operation on a part that stands nowhere, so
 // that cause 4 refuses it.
 fn part_coded(code: u32, v: Vec3, w: f64, a: u32, b: u32) -> Part
@@ -60,7 +43,7 @@ fn part_coded(code: u32, v: Vec3, w: f64, a: u32, b: u32) -> Part
     if code > 7 {
         return Part::Neg(4294967295);
     }
-    part_from(code, v, w, a, b)
+    model::part_from(code, v, w, a, b)
 }
 
 // The part at a place.

@@ -1,20 +1,17 @@
 -- The first parts of a model, as a slice: what is made of the slice is made of the model.
-use Rattle.std.proofs.Common.{◌≡◌, ℕ, zero, suc, List, Float, ◌++◌, ◌&&◌, ◌≤◌, ◌/◌, ◌%◌, cond, map, take, drop, length, get_or, refl, sym, ap, ◌∙◌, arith}
-use lib.Dec.{ltb}
+use Rattle.std.proofs.Common.{◌≡◌, ℕ, zero, suc, List, Float, ◌++◌, ◌&&◌, ◌≤◌, map, take, drop, length, refl, sym, ap, ◌∙◌, arith}
 use lib.Seq.{length-take-le, get_or-take}
 use Rattle.std.proofs.lemmas.List.{take-map}
-use Rattle.lists.specs.Tabulate.{tabulate}
-use Rattle.lists.specs.Filled.{filled}
 use Rattle.lists.proofs.Tables.{tabulate_cong}
 use Rattle.float.specs.Zero.{plus_zero}
 use Rattle.geometry.specs.declared.PointRow.{PointRow}
-use Rattle.geometry.specs.PointRow.{point_in}
 use Rattle.model.specs.declared.ModelComponent.{ModelComponent}
 use Rattle.model.specs.declared.Part.{Part}
 use Rattle.model.specs.declared.Part.TheVariants.{Constant}
-use Rattle.model.specs.Part.{past, part_in, inputs_below, placed}
+use Rattle.model.specs.Part.{part_in, inputs_below, placed}
 use Rattle.model.specs.Model.{values_to, model_value, part_of, part_at, parts_of, ordered_to}
 use Rattle.model.specs.Row.{evaluated_rows, model_row}
+use Rattle.model.proofs.SameRows.{same_rows, same_row}
 
 -- the part at a place below `count` stands in the front of so many
 module _ (parts : List Part) (count : ℕ) where
@@ -62,12 +59,7 @@ module _ (cs front : List ModelComponent) (count : ℕ) (within : count ≤ leng
 
   module _ (lanes : ℕ) (points : PointRow) (l : List Float) {n : ℕ} (many : n ≡ lanes) where
     pub front_rows : evaluated_rows (map part_in front) (length front) n points l ≡ evaluated_rows (map part_in cs) count lanes points l
-    unfolding evaluated_rows
-    front_rows =
-        λ i. tabulate (length l) (λ j. cond (ltb (j / 64) (front_long i) && ltb (j % 64) (many i))
-        (get_or (let at = point_in points (j % 64) in front_values at.x at.y at.z i) (j / 64) past)
-        (get_or l j past))
+    front_rows = same_rows _ _ front_parts front_long points l many
 
     pub front_row : model_row (map part_in front) (length front) n points l ≡ model_row (map part_in cs) count lanes points l
-    unfolding model_row
-    front_row = λ i. filled 0 (many i) (λ k. let at = point_in points k in front_value at.x at.y at.z i) l
+    front_row = same_row _ _ front_parts front_long points l many

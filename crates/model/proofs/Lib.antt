@@ -8,4 +8,6 @@ pub mod Rows
 pub mod PartRow
 pub mod AllRows
 pub mod SameParts
+pub mod SameRows
 pub mod Front
+pub mod FlatParts

@@ -1,11 +1,12 @@
 -- A model's parts laid out in two lists, in rows of 64: a row of codes and two of inputs, and four rows of numbers (rule M9).
-use Rattle.std.specs.Prelude.{ℕ, List, [], ◌∷◌, ◌++◌, get_or, Float}
+use Rattle.std.specs.Prelude.{ℕ, ◌+◌, List, [], ◌∷◌, ◌++◌, get_or, Float}
 use Rattle.lists.specs.Slices.{LentSlice}
 use Rattle.lists.specs.Tabulate.{tabulate}
 use Rattle.float.specs.Zero.{plus_zero}
 use Rattle.geometry.specs.declared.Vec3.{Vec3}
 use Rattle.geometry.specs.Values.{vec3}
 use Rattle.model.specs.Model.{part_of}
+use Rattle.model.specs.Part.{past, placed}
 use Rattle.model.specs.declared.Part.{Part}
 use Rattle.model.specs.declared.Part.TheVariants.{Constant, Sphere, Plane, Min, Max, Add, Sub, Neg}
 
@@ -95,3 +96,20 @@ layout_of parts = flat_of (entry_rows word_entries parts) (entry_rows number_ent
 unfoldable pub part_from : ℕ → Vec3 → Float → (a b : ℕ) → Part
 part_from code v w a b =
     get_or (Constant w ∷ Sphere v w ∷ Plane v w ∷ Min a b ∷ Max a b ∷ Add a b ∷ Sub a b ∷ Neg a ∷ []) code (Constant plus_zero)
+
+-- the part that the lists have at a place, whatever its inputs are
+unfoldable pub part_read : Flat → ℕ → Part
+part_read l p =
+    part_from (get_or l.words p 0)
+    (vec3 (get_or l.numbers p past) (get_or l.numbers (64 + p) past) (get_or l.numbers (128 + p) past))
+    (get_or l.numbers (192 + p) past)
+    (get_or l.words (64 + p) 0)
+    (get_or l.words (128 + p) 0)
+
+-- what counts as the part at a place (rule M10)
+unfoldable pub part_at : Flat → ℕ → Part
+part_at l p = placed p (part_read l p)
+
+-- the first `count` of them
+abbrev pub parts_of : Flat → ℕ → List Part
+parts_of l count = tabulate count (part_at l)

@@ -5,6 +5,7 @@ ghost use Rattle.model.specs.Model.{values_to, parts_in, parts_of, parts_value, 
 
 use super::copies::copy_values;
 use super::lanes::row_of;
+use super::points::Points;
 use super::refusals::cause_four;
 use super::{ImplicitModel, ModelComponent, point, row};
 use causes::Cause;
@@ -51,7 +52,7 @@ pub fn evaluate_row(model: &ImplicitModel, points: &PointRow, n: usize, values: 
     ensures { values.new
         ≡ evaluated_rows (parts_in model.now) (min model.now.count 64) (min n 64) points.now values.old }
 {
-    row::fill_parts(counted(model), points, n.min(64), values);
+    row::fill_parts(counted(model), &Points::of(points), n.min(64), values);
 }
 
 // The same, with the model's value at each point left at the front of `results`.
@@ -69,7 +70,7 @@ pub fn evaluate_row_into(
 {
     let parts = counted(model);
     let lanes = n.min(64);
-    row::fill_parts(parts, points, lanes, values);
+    row::fill_parts(parts, &Points::of(points), lanes, values);
     let count = parts.len();
     if count == 0 {
         results[..lanes].fill(0.0);

@@ -1,6 +1,6 @@
 // A part's values at a row of points, one loop for each kind of part, each loop over lanes that do not depend on each
 // other. Each fills the row that it is lent, and an operation reads the rows of earlier parts.
-// Kept: what reads points asks for a row of 64 lanes at most, as `PointRow` has no more. A type that says so would be a
+// Kept: what reads points asks for a row of 64 lanes at most, as `Points` has no more. A type that says so would be a
 // struct of one slice with a ghost field, made anew for each part, and every loop and root would reach through it.
 ghost use Rattle.std.specs.Prelude.{◌≡◌, ◌≤◌, length, get_or};
 ghost use Rattle.std.specs.Float.{binary64};
@@ -9,11 +9,12 @@ ghost use Rattle.lists.specs.Tabulate.{tabulate};
 ghost use Rattle.geometry.specs.Distance.{distance_squared_of};
 ghost use Rattle.geometry.specs.PointRow.{point_in};
 ghost use Rattle.model.specs.Part.{past, sphere_value, plane_value};
-ghost use Rattle.model.specs.Inner.Lanes.{lane_at};
+ghost use Rattle.model.specs.Inner.Lanes.{lane_at, points_lent};
 
 use super::point;
+use super::points::Points;
 use float::Operation;
-use geometry::{PointRow, Vec3};
+use geometry::Vec3;
 
 // The first n lanes of row p.
 pub fn row_of(values: &[f64], p: usize, n: usize) -> &[f64]
@@ -26,11 +27,11 @@ pub fn row_of(values: &[f64], p: usize, n: usize) -> &[f64]
 }
 
 // How far each point is above a plane.
-pub fn fill_plane(row: &mut [f64], points: &PointRow, normal: Vec3, offset: f64)
+pub fn fill_plane(row: &mut [f64], points: &Points, normal: Vec3, offset: f64)
     requires { length row.old ≤ 64 }
     ensures { row.new
         ≡ tabulate (length row.old)
-        (λ k. let at = point_in points.now k in plane_value normal offset at.x at.y at.z) }
+        (λ k. let at = point_in (points_lent points.now) k in plane_value normal offset at.x at.y at.z) }
 {
     for i in 0..row.len() {
         row[i] = point::plane_value(normal, offset, points.get(i));
@@ -68,11 +69,11 @@ fn square_distance(c: Vec3, at: Vec3) -> f64
     (dx * dx + dy * dy) + dz * dz
 }
 
-fn fill_squares(row: &mut [f64], points: &PointRow, c: Vec3)
+fn fill_squares(row: &mut [f64], points: &Points, c: Vec3)
     requires { length row.old ≤ 64 }
     ensures { row.new
         ≡ tabulate (length row.old)
-        (λ k. let at = point_in points.now k in distance_squared_of c at.x at.y at.z) }
+        (λ k. let at = point_in (points_lent points.now) k in distance_squared_of c at.x at.y at.z) }
 {
     for i in 0..row.len() {
         row[i] = square_distance(c, points.get(i));
@@ -88,11 +89,11 @@ fn take_radius(row: &mut [f64], r: f64)
 }
 
 // The distance to a sphere's centre c, less its radius, at each lane.
-pub fn fill_sphere(row: &mut [f64], points: &PointRow, c: Vec3, r: f64)
+pub fn fill_sphere(row: &mut [f64], points: &Points, c: Vec3, r: f64)
     requires { length row.old ≤ 64 }
     ensures { row.new
         ≡ tabulate (length row.old)
-        (λ k. let at = point_in points.now k in sphere_value c r at.x at.y at.z) }
+        (λ k. let at = point_in (points_lent points.now) k in sphere_value c r at.x at.y at.z) }
 {
     fill_squares(row, points, c);
     root::sqrt_row(row);

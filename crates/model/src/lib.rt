@@ -6,14 +6,17 @@ use geometry::Vec3;
 
 mod copies; // copies.rt: floats, copied
 mod evaluations; // evaluations.rt: the calls that evaluate, at a point and at a row of points
+mod flat; // flat.rt: models in two flat arrays, as C lends them
 mod layout; // layout.rt: a model's parts in two flat arrays, as hosts carry them
 mod lanes; // lanes.rt: a part's values at a row of points
 mod point; // point.rt: the parts' values at a point
+mod points; // points.rt: a row of points, as three arrays that are lent
 mod refusals; // refusals.rt: the test of cause 4
 mod row; // row.rt: all parts' values at a row of points
 
 pub use copies::copy_values;
 pub use evaluations::{evaluate_at_coord, evaluate_parts, evaluate_row, evaluate_row_into};
+pub use flat::{evaluate_flat, evaluate_flat_row, evaluate_flat_row_into, part_from};
 pub use layout::lay_out;
 pub use refusals::{cause_four, inputs_below};
 

@@ -7,13 +7,13 @@ ghost use Rattle.lists.specs.Tabulate.{tabulate};
 ghost use Rattle.geometry.specs.PointRow.{point_in};
 ghost use Rattle.model.specs.Part.{past, part_in, part_value, placed};
 ghost use Rattle.model.specs.Row.{evaluated_rows};
-ghost use Rattle.model.specs.Inner.Lanes.{lane_at, lane};
+ghost use Rattle.model.specs.Inner.Lanes.{lane_at, lane, points_lent};
 
 use super::lanes::{fill_neg, fill_plane, fill_sphere, fill_two, row_of};
+use super::points::Points;
 use super::refusals::inputs_below;
 use super::{ModelComponent, Part};
 use float::{Add, Max, Min, Sub};
-use geometry::PointRow;
 
 // The row of an input at place a, among the rows before p.
 fn input(earlier: &[f64], p: usize, a: u32, n: usize) -> &[f64]
@@ -26,11 +26,11 @@ fn input(earlier: &[f64], p: usize, a: u32, n: usize) -> &[f64]
 
 // The row of the part at place p, from the rows of the parts before it. Its inputs are tested once.
 #[tactic(auto, unfolding(crate::specs::Part::inputs_below))]
-fn fill_part(part: Part, p: usize, points: &PointRow, earlier: &[f64], row: &mut [f64])
+pub fn fill_part(part: Part, p: usize, points: &Points, earlier: &[f64], row: &mut [f64])
     requires { (p * 64 ≤ length earlier.now) × (length row.old ≤ 64) }
     ensures { row.new
         ≡ tabulate (length row.old)
-        (λ k. let at = point_in points.now k in
+        (λ k. let at = point_in (points_lent points.now) k in
         part_value (placed p part) at.x at.y at.z (lane earlier.now k p)) }
 {
     if !inputs_below(part, p) {
@@ -51,10 +51,10 @@ fn fill_part(part: Part, p: usize, points: &PointRow, earlier: &[f64], row: &mut
 }
 
 // The rows of some parts, in order.
-pub fn fill_parts(parts: &[ModelComponent], points: &PointRow, n: usize, values: &mut [f64; 4096])
+pub fn fill_parts(parts: &[ModelComponent], points: &Points, n: usize, values: &mut [f64; 4096])
     requires { (length parts.now ≤ 64) × (n ≤ 64) }
     ensures { values.new
-        ≡ evaluated_rows (map part_in parts.now) (length parts.now) n points.now values.old }
+        ≡ evaluated_rows (map part_in parts.now) (length parts.now) n (points_lent points.now) values.old }
 {
     for (p, component) in parts.iter().enumerate() {
         let (earlier, rest) = values.split_at_mut(p * 64);

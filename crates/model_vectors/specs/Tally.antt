@@ -1,4 +1,4 @@
--- Counts of comparisons: at points 0, of any contents 1, in rows 2, refusals 3; and of the lines that are off their form.
+-- Counts of comparisons: at points 0, laid out 1, in rows 2, refusals 3; and of the lines that are off their form.
 use Rattle.std.specs.Prelude.{ℕ, Bool, Option, Some, None, List}
 use Rattle.vectors.specs.Tally.{plus, counted, wrong_if}
 use Rattle.model.specs.Model.{evaluation_of}
@@ -6,17 +6,17 @@ use Rattle.model_vectors.specs.declared.case.Case.{Case}
 use Rattle.model_vectors.specs.declared.line.Line.{Line}
 use Rattle.model_vectors.specs.declared.line.Line.TheVariants.{Point, Component, Value, Refused}
 use Rattle.model_vectors.specs.declared.Comparison.{Comparison}
-use Rattle.model_vectors.specs.declared.Comparison.TheVariants.{Points, Parts, Rows, Refusals}
+use Rattle.model_vectors.specs.declared.Comparison.TheVariants.{Points, Flat, Rows, Refusals}
 use Rattle.model_vectors.specs.Case.{started, with_part}
 use Rattle.model_vectors.specs.Compare.{same_bits, value_right, refused_right, any_value}
 
 abbrev pub number_of : Comparison → ℕ
 number_of Points = 0
-number_of Parts = 1
+number_of Flat = 1
 number_of Rows = 2
 number_of Refusals = 3
 
--- a stored value is compared at the point, as a model of any contents, and in a row
+-- a stored value is compared at the point, laid out, and in rows
 abbrev pub compared_value : List ℕ → List ℕ
 compared_value counts = counted 2 (counted 1 (counted 0 counts))
 
@@ -26,7 +26,7 @@ point_right c stored = value_right (evaluation_of c.model c.point.x c.point.y c.
 abbrev pub parts_right : Case → ℕ → Bool
 parts_right c stored = same_bits (any_value c.model c.point.x c.point.y c.point.z) stored
 
--- a row has the value that a model of any contents has at the point
+-- the laid out model and the rows have the value that a model of any contents has at the point
 abbrev pub value_wrong : Case → ℕ → List ℕ → List ℕ
 value_wrong c stored counts =
     wrong_if (parts_right c stored) 2 (wrong_if (parts_right c stored) 1 (wrong_if (point_right c stored) 0 counts))

@@ -1,7 +1,8 @@
 // What each way of evaluating a model gives, and whether it is what is stored.
-ghost use Rattle.std.specs.Prelude.{◌≡◌};
-ghost use Rattle.geometry.specs.PointRow.{point_in};
-ghost use Rattle.model.specs.Model.{evaluation_of};
+ghost use Rattle.std.specs.Prelude.{◌≡◌, slice_index_or};
+ghost use Rattle.model.specs.Part.{past};
+ghost use Rattle.model.specs.Model.{parts_in, evaluation_of};
+ghost use Rattle.model.specs.Flat.{flat_of, layout_of};
 ghost use Rattle.model_vectors.specs.Compare.{any_value, refused_right, same_bits, value_right};
 
 use causes::Cause;
@@ -35,32 +36,78 @@ pub fn refusal_right(model: &ImplicitModel, p: Vec3) -> bool
     }
 }
 
-// The value at a point of a model of any contents.
-pub fn parts_value(model: &ImplicitModel, p: Vec3) -> f64
-    ensures { result ≡ any_value model.now p.x p.y p.z }
+// A model's parts, laid out in two arrays.
+fn laid(model: &ImplicitModel) -> ([u32; 192], [f64; 256])
+    ensures { flat_of result.0 result.1 ≡ layout_of (parts_in model.now) }
 {
-    let mut values = [0.0; 64];
-    model::evaluate_parts(model, p, &mut values)
+    let mut words = [0; 192];
+    let mut numbers = [0.0; 256];
+    model::lay_out(model, &mut words, &mut numbers);
+    (words, numbers)
 }
 
-// A row of points with p in lane 3, among others.
-fn around(p: Vec3) -> PointRow
-    ensures { point_in result 3 ≡ p }
+// The value of the laid out model at a point.
+pub fn flat_value(model: &ImplicitModel, p: Vec3) -> f64
+    ensures { result ≡ any_value model.now p.x p.y p.z }
 {
-    let mut row = PointRow::new();
-    row.set(0, Vec3::new(p.x + 1.0, p.y - 1.0, -p.z));
-    row.set(2, Vec3::new(-p.x, p.y + p.y, p.z));
-    row.set(3, p);
-    row.set(4, Vec3::new(p.x - 1.0, p.y, p.z + 1.0));
+    let (words, numbers) = laid(model);
+    let mut values = [0.0; 64];
+    model::evaluate_flat(
+        &words,
+        &numbers,
+        model.count as usize,
+        p.x,
+        p.y,
+        p.z,
+        &mut values,
+    )
+}
+
+// A row of coordinates with x in lane 3, among others.
+fn around(x: f64) -> [f64; 64]
+    ensures { slice_index_or result 3 past ≡ x }
+{
+    let mut row = [0.0; 64];
+    row[0] = x + 1.0;
+    row[1] = x - 1.0;
+    row[2] = -x;
+    row[3] = x;
+    row[4] = x + x;
     row
 }
 
-// The value at a point of a model of any contents, from lane 3 of a row of 5 points.
+// The model's value at a point, from lane 3 of a row of 5 points.
 pub fn row_value(model: &ImplicitModel, p: Vec3) -> f64
     ensures { result ≡ any_value model.now p.x p.y p.z }
 {
+    let points = PointRow {
+        xs: around(p.x),
+        ys: around(p.y),
+        zs: around(p.z),
+    };
     let mut values = [0.0; 4096];
     let mut results = [0.0; 64];
-    model::evaluate_row_into(model, &around(p), 5, &mut values, &mut results);
+    model::evaluate_row_into(model, &points, 5, &mut values, &mut results);
+    results[3]
+}
+
+// The same of the laid out model.
+pub fn flat_row_value(model: &ImplicitModel, p: Vec3) -> f64
+    ensures { result ≡ any_value model.now p.x p.y p.z }
+{
+    let (words, numbers) = laid(model);
+    let mut values = [0.0; 4096];
+    let mut results = [0.0; 64];
+    model::evaluate_flat_row_into(
+        &words,
+        &numbers,
+        model.count as usize,
+        &around(p.x),
+        &around(p.y),
+        &around(p.z),
+        5,
+        &mut values,
+        &mut results,
+    );
     results[3]
 }

@@ -1,4 +1,4 @@
-// Evaluates the stored models that standard input holds, at a point, as models of any contents, and in a row of points, and reports how
+// Evaluates the stored models that standard input holds, at a point, laid out, and in rows of points, and reports how
 // many give something else than stored.
 #![tactic(auto)]
 
@@ -19,12 +19,12 @@ use vectors::{Lines, SHOWN, Tally};
 #[derive(Clone, Copy, Debug, PartialEq, Eq)]
 enum Comparison {
     Points,
-    Parts,
+    Flat,
     Rows,
     Refusals,
 }
 
-// The comparisons' names, in that order. Parts are called flat, as where they were two flat arrays.
+// The comparisons' names, in that order.
 const NAMES: [&str; 4] = ["points", "flat", "rows", "refused"];
 
 impl Comparison {
@@ -75,7 +75,8 @@ fn note_off(rt: &impl Print, line: usize, tally: &mut Tally<4>) -> io::Result<()
     Ok(())
 }
 
-// Compares each way of evaluating a case's model with the value that is stored.
+// Compares each way of evaluating a case's model with the value that is stored. A row is right where the model's is, and
+// the laid out model's too.
 fn judge_value(
     rt: &impl Print,
     case: &Case,
@@ -90,11 +91,12 @@ fn judge_value(
     let model = &case.model;
     let point = case.point;
     let at_point = compare::point_right(model, point, stored);
-    let parts = compare::same_bits(compare::parts_value(model, point), stored);
+    let flat = compare::same_bits(compare::flat_value(model, point), stored);
     let row = compare::same_bits(compare::row_value(model, point), stored);
+    let flat_row = compare::same_bits(compare::flat_row_value(model, point), stored);
     let first = note(rt, Comparison::Points, at_point, line, tally);
-    let second = note(rt, Comparison::Parts, parts, line, tally);
-    let third = note(rt, Comparison::Rows, row, line, tally);
+    let second = note(rt, Comparison::Flat, flat, line, tally);
+    let third = note(rt, Comparison::Rows, row && flat_row, line, tally);
     first.and(second).and(third)
 }
 

@@ -2,7 +2,9 @@
 use Rattle.std.specs.Prelude.{ℕ, ◌+◌, ◌-◌, ◌*◌, List, get_or, Float}
 use Rattle.lists.specs.Tabulate.{tabulate}
 use Rattle.lists.specs.Filled.{filled}
+use Rattle.geometry.specs.declared.PointRow.{PointRow}
 use Rattle.model.specs.Part.{past}
+use Rattle.model.specs.declared.points.Points.{Points}
 
 -- the place of part p's value at lane k
 abbrev pub lane_at : (p k : ℕ) → ℕ
@@ -15,3 +17,7 @@ filled_row values p n f = filled (p * 64) n (λ q. f (q - p * 64)) values
 -- the values of the first p parts at lane k
 abbrev pub lane : List Float → (k p : ℕ) → List Float
 lane values k p = tabulate p (λ q. get_or values (lane_at q k) past)
+
+-- the row that three lent arrays make
+abbrev pub points_lent : Points → PointRow
+points_lent p = record { xs = p.xs.now; ys = p.ys.now; zs = p.zs.now }

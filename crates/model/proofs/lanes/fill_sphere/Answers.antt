@@ -9,6 +9,7 @@ use Rattle.geometry.specs.PointRow.{point_in}
 use Rattle.lists.proofs.Tables.{length_tabulate, get_d_tabulate, tabulate_cong}
 use Rattle.lists.specs.Tabulate.{tabulate}
 use Rattle.model.specs.Part.{past, sphere_value}
+use Rattle.model.specs.Inner.Lanes.{points_lent}
 use Rattle.model.proofs.lanes.fill_sphere.Goals as goal
 
 pub returns : goal.returns
@@ -16,7 +17,7 @@ unfolding sphere_value distance_of
 returns c =
     let a = c.args in
     let n = length a.row.now in
-    let squares : ℕ → Float = λ k. let at = point_in a.points.now k in distance_squared_of a.c at.x at.y at.z in
+    let squares : ℕ → Float = λ k. let at = point_in (points_lent a.points.now) k in distance_squared_of a.c at.x at.y at.z in
     let row = c.fill_squares.new.row in
     let long : length row ≡ n = ap length c.fill_squares.ensures ∙ length_tabulate n squares in
     let size : length c.sqrt_row.new.xs ≡ n = ap length c.sqrt_row.ensures ∙ length-map row square_root ∙ long in

@@ -2,6 +2,7 @@
 use Rattle.std.proofs.Common.{rules, ◌≡◌, ◌∙◌, refl, sym, ap, arith, length, map}
 use Rattle.std.proofs.lemmas.List.{get_or-map}
 use Rattle.model.specs.Part.{part_in}
+use Rattle.model.specs.Inner.Lanes.{points_lent}
 use Rattle.model.proofs.AllRows.{rows_to, rows_turn, all_rows}
 use Rattle.model.proofs.row.fill_parts.Goals as goal
 
@@ -13,7 +14,7 @@ pub loop-p-preserved : goal.loop-p-preserved
 loop-p-preserved c =
     let a = c.args in
     let p = c.loop-p.p in
-    rows_turn (map part_in a.parts.now) a.n a.points.now a.values.now p _ c.loop-p.values (omega arith) (omega arith) c.loop-p.invariant
+    rows_turn (map part_in a.parts.now) a.n (points_lent a.points.now) a.values.now p _ c.loop-p.values (omega arith) (omega arith) c.loop-p.invariant
     (sym (get_or-map part_in a.parts.now p _ _ (omega arith))) (search rules) (search rules) c.fill_part.ensures (search rules)
 
 pub returns : goal.returns
@@ -22,5 +23,5 @@ returns c =
     let l = map part_in a.parts.now in
     let all : c.loop-p.p ≡ length a.parts.now = omega arith in
     c.loop-p.invariant
-    ∙ ap (rows_to l a.n a.points.now a.values.now) all
-    ∙ all_rows l a.n a.points.now a.values.now (omega arith) (length a.parts.now)
+    ∙ ap (rows_to l a.n (points_lent a.points.now) a.values.now) all
+    ∙ all_rows l a.n (points_lent a.points.now) a.values.now (omega arith) (length a.parts.now)
