@@ -1,4 +1,6 @@
 // The values of parts at a point.
+// Kept: a part's value and a sphere's are inlined by hand. Where a program has more than one caller the compiler would
+// pass the part and the point through memory, which takes longer than a plane's value.
 ghost use Rattle.std.specs.Prelude.{◌≡◌, ◌++◌, ◌≤◌, length, map, drop};
 ghost use Rattle.model.specs.Part.{part_in, sphere_value, plane_value, part_value, placed};
 ghost use Rattle.model.specs.Model.{values_to, parts_of};
@@ -10,6 +12,7 @@ use geometry::Vec3;
 
 // The distance to a sphere's centre, less its radius.
 #[tactic(auto, unfolding(crate::specs::Part::sphere_value))]
+#[inline(always)]
 pub fn sphere_value(centre: Vec3, radius: f64, at: Vec3) -> f64
     ensures { result ≡ sphere_value centre radius at.x at.y at.z }
 {
@@ -27,6 +30,7 @@ pub fn plane_value(normal: Vec3, offset: f64, at: Vec3) -> f64
 // The value at a point of a part at place p, from the values of the parts before it. A part with an input
 // that does not stand before it counts as the constant +0.
 #[tactic(auto, unfolding(crate::specs::Part::inputs_below, crate::specs::Part::placed, crate::specs::Part::part_value))]
+#[inline(always)]
 pub fn part_value(part: Part, p: usize, at: Vec3, values: &[f64]) -> f64
     requires { p ≤ length values.now }
     ensures { result ≡ part_value (placed p part) at.x at.y at.z values.now }
