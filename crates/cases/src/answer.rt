@@ -29,25 +29,49 @@ impl<const N: usize> Written<N> {
         }
     }
 
+    // One number more, in place. What is written at length is written so, since a value that is handed
+    // on by itself moves the whole room.
+    pub fn put(&mut self, n: u64)
+        requires { array_vec_len self.old.numbers + 1 ≤ N }
+        ensures { self.new.numbers.items ≡ self.old.numbers.items ++ n ∷ [] }
+    {
+        self.numbers.push(n);
+    }
+
+    // The same of more numbers.
+    pub fn put_all(&mut self, numbers: &[u64])
+        requires { array_vec_len self.old.numbers + length numbers.now ≤ N }
+        ensures { self.new.numbers.items ≡ self.old.numbers.items ++ numbers.now }
+    {
+        let _ = self.numbers.try_extend_from_slice(numbers);
+    }
+
+    // The same of floats, by their bits.
+    pub fn put_floats(&mut self, xs: &[f64])
+        requires { array_vec_len self.old.numbers + length xs.now ≤ N }
+        ensures { self.new.numbers.items ≡ self.old.numbers.items ++ map bits_of xs.now }
+    {
+        for x in xs {
+            self.put(float::to_bits(*x));
+        }
+    }
+
     // One number more.
     pub fn number(mut self, n: u64) -> Self
         requires { array_vec_len self.numbers + 1 ≤ N }
         ensures { result.numbers.items ≡ self.entry.numbers.items ++ n ∷ [] }
     {
-        self.numbers.push(n);
+        self.put(n);
         self
     }
 
     // The same of more numbers.
-    pub fn copied(self, numbers: &[u64]) -> Self
+    pub fn copied(mut self, numbers: &[u64]) -> Self
         requires { array_vec_len self.numbers + length numbers.now ≤ N }
         ensures { result.numbers.items ≡ self.entry.numbers.items ++ numbers.now }
     {
-        let mut written = self;
-        for n in numbers {
-            written = written.number(*n);
-        }
-        written
+        self.put_all(numbers);
+        self
     }
 
     // A count or an index.
@@ -74,17 +98,12 @@ impl<const N: usize> Written<N> {
         self.number(float::to_bits(x))
     }
 
-    // Kept: beside `copied`, a loop of two lines over another type. One function for both would take what
-    // becomes of an element, and say it in its contract.
-    pub fn floats(self, xs: &[f64]) -> Self
+    pub fn floats(mut self, xs: &[f64]) -> Self
         requires { array_vec_len self.numbers + length xs.now ≤ N }
         ensures { result.numbers.items ≡ self.entry.numbers.items ++ map bits_of xs.now }
     {
-        let mut written = self;
-        for x in xs {
-            written = written.float(*x);
-        }
-        written
+        self.put_floats(xs);
+        self
     }
 
     pub fn vector(self, p: Vec3) -> Self

@@ -9,3 +9,4 @@ mod parts; // parts.rt: parts of a model
 pub use answer::{Answer, Written};
 pub use lines::{Line, read_line, write_answer};
 pub use numbers::Numbers;
+pub use parts::part_numbers;

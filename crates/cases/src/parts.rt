@@ -79,7 +79,7 @@ fn operation_numbers(kind: u64, a: u32, b: u32) -> [u64; 5]
 }
 
 // A part: its kind, and four numbers.
-fn part_numbers(part: Part) -> [u64; 5]
+pub fn part_numbers(part: Part) -> [u64; 5]
     ensures { result ≡ part_bits part }
 {
     match part {

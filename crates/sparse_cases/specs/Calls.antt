@@ -1,10 +1,14 @@
--- The numbers that a job's counts and cursor are written as, and those that a call answers.
+-- The numbers that a job's lengths, counts and cursor are written as, and those that a call answers.
 use Rattle.std.specs.Prelude.{ℕ, Bool, true, false, Result, List, [], ◌∷◌, ◌++◌}
 use Rattle.causes.specs.declared.Cause.{Cause}
+use Rattle.input.specs.declared.Lengths.{Lengths}
 use Rattle.schedule.specs.declared.Counts.{Counts}
 use Rattle.schedule.specs.declared.Cursor.{Cursor}
 use Rattle.schedule.specs.declared.Cursor.TheVariants.{End, Corner, Point}
 use Rattle.cases.specs.Answer.{flag_of, outcome_of}
+
+abbrev pub length_numbers : Lengths → List ℕ
+length_numbers l = l.kinds ∷ l.numbers ∷ l.places ∷ l.store ∷ l.corners ∷ []
 
 abbrev pub count_numbers : Counts → List ℕ
 count_numbers c = c.grid.nodes ∷ c.grid.active ∷ c.leaves ∷ c.sampled ∷ c.evaluations ∷ []

@@ -33,15 +33,25 @@ fn mixed(seed: u64, at: usize) -> u64 {
     c ^ (c << 17)
 }
 
-// So many elements that belong to no job, as far as there is room.
-fn poisoned<T: Element, const N: usize>(count: usize, seed: u64) -> ArrayVec<T, N>
-    ensures { array_vec_len result ≡ min count N }
+// Writes elements that belong to no job over others.
+fn overwrite<T: Element>(elements: &mut [T], seed: u64)
+    ensures { length elements.new ≡ length elements.old }
 {
-    let mut elements = ArrayVec::new();
-    for at in 0..count.min(N) {
+    for (at, element) in elements.iter_mut().enumerate() {
+        *element = T::poison(mixed(seed, at));
+    }
+}
+
+// Makes it so many elements that belong to no job, as far as there is room. Those that stand there are
+// written over, and the room is not cleared first.
+fn poison<T: Element, const N: usize>(elements: &mut ArrayVec<T, N>, count: usize, seed: u64)
+    ensures { array_vec_len elements.new ≡ min count N }
+{
+    elements.truncate(count);
+    overwrite(elements, seed);
+    for at in elements.len()..count.min(N) {
         elements.push(T::poison(mixed(seed, at)));
     }
-    elements
 }
 
 // Sets an element, if there is one at the place.
@@ -60,7 +70,7 @@ fn row_of<T: Element>(elements: &[T]) -> Answer
 {
     let mut row = Answer::new();
     for element in elements {
-        row = row.number(element.number());
+        row.put(element.number());
     }
     row
 }
@@ -88,8 +98,8 @@ impl Slices {
     }
 
     // `lend KINDS NUMBERS PLACES STORE CORNERS SEED`: slices so long, each element a poison.
-    pub fn lent(mut numbers: Numbers) -> Slices
-        ensures { LentBy numbers.entry.left.now result }
+    pub fn lend(&mut self, mut numbers: Numbers)
+        ensures { LentBy numbers.entry.left.now self.new }
     {
         let kinds = numbers.place();
         let given = numbers.place();
@@ -97,13 +107,20 @@ impl Slices {
         let store = numbers.place();
         let corners = numbers.place();
         let seed = numbers.number();
-        Slices {
-            kinds: poisoned(kinds, seed),
-            numbers: poisoned(given, seed.wrapping_add(0x1000)),
-            places: poisoned(places, seed.wrapping_add(0x2000)),
-            store: poisoned(store, seed.wrapping_add(0x3000)),
-            corners: poisoned(corners, seed.wrapping_add(0x6000)),
-        }
+        poison(&mut self.kinds, kinds, seed);
+        poison(&mut self.numbers, given, seed.wrapping_add(0x1000));
+        poison(&mut self.places, places, seed.wrapping_add(0x2000));
+        poison(&mut self.store, store, seed.wrapping_add(0x3000));
+        poison(&mut self.corners, corners, seed.wrapping_add(0x6000));
+    }
+
+    // The same slices, in rooms of their own.
+    pub fn lent(numbers: Numbers) -> Slices
+        ensures { LentBy numbers.entry.left.now result }
+    {
+        let mut slices = Slices::new();
+        slices.lend(numbers);
+        slices
     }
 
     // `poke SLICE PLACE VALUE`: sets one element.

@@ -1,8 +1,10 @@
 // Records and inputs, from and to numbers. A record is its flag and its job: the input, the lengths, the
 // counts and the cursor (a kind and three numbers). An input is GRID MIN MAX COUNT, 12 numbers, and five numbers
 // for each of 64 parts.
-ghost use Rattle.std.specs.Prelude.{◌≡◌, ◌+◌, ◌≤◌, ◌++◌, length};
-ghost use Rattle.sparse_cases.specs.Calls.{call_numbers, count_numbers, cursor_numbers};
+ghost use Rattle.std.specs.Prelude.{◌≡◌, ◌++◌, drop, length, slice_index};
+ghost use Rattle.arrayvec.specs.ArrayVec.{array_vec_len};
+ghost use Rattle.cases.specs.Answer.{flag_of};
+ghost use Rattle.sparse_cases.specs.Calls.{call_numbers, count_numbers, cursor_numbers, length_numbers};
 
 use cases::{Answer, Numbers, Written};
 use causes::Cause;
@@ -77,66 +79,88 @@ pub fn job_of(mut numbers: Numbers) -> Job {
     }
 }
 
-// An input: its grid, its band, its count of parts, and its parts.
-fn put_input<const N: usize>(numbers: Written<N>, input: Input) -> Written<N>
-    requires { length numbers.numbers.items + 332 ≤ N }
-    ensures { length result.numbers.items ≡ length numbers.entry.numbers.items + 332 }
+fn length_numbers(lengths: Lengths) -> [u64; 5]
+    ensures { result ≡ length_numbers lengths }
 {
-    let mut written = numbers
-        .grid(input.grid)
-        .float(input.band.min)
-        .float(input.band.max)
-        .number(u64::from(input.model.count));
-    for component in input.model.parts {
-        written = written.part(component.part);
-    }
-    written
+    [
+        lengths.kinds as u64,
+        lengths.numbers as u64,
+        lengths.places as u64,
+        lengths.store as u64,
+        lengths.corners as u64,
+    ]
 }
 
-fn put_lengths<const N: usize>(numbers: Written<N>, lengths: Lengths) -> Written<N>
-    requires { length numbers.numbers.items + 5 ≤ N }
-    ensures { length result.numbers.items ≡ length numbers.entry.numbers.items + 5 }
+fn count_numbers(counts: Counts) -> [u64; 5]
+    ensures { result ≡ count_numbers counts }
 {
-    numbers
-        .place(lengths.kinds)
-        .place(lengths.numbers)
-        .place(lengths.places)
-        .place(lengths.store)
-        .place(lengths.corners)
-}
-
-fn put_counts<const N: usize>(numbers: Written<N>, counts: Counts) -> Written<N>
-    requires { length numbers.numbers.items + 5 ≤ N }
-    ensures { result.numbers.items ≡ numbers.entry.numbers.items ++ count_numbers counts }
-{
-    numbers
-        .number(counts.grid.nodes)
-        .number(counts.grid.active)
-        .number(counts.leaves)
-        .number(counts.sampled)
-        .number(counts.evaluations)
+    [
+        counts.grid.nodes,
+        counts.grid.active,
+        counts.leaves,
+        counts.sampled,
+        counts.evaluations,
+    ]
 }
 
 // A cursor: 0 is the end, 1 a corner, 2 a point; and its place.
-fn put_cursor<const N: usize>(numbers: Written<N>, cursor: Cursor) -> Written<N>
-    requires { length numbers.numbers.items + 4 ≤ N }
-    ensures { result.numbers.items ≡ numbers.entry.numbers.items ++ cursor_numbers cursor }
+fn cursor_numbers(cursor: Cursor) -> [u64; 4]
+    ensures { result ≡ cursor_numbers cursor }
 {
-    let site = match cursor {
+    match cursor {
         Cursor::End => [0, 0, 0, 0],
         Cursor::Corner(a, b) => [1, a as u64, b as u64, 0],
         Cursor::Point(a, b, c) => [2, a as u64, b as u64, c as u64],
-    };
-    numbers.copied(&site)
+    }
 }
 
-// The numbers of a record with this flag. A record without a job has fields too, which may be forged.
+// The numbers of an input before its parts: its grid, its band, its count of parts.
+fn head_numbers(input: &Input) -> Written<12>
+    ensures { array_vec_len result.numbers ≡ 12 }
+{
+    Written::new()
+        .grid(input.grid)
+        .float(input.band.min)
+        .float(input.band.max)
+        .number(u64::from(input.model.count))
+}
+
+// The numbers of a record after its input: its lengths, its counts, its cursor.
+fn tail_numbers(job: &Job) -> Written<14>
+    ensures { result.numbers.items ≡ length_numbers job.now.lengths ++ count_numbers job.now.counts ++ cursor_numbers job.now.cursor }
+{
+    Written::new()
+        .copied(&length_numbers(job.lengths))
+        .copied(&count_numbers(job.counts))
+        .copied(&cursor_numbers(job.cursor))
+}
+
+// Writes a record with this flag over the numbers of another. A record without a job has fields too,
+// which may be forged.
+pub fn put_record(opened: bool, job: &Job, record: &mut [u64; RECORD_NUMBERS])
+    ensures flag { slice_index «record».new 0 ≡ flag_of opened }
+    ensures rest { drop 333 «record».new ≡ length_numbers job.now.lengths ++ count_numbers job.now.counts ++ cursor_numbers job.now.cursor }
+{
+    record[1..13].copy_from_slice(&head_numbers(&job.input).numbers);
+    put_parts(&job.input.model.parts, &mut record[13..333]);
+    record[333..].copy_from_slice(&tail_numbers(job).numbers);
+    record[0] = u64::from(opened);
+}
+
+// Writes parts, five numbers each, as far as there is room.
+fn put_parts(parts: &[ModelComponent], room: &mut [u64])
+    ensures { length room.new ≡ length room.old }
+{
+    for (component, five) in parts.iter().zip(room.chunks_exact_mut(5)) {
+        five.copy_from_slice(&cases::part_numbers(component.part));
+    }
+}
+
+// The numbers of a record with this flag.
 pub fn record_numbers(opened: bool, job: &Job) -> [u64; RECORD_NUMBERS] {
-    let opened: Written<RECORD_NUMBERS> = Written::new().flag(opened);
-    let input = put_input(opened, job.input);
-    let lengths = put_lengths(input, job.lengths);
-    let counts = put_counts(lengths, job.counts);
-    put_cursor(counts, job.cursor).whole()
+    let mut record = [0; RECORD_NUMBERS];
+    put_record(opened, job, &mut record);
+    record
 }
 
 // What a call answers: the refusal's number, the flag, the counts, whether the cursor is at the end, and
@@ -144,7 +168,9 @@ pub fn record_numbers(opened: bool, job: &Job) -> [u64; RECORD_NUMBERS] {
 pub fn call_answer<T: Copy>(done: Result<T, Cause>, opened: bool, job: &Job) -> Answer
     ensures { result.numbers.items ≡ call_numbers done opened job.now.counts job.now.cursor }
 {
-    let counted = put_counts(Answer::outcome(done).flag(opened), job.counts);
-    let ended = counted.flag(matches!(job.cursor, Cursor::End));
-    put_cursor(ended, job.cursor)
+    let mut answer = Answer::outcome(done).flag(opened);
+    answer.put_all(&count_numbers(job.counts));
+    answer.put(u64::from(matches!(job.cursor, Cursor::End)));
+    answer.put_all(&cursor_numbers(job.cursor));
+    answer
 }

@@ -46,17 +46,13 @@ impl List {
 
     // `lend KINDS NUMBERS PLACES STORE CORNERS SEED`: a new list, with a record that has no job and the
     // seed in every other field, and in every field of the parts.
-    fn lent(numbers: Numbers) -> List {
-        let slices = Lent::lent(numbers);
+    fn lend(&mut self, numbers: Numbers) {
         let seed = numbers.left.get(5).copied().unwrap_or(0);
-        let mut record = [seed; RECORD_NUMBERS];
-        record[0] = 0;
+        self.slices.lend(numbers);
+        self.record.fill(seed);
+        self.record[0] = 0;
         let part = Numbers::new(&[seed; 5]).part();
-        List {
-            record,
-            parts: [ModelComponent { part }; 64],
-            slices,
-        }
+        self.parts.fill(ModelComponent { part });
     }
 
     // `parts PLACE PART ..`: 31 parts of the next input from a place on. Those not given are constants
@@ -107,12 +103,12 @@ impl List {
             Some(job) => job,
             None => {
                 if done.is_ok() {
-                    self.record = [0; RECORD_NUMBERS];
+                    self.record.fill(0);
                 }
                 self.job()
             }
         };
-        self.record = sparse_cases::record_numbers(opened, &job);
+        sparse_cases::put_record(opened, &job, &mut self.record);
         sparse_cases::call_answer(done, opened, &job)
     }
 
@@ -153,7 +149,7 @@ impl List {
             Word::Drop => self.drop_job(),
             Word::Dump => return self.dump(rt, output),
             Word::Lend => {
-                *self = List::lent(numbers);
+                self.lend(numbers);
                 return Ok(());
             }
             Word::Parts => {

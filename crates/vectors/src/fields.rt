@@ -6,8 +6,7 @@ ghost use Rattle.vectors.specs.Digest.{with_bytes};
 use crate::digest::digest_with;
 use crate::numbers::hex16;
 use arrayvec::ArrayVec;
-use std::fmt::Write;
-use std::{fmt, io};
+use std::io;
 
 // The answer to a line that is no case: a number that no call gives.
 pub const OFF: u64 = 0xffff_ffff_ffff_ffff;
@@ -17,6 +16,9 @@ pub const MOST_NUMBERS: usize = 160;
 
 // How many bytes a number takes, with its space.
 const WIDTH: usize = 17;
+
+// The most bytes of a line of numbers alone.
+const LONGEST: usize = WIDTH * MOST_NUMBERS;
 
 // The numbers after a line's word, each a space and its digits, up to the line's byte 10. None where
 // the line is off its form.
@@ -45,45 +47,77 @@ fn field_number(field: &[u8]) -> Option<u64>
     hex16(field, 1)
 }
 
-// The numbers of an answer, with single spaces between.
-#[derive(Clone, Copy, Debug, PartialEq, Eq)]
-struct Numbers<'a>(&'a [u64]);
+// The digits of a number.
+const DIGITS: [u8; 16] = *b"0123456789abcdef";
 
-impl fmt::Display for Numbers<'_> {
-    fn fmt<W: fmt::Write>(&self, f: &mut fmt::Formatter<W>) -> fmt::Result {
-        for (place, n) in self.0.iter().enumerate() {
-            if place > 0 {
-                f.write_str(" ")?;
-            }
-            write!(f, "{n:016x}")?;
+// A number as a line has it: a space, and 16 digits.
+fn spaced(n: u64) -> [u8; WIDTH] {
+    let mut field = [b' '; WIDTH];
+    let mut rest = n;
+    for digit in field[1..].iter_mut().rev() {
+        *digit = DIGITS[(rest % 16) as usize];
+        rest /= 16;
+    }
+    field
+}
+
+// Where the text of a line's number begins in its field: the first one has no space.
+fn text_start(place: usize) -> usize
+    ensures { result ≤ 1 }
+{
+    if place == 0 { 1 } else { 0 }
+}
+
+// The bytes of a line that are not yet written to standard output.
+#[derive(Debug, Drop, PartialEq, Eq)]
+struct Unwritten {
+    bytes: ArrayVec<u8, LONGEST>,
+}
+
+impl Unwritten {
+    // More bytes of the line. Where the room is full, what stands in it is written first.
+    fn put(&mut self, rt: &impl Print, bytes: &[u8]) -> io::Result<()> {
+        if self.bytes.remaining_capacity() < bytes.len() {
+            rt.write_all(&self.bytes)?;
+            self.bytes.clear();
         }
+        let _ = self.bytes.try_extend_from_slice(bytes);
         Ok(())
     }
 }
 
-// Writes a line to standard output: the numbers of an answer.
+// Writes a line to standard output: the numbers of an answer, with single spaces between. A line of a
+// case's numbers is written by one call.
 pub fn write_numbers(rt: &impl Print, numbers: &[u64]) -> io::Result<()> {
-    let line = Numbers(numbers);
-    println!(rt; "{line}")
+    let mut line = Unwritten {
+        bytes: ArrayVec::new(),
+    };
+    for (place, n) in numbers.iter().enumerate() {
+        line.put(rt, &spaced(*n)[text_start(place)..])?;
+    }
+    line.put(rt, b"\n")?;
+    rt.write_all(&line.bytes)
 }
 
 // The digest of what was written.
 #[derive(Clone, Copy, Debug, PartialEq, Eq)]
 struct Digest(u64);
 
-impl fmt::Write for Digest {
-    ghost write_str_gives = { λ s bytes t. t.0 ≡ with_bytes s.0 bytes };
-
-    fn write_str(&mut self, s: &str) -> fmt::Result {
-        self.0 = digest_with(self.0, s.as_bytes());
-        Ok(())
+impl Digest {
+    // More bytes.
+    fn put(&mut self, bytes: &[u8])
+        ensures { self.new.0 ≡ with_bytes self.old.0 bytes.now }
+    {
+        self.0 = digest_with(self.0, bytes);
     }
 }
 
 // The digest of a text whose digest so far is known, and of the line that `write_numbers` would write.
 pub fn digest_numbers(digest: u64, numbers: &[u64]) -> u64 {
-    let line = Numbers(numbers);
     let mut sum = Digest(digest);
-    let _ = writeln!(sum, "{line}");
+    for (place, n) in numbers.iter().enumerate() {
+        sum.put(&spaced(*n)[text_start(place)..]);
+    }
+    sum.put(b"\n");
     sum.0
 }
