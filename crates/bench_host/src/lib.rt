@@ -15,8 +15,6 @@ mod cells; // cells.rt: the cells of a dense field
 mod floats; // floats.rt: floats, points and boxes
 mod nodes; // nodes.rt: the grid of a sparse field
 
-use geometry::Vec3;
-
 // The correctly rounded square root.
 #[unsafe(no_mangle)]
 pub extern "C" fn bench_sqrt(x: f64) -> f64
@@ -79,8 +77,7 @@ pub extern "C" fn bench_evaluate_row(
     model::evaluate_flat_row(words, numbers, count, px, py, pz, n, values);
 }
 
-// The values of a model at points, one after the other, as many as the shortest list has. The model is
-// made of flat arrays, once.
+// The values of the model of flat arrays at points, one after the other, as many as the shortest list has.
 #[unsafe(no_mangle)]
 pub extern "C" fn bench_values(
     words: &[u32; 192],
@@ -95,10 +92,17 @@ pub extern "C" fn bench_values(
         ≡ filled 0 (min (min (length px.now) (length py.now)) (min (length pz.now) (length results.old)))
         (value_at (model_given (flat_in words numbers) count) px.now py.now pz.now) results.old }
 {
-    let model = field_host::model_given(words, numbers, count);
     let mut values = [0.0; 64];
     let points = px.len().min(py.len()).min(pz.len().min(results.len()));
     for k in 0..points {
-        results[k] = model::evaluate_parts(&model, Vec3::new(px[k], py[k], pz[k]), &mut values);
+        results[k] = model::evaluate_flat(
+            words,
+            numbers,
+            count as usize,
+            px[k],
+            py[k],
+            pz[k],
+            &mut values,
+        );
     }
 }
