@@ -36,7 +36,7 @@ impl Numbers<'_> {
     }
 
     // As many parts as there are places for.
-    fn parts(&mut self, parts: &mut [ModelComponent])
+    pub fn parts(&mut self, parts: &mut [ModelComponent])
         ensures values { parts.new ≡ parts_at self.old.left.now (length parts.old) }
         ensures rest { self.new.left.now ≡ drop (5 * length parts.old) self.old.left.now }
     {

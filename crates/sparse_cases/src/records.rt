@@ -10,7 +10,7 @@ use cases::{Answer, Numbers, Written};
 use causes::Cause;
 use grid::GridCounts;
 use input::{Band, Input, Lengths};
-use model::{ImplicitModel, ModelComponent};
+use model::{ImplicitModel, ModelComponent, Part};
 use schedule::{Counts, Cursor, Job};
 
 // How many numbers a record is.
@@ -28,19 +28,6 @@ pub fn input_of(numbers: &mut Numbers, parts: [ModelComponent; 64]) -> Input {
             parts,
             count: numbers.short(),
         },
-    }
-}
-
-// The input of a record: GRID MIN MAX COUNT, and its parts.
-fn whole_input_of(numbers: &mut Numbers) -> Input {
-    let grid = numbers.grid();
-    let min = numbers.float();
-    let max = numbers.float();
-    let count = numbers.short();
-    Input {
-        grid,
-        band: Band { min, max },
-        model: numbers.model(64, count),
     }
 }
 
@@ -71,8 +58,20 @@ fn cursor_of(numbers: &mut Numbers) -> Cursor {
 
 // The job of a record, from the numbers after its flag.
 pub fn job_of(mut numbers: Numbers) -> Job {
+    let grid = numbers.grid();
+    let min = numbers.float();
+    let max = numbers.float();
+    let count = numbers.short();
+    let mut parts = [ModelComponent {
+        part: Part::Constant(0.0),
+    }; 64];
+    numbers.parts(&mut parts);
     Job {
-        input: whole_input_of(&mut numbers),
+        input: Input {
+            grid,
+            band: Band { min, max },
+            model: ImplicitModel { parts, count },
+        },
         lengths: numbers.lengths(),
         counts: counts_of(&mut numbers),
         cursor: cursor_of(&mut numbers),

@@ -95,21 +95,24 @@ impl List {
         }
     }
 
+    // Keeps a record with this flag, and answers the call that leaves it.
+    fn put(&mut self, done: Result<(), Cause>, opened: bool, job: &Job) -> Answer {
+        sparse_cases::put_record(opened, job, &mut self.record);
+        sparse_cases::call_answer(done, opened, job)
+    }
+
     // Keeps the record that a call leaves, and answers the call. Refused, it leaves the fields of a record
     // without a job as they are; a drop makes them 0.
-    fn keep(&mut self, done: Result<(), Cause>, left: Option<Job>) -> Answer {
-        let opened = left.is_some();
-        let job = match left {
-            Some(job) => job,
+    fn keep(&mut self, done: Result<(), Cause>, left: &Option<Job>) -> Answer {
+        match left {
+            Some(job) => self.put(done, true, job),
             None => {
                 if done.is_ok() {
                     self.record.fill(0);
                 }
-                self.job()
+                self.put(done, false, &self.job())
             }
-        };
-        sparse_cases::put_record(opened, &job, &mut self.record);
-        sparse_cases::call_answer(done, opened, &job)
+        }
     }
 
     // `open GRID MIN MAX COUNT`
@@ -117,7 +120,7 @@ impl List {
         let mut record = self.found();
         let input = sparse_cases::input_of(&mut numbers, self.parts);
         let done = sparse_field::open(&mut record, input, &mut lend(&mut self.slices));
-        self.keep(done, record)
+        self.keep(done, &record)
     }
 
     // `step BUDGET`
@@ -125,14 +128,14 @@ impl List {
         let mut record = self.found();
         let budget = numbers.number();
         let done = sparse_field::step(&mut record, budget, &mut lend(&mut self.slices));
-        self.keep(done, record)
+        self.keep(done, &record)
     }
 
     // `drop`
     fn drop_job(&mut self) -> Answer {
         let mut record = self.found();
         sparse_field::drop(&mut record, &mut lend(&mut self.slices));
-        self.keep(Ok(()), record)
+        self.keep(Ok(()), &record)
     }
 
     // Does what a word says.

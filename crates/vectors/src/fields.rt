@@ -68,35 +68,23 @@ fn text_start(place: usize) -> usize
     if place == 0 { 1 } else { 0 }
 }
 
-// The bytes of a line that are not yet written to standard output.
-#[derive(Debug, Drop, PartialEq, Eq)]
-struct Unwritten {
-    bytes: ArrayVec<u8, LONGEST>,
-}
-
-impl Unwritten {
-    // More bytes of the line. Where the room is full, what stands in it is written first.
-    fn put(&mut self, rt: &impl Print, bytes: &[u8]) -> io::Result<()> {
-        if self.bytes.remaining_capacity() < bytes.len() {
-            rt.write_all(&self.bytes)?;
-            self.bytes.clear();
-        }
-        let _ = self.bytes.try_extend_from_slice(bytes);
-        Ok(())
-    }
-}
-
 // Writes a line to standard output: the numbers of an answer, with single spaces between. A line of a
-// case's numbers is written by one call.
+// case's numbers is written by one call, and of a longer one what stands in the room where it is full.
 pub fn write_numbers(rt: &impl Print, numbers: &[u64]) -> io::Result<()> {
-    let mut line = Unwritten {
-        bytes: ArrayVec::new(),
-    };
+    let mut line: ArrayVec<u8, LONGEST> = ArrayVec::new();
     for (place, n) in numbers.iter().enumerate() {
-        line.put(rt, &spaced(*n)[text_start(place)..])?;
+        if line.remaining_capacity() < WIDTH {
+            rt.write_all(&line)?;
+            line.clear();
+        }
+        let _ = line.try_extend_from_slice(&spaced(*n)[text_start(place)..]);
     }
-    line.put(rt, b"\n")?;
-    rt.write_all(&line.bytes)
+    if line.is_full() {
+        rt.write_all(&line)?;
+        line.clear();
+    }
+    line.push(b'\n');
+    rt.write_all(&line)
 }
 
 // The digest of what was written.
