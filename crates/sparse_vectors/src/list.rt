@@ -16,6 +16,8 @@ pub struct List {
     // The record that calls hand on. Kept: as numbers, since a line may forge any of them, also to what
     // no record says.
     record: [u64; RECORD_NUMBERS],
+    // Whether the record stands as a call left it: no line set a number of it since.
+    settled: bool,
     // The parts of the next open.
     parts: [ModelComponent; 64],
     slices: Lent,
@@ -37,6 +39,7 @@ impl List {
     pub fn new() -> List {
         List {
             record: [0; RECORD_NUMBERS],
+            settled: true,
             parts: [ModelComponent {
                 part: Part::Constant(0.0),
             }; 64],
@@ -51,6 +54,7 @@ impl List {
         self.slices.lend(numbers);
         self.record.fill(seed);
         self.record[0] = 0;
+        self.settled = false;
         let part = Numbers::new(&[seed; 5]).part();
         self.parts.fill(ModelComponent { part });
     }
@@ -68,6 +72,7 @@ impl List {
     fn forge(&mut self, mut numbers: Numbers) {
         if let Some(n) = self.record.get_mut(numbers.place()) {
             *n = numbers.number();
+            self.settled = false;
         }
     }
 
@@ -95,22 +100,46 @@ impl List {
         }
     }
 
-    // Keeps a record with this flag, and answers the call that leaves it.
-    fn put(&mut self, done: Result<(), Cause>, opened: bool, job: &Job) -> Answer {
+    // Keeps a record with this flag.
+    fn put(&mut self, opened: bool, job: &Job) {
         sparse_cases::put_record(opened, job, &mut self.record);
-        sparse_cases::call_answer(done, opened, job)
+        self.settled = true;
+    }
+
+    // Keeps a record without a job, as a refused call leaves it. It is read and written anew only where a
+    // line set a number of it, to what no record says maybe.
+    fn settle(&mut self) {
+        if !self.settled {
+            let job = self.job();
+            self.put(false, &job);
+        }
+    }
+
+    // Answers a call that left no job, by the fields of the record: as `call_answer`, of numbers.
+    fn answer_without_job(&self, done: Result<(), Cause>) -> Answer {
+        let mut answer = Answer::outcome(done).flag(false);
+        answer.put_all(&self.record[338..343]);
+        answer.put(u64::from(self.record[343] == 0));
+        answer.put_all(&self.record[343..]);
+        answer
     }
 
     // Keeps the record that a call leaves, and answers the call. Refused, it leaves the fields of a record
     // without a job as they are; a drop makes them 0.
     fn keep(&mut self, done: Result<(), Cause>, left: &Option<Job>) -> Answer {
         match left {
-            Some(job) => self.put(done, true, job),
+            Some(job) => {
+                self.put(true, job);
+                sparse_cases::call_answer(done, true, job)
+            }
             None => {
                 if done.is_ok() {
                     self.record.fill(0);
+                    self.settled = true;
+                } else {
+                    self.settle();
                 }
-                self.put(done, false, &self.job())
+                self.answer_without_job(done)
             }
         }
     }
