@@ -107,7 +107,7 @@ impl List {
     }
 
     // Keeps a record without a job, as a refused call leaves it. It is read and written anew only where a
-    // line set a number of it, to what no record says maybe.
+    // line set a number of it, since that may be one that no record has.
     fn settle(&mut self) {
         if !self.settled {
             let job = self.job();

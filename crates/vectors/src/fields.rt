@@ -1,5 +1,5 @@
 // The numbers of a stored case, and those of its answer: at most 160 to a line, each 16 digits.
-ghost use Rattle.std.specs.Prelude.{◌≡◌, ◌+◌, ◌*◌, ◌≤◌, length, IfSome, OnSome};
+ghost use Rattle.std.specs.Prelude.{◌≡◌, ◌+◌, ◌*◌, ◌<◌, ◌≤◌, length, IfSome, OnSome};
 ghost use Rattle.arrayvec.specs.ArrayVec.{array_vec_len};
 ghost use Rattle.vectors.specs.Digest.{with_bytes};
 
@@ -19,6 +19,11 @@ const WIDTH: usize = 17;
 
 // The most bytes of a line of numbers alone.
 const LONGEST: usize = WIDTH * MOST_NUMBERS;
+
+// How many numbers a short line has at most, and its bytes.
+const FEW_NUMBERS: usize = 32;
+
+const SHORT: usize = WIDTH * FEW_NUMBERS;
 
 // The numbers after a line's word, each a space and its digits, up to the line's byte 10. None where
 // the line is off its form.
@@ -68,23 +73,40 @@ fn text_start(place: usize) -> usize
     if place == 0 { 1 } else { 0 }
 }
 
-// Writes a line to standard output: the numbers of an answer, with single spaces between. A line of a
-// case's numbers is written by one call, and of a longer one what stands in the room where it is full.
-pub fn write_numbers(rt: &impl Print, numbers: &[u64]) -> io::Result<()> {
-    let mut line: ArrayVec<u8, LONGEST> = ArrayVec::new();
+// Writes a line of numbers, with single spaces between, from an empty room that is lent: by one call, or where
+// the line is longer each time that the room is full.
+fn write_line<const N: usize>(
+    rt: &impl Print,
+    numbers: &[u64],
+    line: &mut ArrayVec<u8, N>,
+) -> io::Result<()>
+    requires { 0 < N }
+{
     for (place, n) in numbers.iter().enumerate() {
         if line.remaining_capacity() < WIDTH {
-            rt.write_all(&line)?;
+            rt.write_all(line)?;
             line.clear();
         }
         let _ = line.try_extend_from_slice(&spaced(*n)[text_start(place)..]);
     }
     if line.is_full() {
-        rt.write_all(&line)?;
+        rt.write_all(line)?;
         line.clear();
     }
     line.push(b'\n');
-    rt.write_all(&line)
+    rt.write_all(line)
+}
+
+// Writes a line to standard output: the numbers of an answer. A line of a case's numbers is written by one
+// call. A short line has a room of its own, since clearing the longest takes more than its digits.
+pub fn write_numbers(rt: &impl Print, numbers: &[u64]) -> io::Result<()> {
+    if numbers.len() <= FEW_NUMBERS {
+        let mut line: ArrayVec<u8, SHORT> = ArrayVec::new();
+        write_line(rt, numbers, &mut line)
+    } else {
+        let mut line: ArrayVec<u8, LONGEST> = ArrayVec::new();
+        write_line(rt, numbers, &mut line)
+    }
 }
 
 // The digest of what was written.
