@@ -76,8 +76,9 @@ fn around(x: f64) -> [f64; 64]
     row
 }
 
-// The model's value at a point, from lane 3 of a row of 5 points.
-pub fn row_value(model: &ImplicitModel, p: Vec3) -> f64
+// The model's value at a point, from lane 3 of a row of 5 points. The parts' values are lent room, since
+// clearing it takes longer than the row.
+pub fn row_value(model: &ImplicitModel, p: Vec3, values: &mut [f64; 4096]) -> f64
     ensures { result ≡ any_value model.now p.x p.y p.z }
 {
     let points = PointRow {
@@ -85,18 +86,16 @@ pub fn row_value(model: &ImplicitModel, p: Vec3) -> f64
         ys: around(p.y),
         zs: around(p.z),
     };
-    let mut values = [0.0; 4096];
     let mut results = [0.0; 64];
-    model::evaluate_row_into(model, &points, 5, &mut values, &mut results);
+    model::evaluate_row_into(model, &points, 5, values, &mut results);
     results[3]
 }
 
 // The same of the laid out model.
-pub fn flat_row_value(model: &ImplicitModel, p: Vec3) -> f64
+pub fn flat_row_value(model: &ImplicitModel, p: Vec3, values: &mut [f64; 4096]) -> f64
     ensures { result ≡ any_value model.now p.x p.y p.z }
 {
     let (words, numbers) = laid(model);
-    let mut values = [0.0; 4096];
     let mut results = [0.0; 64];
     model::evaluate_flat_row_into(
         &words,
@@ -106,7 +105,7 @@ pub fn flat_row_value(model: &ImplicitModel, p: Vec3) -> f64
         &around(p.y),
         &around(p.z),
         5,
-        &mut values,
+        values,
         &mut results,
     );
     results[3]

@@ -75,7 +75,8 @@ fn note_off(rt: &impl Print, line: usize, tally: &mut Tally<4>) -> io::Result<()
     Ok(())
 }
 
-// Compares each way of evaluating a case's model with the value that is stored. A row is right where the model's is, and
+// Compares each way of evaluating a case's model with the value that is stored. The parts' values in rows
+// are left in `values`. A row is right where the model's is, and
 // the laid out model's too.
 fn judge_value(
     rt: &impl Print,
@@ -83,6 +84,7 @@ fn judge_value(
     stored: u64,
     line: usize,
     tally: &mut Tally<4>,
+    values: &mut [f64; 4096],
 ) -> io::Result<()>
     ensures cases { tally.new.cases ≡ compared_value tally.old.cases }
     ensures wrong { tally.new.wrong ≡ value_wrong case.now stored tally.old.wrong }
@@ -92,8 +94,8 @@ fn judge_value(
     let point = case.point;
     let at_point = compare::point_right(model, point, stored);
     let flat = compare::same_bits(compare::flat_value(model, point), stored);
-    let row = compare::same_bits(compare::row_value(model, point), stored);
-    let flat_row = compare::same_bits(compare::flat_row_value(model, point), stored);
+    let row = compare::same_bits(compare::row_value(model, point, values), stored);
+    let flat_row = compare::same_bits(compare::flat_row_value(model, point, values), stored);
     let first = note(rt, Comparison::Points, at_point, line, tally);
     let second = note(rt, Comparison::Flat, flat, line, tally);
     let third = note(rt, Comparison::Rows, row && flat_row, line, tally);
@@ -117,6 +119,7 @@ fn judge_line(
     said: Option<Line>,
     line: usize,
     tally: &mut Tally<4>,
+    values: &mut [f64; 4096],
 ) -> io::Result<()>
     ensures cases { tally.new.cases ≡ cases_after said tally.old.cases }
     ensures wrong { tally.new.wrong ≡ wrong_after said case.now tally.old.wrong }
@@ -124,7 +127,7 @@ fn judge_line(
 {
     match said {
         Some(Line::Point(_) | Line::Component(_)) => Ok(()),
-        Some(Line::Value(stored)) => judge_value(rt, case, stored, line, tally),
+        Some(Line::Value(stored)) => judge_value(rt, case, stored, line, tally, values),
         Some(Line::Refused) => judge_refusal(rt, case, line, tally),
         None => note_off(rt, line, tally),
     }
@@ -143,10 +146,19 @@ fn case_after(case: Case, said: Option<Line>) -> Case
 
 fn take_lines(rt: &impl Print, text: &[u8]) -> io::Result<()> {
     let mut tally = Tally::new();
+    // Room for the parts' values in rows, for all cases.
+    let mut values = [0.0; 4096];
     let mut case = case::start(geometry::Vec3::new(0.0, 0.0, 0.0));
     for (place, line) in Lines::new(text).enumerate() {
         let said = line::read(line);
-        judge_line(rt, &case, said, place.wrapping_add(1), &mut tally)?;
+        judge_line(
+            rt,
+            &case,
+            said,
+            place.wrapping_add(1),
+            &mut tally,
+            &mut values,
+        )?;
         case = case_after(case, said);
     }
     tally.report(rt, &NAMES)
