@@ -56,6 +56,14 @@ impl<const N: usize> Written<N> {
         }
     }
 
+    // The same of a point.
+    pub fn put_vector(&mut self, p: Vec3)
+        requires { array_vec_len self.old.numbers + 3 ≤ N }
+        ensures { self.new.numbers.items ≡ self.old.numbers.items ++ vector_bits p }
+    {
+        self.put_floats(&[p.x, p.y, p.z]);
+    }
+
     // One number more.
     pub fn number(mut self, n: u64) -> Self
         requires { array_vec_len self.numbers + 1 ≤ N }
@@ -106,11 +114,12 @@ impl<const N: usize> Written<N> {
         self
     }
 
-    pub fn vector(self, p: Vec3) -> Self
+    pub fn vector(mut self, p: Vec3) -> Self
         requires { array_vec_len self.numbers + 3 ≤ N }
         ensures { result.numbers.items ≡ self.entry.numbers.items ++ vector_bits p }
     {
-        self.floats(&[p.x, p.y, p.z])
+        self.put_vector(p);
+        self
     }
 
     // The indices or the counts along the axes.

@@ -1,5 +1,5 @@
 // A line of a list of cases, taken apart, and the line that answers it.
-ghost use Rattle.std.specs.Prelude.{◌≡◌, ◌+◌, ◌*◌, IfSome, length, take};
+ghost use Rattle.std.specs.Prelude.{◌≡◌, ◌+◌, ◌*◌, [], IfSome, length, take};
 ghost use Rattle.arrayvec.specs.ArrayVec.{array_vec_len};
 
 use crate::answer::Answer;
@@ -14,14 +14,38 @@ pub struct Line<'a> {
     pub numbers: ArrayVec<u64, MOST_NUMBERS>,
 }
 
+impl<'a> Line<'a> {
+    // A room for lines, which are read one after the other.
+    pub fn new() -> Self
+        ensures word { result.word.now ≡ [] }
+        ensures numbers { result.numbers.items ≡ [] }
+    {
+        Line {
+            word: &[],
+            numbers: ArrayVec::new(),
+        }
+    }
+
+    // Reads a line's word and its numbers, over those of the line before, where it has the form of a case.
+    pub fn read(&mut self, line: &'a [u8]) -> Option<()>
+        ensures word { IfSome result (λ _. self.new.word.now ≡ take (length self.new.word.now) line.entry.now) }
+        ensures whole { IfSome result (λ _. length line.entry.now ≡ length self.new.word.now + 17 * array_vec_len self.new.numbers + 1) }
+    {
+        let (word, rest) = line.split_at(vectors::word_end(line));
+        vectors::read_numbers_into(rest, &mut self.numbers)?;
+        self.word = word;
+        Some(())
+    }
+}
+
 // A line's word and its numbers, where it has the form of a case.
 pub fn read_line(line: &[u8]) -> Option<Line<'_>>
     ensures word { IfSome result (λ found. found.word.now ≡ take (length found.word.now) line.now) }
     ensures whole { IfSome result (λ found. length line.now ≡ length found.word.now + 17 * array_vec_len found.numbers + 1) }
 {
-    let (word, rest) = line.split_at(vectors::word_end(line));
-    let numbers = vectors::read_numbers(rest)?;
-    Some(Line { word, numbers })
+    let mut found = Line::new();
+    found.read(line)?;
+    Some(found)
 }
 
 // Writes the answer to a line. A line that is no case is answered by one number.

@@ -16,7 +16,7 @@ pub fn corners(mut numbers: Numbers) -> Answer
     let found = dense_field::cell_corners(origin, cell, n, c);
     let mut answer = Answer::outcome(found);
     for p in found.unwrap_or([Vec3::new(0.0, 0.0, 0.0); 8]) {
-        answer = answer.vector(p);
+        answer.put_vector(p);
     }
     answer
 }

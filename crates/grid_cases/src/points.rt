@@ -40,7 +40,7 @@ fn row_answer(row: &PointRow, count: usize) -> Answer
 {
     let mut answer = Answer::accepted();
     for q in 0..count {
-        answer = answer.vector(row.get(q));
+        answer.put_vector(row.get(q));
     }
     answer
 }

@@ -11,19 +11,26 @@ use sparse_cases::{Output, Word};
 use std::io;
 use vectors::{Lines, OFF};
 
-// A line's word and its numbers, where so many may follow the word.
-fn read(text: &[u8]) -> Option<(Word, Line<'_>)> {
-    let line = cases::read_line(text)?;
+// A line's word, where so many numbers as it has may follow the word. The line is read into a room that is
+// lent.
+fn read<'a>(text: &'a [u8], line: &mut Line<'a>) -> Option<Word> {
+    line.read(text)?;
     let word = Word::named(line.word)?;
     if !word.takes(line.numbers.len()) {
         return None;
     }
-    Some((word, line))
+    Some(word)
 }
 
-fn take_line(rt: &impl Print, text: &[u8], list: &mut List, output: &mut Output) -> io::Result<()> {
-    match read(text) {
-        Some((word, line)) => list.take(rt, word, Numbers::new(&line.numbers), output),
+fn take_line<'a>(
+    rt: &impl Print,
+    text: &'a [u8],
+    line: &mut Line<'a>,
+    list: &mut List,
+    output: &mut Output,
+) -> io::Result<()> {
+    match read(text, line) {
+        Some(word) => list.take(rt, word, Numbers::new(&line.numbers), output),
         None => output.take(rt, &[OFF]),
     }
 }
@@ -32,11 +39,12 @@ fn take_line(rt: &impl Print, text: &[u8], list: &mut List, output: &mut Output)
 fn take_lines(rt: &impl Print, text: &[u8]) -> io::Result<()> {
     let mut list = List::new();
     let mut output = Output::new();
+    let mut room = Line::new();
     for (place, line) in Lines::new(text).enumerate() {
         if place > 0 && line.starts_with(b"lend ") {
             output.close(rt)?;
         }
-        take_line(rt, line, &mut list, &mut output)?;
+        take_line(rt, line, &mut room, &mut list, &mut output)?;
     }
     if text.is_empty() {
         return Ok(());

@@ -31,15 +31,25 @@ pub fn read_numbers(rest: &[u8]) -> Option<ArrayVec<u64, MOST_NUMBERS>>
     ensures few { IfSome result (λ numbers. array_vec_len numbers ≤ 160) }
     ensures whole { IfSome result (λ numbers. length rest.now ≡ 17 * array_vec_len numbers + 1) }
 {
+    let mut numbers = ArrayVec::new();
+    read_numbers_into(rest, &mut numbers)?;
+    Some(numbers)
+}
+
+// The same into a room that is lent, over what it holds: where many lines are read, no line moves it.
+pub fn read_numbers_into(rest: &[u8], numbers: &mut ArrayVec<u64, MOST_NUMBERS>) -> Option<()>
+    ensures few { IfSome result (λ _. array_vec_len numbers.new ≤ 160) }
+    ensures whole { IfSome result (λ _. length rest.now ≡ 17 * array_vec_len numbers.new + 1) }
+{
+    numbers.clear();
     let fields = rest.strip_suffix(b"\n")?;
     if fields.len() > WIDTH * MOST_NUMBERS {
         return None;
     }
-    let mut numbers = ArrayVec::new();
     for field in fields.chunks(WIDTH) {
         numbers.push(field_number(field)?);
     }
-    Some(numbers)
+    Some(())
 }
 
 // The number of a field, which has a space before its digits.

@@ -12,7 +12,9 @@ mod words; // words.rt: the word that begins a line
 
 pub use digest::{digest_start, digest_with};
 pub use digits::hex_digit;
-pub use fields::{MOST_NUMBERS, OFF, digest_numbers, read_numbers, write_numbers};
+pub use fields::{
+    MOST_NUMBERS, OFF, digest_numbers, read_numbers, read_numbers_into, write_numbers,
+};
 pub use lines::{Lines, line_end};
 pub use numbers::{decimal_number, hex16, three_numbers};
 pub use tally::{SHOWN, Tally, total};

@@ -1,7 +1,7 @@
 -- Each number so far took 17 bytes of the fields.
 use Rattle.std.proofs.Common.{◌≡◌, ◌+◌, ◌*◌, length}
 use Rattle.arrayvec.specs.ArrayVec.{array_vec_len}
-use Rattle.vectors.proofs.fields.read_numbers.Given as goal
+use Rattle.vectors.proofs.fields.read_numbers_into.Given as goal
 
 abbrev pub invariant-loop-field : goal.invariant-loop-field
 invariant-loop-field l = record {
