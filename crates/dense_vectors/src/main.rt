@@ -9,7 +9,7 @@ mod sampling; // sampling.rt: a model, sampled
 mod values; // values.rt: calls that change values
 mod words; // words.rt: the words of the cases
 
-use cases::{Answer, Numbers};
+use cases::{Answer, Line, Numbers};
 use std::io;
 use vectors::Lines;
 use words::Word;
@@ -34,11 +34,11 @@ fn answer(word: Word, numbers: Numbers) -> Answer
     }
 }
 
-// The answer to a line, where it is a case.
-fn answer_to(text: &[u8]) -> Option<Answer>
+// The answer to a line, where it is a case. The line is read into a room that is lent.
+fn answer_to<'a>(text: &'a [u8], line: &mut Line<'a>) -> Option<Answer>
     ensures { IfSome result Given }
 {
-    let line = cases::read_line(text)?;
+    line.read(text)?;
     let word = Word::named(line.word)?;
     Some(answer(word, Numbers::new(&line.numbers)))
 }
@@ -53,8 +53,9 @@ fn room() -> [u8; 655360] {
 fn main(rt: HostRuntime) -> io::Result<()> {
     let mut text = room();
     let n = streams::read_text(&mut rt.stdin(), &mut text)?;
+    let mut room = Line::new();
     for line in Lines::new(&text[..n]) {
-        cases::write_answer(&rt, answer_to(line))?;
+        cases::write_answer(&rt, answer_to(line, &mut room))?;
     }
     Ok(())
 }
