@@ -26,7 +26,8 @@ impl<'a> Line<'a> {
         }
     }
 
-    // Reads a line's word and its numbers, over those of the line before, where it has the form of a case.
+    // Reads a line over the one before: its word and its numbers. None where it has not the form of a case;
+    // what stands in the room then is no line's.
     pub fn read(&mut self, line: &'a [u8]) -> Option<()>
         ensures word { IfSome result (λ _. self.new.word.now ≡ take (length self.new.word.now) line.entry.now) }
         ensures whole { IfSome result (λ _. length line.entry.now ≡ length self.new.word.now + 17 * array_vec_len self.new.numbers + 1) }

@@ -53,9 +53,9 @@ fn room() -> [u8; 655360] {
 fn main(rt: HostRuntime) -> io::Result<()> {
     let mut text = room();
     let n = streams::read_text(&mut rt.stdin(), &mut text)?;
-    let mut room = Line::new();
+    let mut found = Line::new();
     for line in Lines::new(&text[..n]) {
-        cases::write_answer(&rt, answer_to(line, &mut room))?;
+        cases::write_answer(&rt, answer_to(line, &mut found))?;
     }
     Ok(())
 }

@@ -10,5 +10,7 @@ mod words; // words.rt: the words of the lines
 
 pub use lent::Slices;
 pub use output::Output;
-pub use records::{RECORD_NUMBERS, call_answer, input_of, job_of, put_record, record_numbers};
+pub use records::{
+    RECORD_NUMBERS, call_answer, input_of, job_of, put_record, record_numbers, settle_record,
+};
 pub use words::Word;

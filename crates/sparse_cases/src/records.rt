@@ -1,14 +1,14 @@
 // Records and inputs, from and to numbers. A record is its flag and its job: the input, the lengths, the
 // counts and the cursor (a kind and three numbers). An input is GRID MIN MAX COUNT, 12 numbers, and five numbers
 // for each of 64 parts.
-ghost use Rattle.std.specs.Prelude.{◌≡◌, ◌++◌, drop, length, slice_index};
+ghost use Rattle.std.specs.Prelude.{◌≡◌, ◌++◌, drop, length, slice_index, take};
 ghost use Rattle.arrayvec.specs.ArrayVec.{array_vec_len};
 ghost use Rattle.cases.specs.Answer.{flag_of};
 ghost use Rattle.sparse_cases.specs.Calls.{call_numbers, count_numbers, cursor_numbers, length_numbers};
 
 use cases::{Answer, Numbers, Written};
 use causes::Cause;
-use grid::GridCounts;
+use grid::{Grid, GridCounts};
 use input::{Band, Input, Lengths};
 use model::{ImplicitModel, ModelComponent, Part};
 use schedule::{Counts, Cursor, Job};
@@ -114,14 +114,14 @@ fn cursor_numbers(cursor: Cursor) -> [u64; 4]
 }
 
 // The numbers of an input before its parts: its grid, its band, its count of parts.
-fn head_numbers(input: &Input) -> Written<12>
+fn head_numbers(grid: Grid, band: Band, count: u32) -> Written<12>
     ensures { array_vec_len result.numbers ≡ 12 }
 {
     Written::new()
-        .grid(input.grid)
-        .float(input.band.min)
-        .float(input.band.max)
-        .number(u64::from(input.model.count))
+        .grid(grid)
+        .float(band.min)
+        .float(band.max)
+        .number(u64::from(count))
 }
 
 // The numbers of a record after its input: its lengths, its counts, its cursor.
@@ -140,7 +140,8 @@ pub fn put_record(opened: bool, job: &Job, record: &mut [u64; RECORD_NUMBERS])
     ensures flag { slice_index «record».new 0 ≡ flag_of opened }
     ensures rest { drop 333 «record».new ≡ length_numbers job.now.lengths ++ count_numbers job.now.counts ++ cursor_numbers job.now.cursor }
 {
-    record[1..13].copy_from_slice(&head_numbers(&job.input).numbers);
+    let input = &job.input;
+    record[1..13].copy_from_slice(&head_numbers(input.grid, input.band, input.model.count).numbers);
     put_parts(&job.input.model.parts, &mut record[13..333]);
     record[333..].copy_from_slice(&tail_numbers(job).numbers);
     record[0] = u64::from(opened);
@@ -153,6 +154,42 @@ fn put_parts(parts: &[ModelComponent], room: &mut [u64])
     for (component, five) in parts.iter().zip(room.chunks_exact_mut(5)) {
         five.copy_from_slice(&cases::part_numbers(component.part));
     }
+}
+
+// The head of an input, read and written anew.
+fn settle_head(head: &mut [u64])
+    requires { length head.old ≡ 12 }
+    ensures { length head.new ≡ 12 }
+{
+    let mut numbers = Numbers::new(head);
+    let grid = numbers.grid();
+    let min = numbers.float();
+    let max = numbers.float();
+    let count = numbers.short();
+    head.copy_from_slice(&head_numbers(grid, Band { min, max }, count).numbers);
+}
+
+// Parts, read and written anew.
+fn settle_parts(parts: &mut [u64])
+    ensures { length parts.new ≡ length parts.old }
+{
+    for five in parts.chunks_exact_mut(5) {
+        let part = Numbers::new(five).part();
+        five.copy_from_slice(&cases::part_numbers(part));
+    }
+}
+
+// Reads a record's numbers and writes them anew, without a job: what `put_record` writes of `job_of`, in
+// place. A line may have forged numbers that no record has.
+pub fn settle_record(record: &mut [u64; RECORD_NUMBERS])
+    ensures flag { slice_index «record».new 0 ≡ 0 }
+    ensures counts { take 10 (drop 333 «record».new) ≡ take 10 (drop 333 «record».old) }
+{
+    settle_head(&mut record[1..13]);
+    settle_parts(&mut record[13..333]);
+    let cursor = cursor_of(&mut Numbers::new(&record[343..]));
+    record[343..].copy_from_slice(&cursor_numbers(cursor));
+    record[0] = 0;
 }
 
 // The numbers of a record with this flag.

@@ -11,6 +11,9 @@ const MOST_PARTS: usize = 31;
 
 const LAST_PLACE: usize = 33;
 
+// How many numbers a part has.
+const PART_NUMBERS: usize = 5;
+
 #[derive(Debug, Drop, PartialEq)]
 pub struct List {
     // The record that calls hand on. Kept: as numbers, since a line may forge any of them, also to what
@@ -63,9 +66,13 @@ impl List {
     // of 0.
     fn set_parts(&mut self, mut numbers: Numbers) {
         let place = numbers.place().min(LAST_PLACE);
-        for component in self.parts.iter_mut().skip(place).take(MOST_PARTS) {
-            component.part = numbers.part();
-        }
+        let given = numbers.left.len().div_ceil(PART_NUMBERS).min(MOST_PARTS);
+        let parts = &mut self.parts[place..place + MOST_PARTS];
+        let (read, rest) = parts.split_at_mut(given);
+        numbers.parts(read);
+        rest.fill(ModelComponent {
+            part: Part::Constant(0.0),
+        });
     }
 
     // `forge FIELD VALUE`: one number of the record.
@@ -86,32 +93,21 @@ impl List {
         self.slices.dump(rt, output)
     }
 
-    // The job in the record's numbers, whatever its flag says.
-    fn job(&self) -> Job {
-        sparse_cases::job_of(Numbers::new(&self.record[1..]))
-    }
-
     // The record that a call takes.
     fn found(&self) -> Option<Job> {
         if self.record[0] != 0 {
-            Some(self.job())
+            Some(sparse_cases::job_of(Numbers::new(&self.record[1..])))
         } else {
             None
         }
-    }
-
-    // Keeps a record with this flag.
-    fn put(&mut self, opened: bool, job: &Job) {
-        sparse_cases::put_record(opened, job, &mut self.record);
-        self.settled = true;
     }
 
     // Keeps a record without a job, as a refused call leaves it. It is read and written anew only where a
     // line set a number of it, since that may be one that no record has.
     fn settle(&mut self) {
         if !self.settled {
-            let job = self.job();
-            self.put(false, &job);
+            sparse_cases::settle_record(&mut self.record);
+            self.settled = true;
         }
     }
 
@@ -129,7 +125,8 @@ impl List {
     fn keep(&mut self, done: Result<(), Cause>, left: &Option<Job>) -> Answer {
         match left {
             Some(job) => {
-                self.put(true, job);
+                sparse_cases::put_record(true, job, &mut self.record);
+                self.settled = true;
                 sparse_cases::call_answer(done, true, job)
             }
             None => {

@@ -39,12 +39,12 @@ fn take_line<'a>(
 fn take_lines(rt: &impl Print, text: &[u8]) -> io::Result<()> {
     let mut list = List::new();
     let mut output = Output::new();
-    let mut room = Line::new();
+    let mut found = Line::new();
     for (place, line) in Lines::new(text).enumerate() {
         if place > 0 && line.starts_with(b"lend ") {
             output.close(rt)?;
         }
-        take_line(rt, line, &mut room, &mut list, &mut output)?;
+        take_line(rt, line, &mut found, &mut list, &mut output)?;
     }
     if text.is_empty() {
         return Ok(());

@@ -27,6 +27,7 @@ const SHORT: usize = WIDTH * FEW_NUMBERS;
 
 // The numbers after a line's word, each a space and its digits, up to the line's byte 10. None where
 // the line is off its form.
+// Kept: for a line by itself. The programs read many lines, each into the room of the one before.
 pub fn read_numbers(rest: &[u8]) -> Option<ArrayVec<u64, MOST_NUMBERS>>
     ensures few { IfSome result (λ numbers. array_vec_len numbers ≤ 160) }
     ensures whole { IfSome result (λ numbers. length rest.now ≡ 17 * array_vec_len numbers + 1) }
