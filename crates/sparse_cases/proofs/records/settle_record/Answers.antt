@@ -10,7 +10,7 @@ returns-clause-counts c =
     let head = put_mid 1 12 c.args.record.now c.settle_head.new.head in
     let parts = put_mid 13 320 head c.settle_parts.new.parts in
     let all = put_mid 343 4 parts c.copy_from_slice.new.self in
-    ap (λ l. take 10 l) (drop-set-lt 333 all 0 0 (omega arith)) ∙ sym (drop-take 333 10 all)
+    ap (λ l. take 10 l) (drop-set-lt 333 all 0 _ (omega arith)) ∙ sym (drop-take 333 10 all)
     ∙ ap (λ l. drop 333 l) (take-put_mid_below 343 4 parts c.copy_from_slice.new.self 343 (search rules) (search rules))
     ∙ drop-take 333 10 parts
     ∙ ap (λ l. take 10 l) (drop-put_mid 13 320 head c.settle_parts.new.parts 333 (search rules) (search rules) (search rules))
